@@ -1,0 +1,8 @@
+pub mod Sums
+pub mod Division
+pub mod Digits
+pub mod Laws
+pub mod Every
+pub mod Theorems
+pub mod Ends
+pub mod Sealed

@@ -1,0 +1,4 @@
+pub mod Poly
+pub mod Check
+pub mod Table
+pub mod Sealed

@@ -1,0 +1,65 @@
+-- The words of the float leaves' contracts, over the values of `lib.Ieee`; each operation is rounded once. Definitions only.
+use Prim.Native.Nat.{ℕ, zero, suc, _+_, _*_, _/_, min}
+use lib.IntN.{pos}
+use lib.Dec.{eqb}
+use mathlib.Core.List.{List}
+use mathlib.Core.Bool.{false, cond}
+use lib.ListN.{getD}
+use lib.Ieee.{Float, nan, inf, fin, binary32, up, down, lt, add, div, ofInt}
+use Rattle.floats.specs.declared.Average.{Average}
+
+-- 0.0 and 1.0
+abbrev pub zeroF : Float
+zeroF = fin false 0 (pos 0)
+
+abbrev pub oneF : Float
+oneF = fin false 1 (pos 0)
+
+-- |x|: Rust's `abs`
+unfoldable pub absF : Float → Float
+absF nan = nan
+absF (inf s) = inf false
+absF (fin s m e) = fin false m e
+
+-- x held within low and high: Rust's `clamp`
+unfoldable pub heldF : Float → Float → Float → Float
+heldF low high x = cond (lt x low) low (cond (lt high x) high x)
+
+-- the whole part of |x|, or c where it is above c
+unfoldable pub cutTo : ℕ → Float → ℕ
+cutTo c nan = 0
+cutTo c (inf s) = c
+cutTo c (fin s m e) = min (m * up e / down e) c
+
+-- the larger and the smaller of two values; the first where neither is below the other
+unfoldable pub maxF : Float → Float → Float
+maxF a b = cond (lt a b) b a
+
+unfoldable pub minF : Float → Float → Float
+minF a b = cond (lt b a) b a
+
+-- n values of xs, `stride` apart from `at` on, taken into s one after the other
+unfoldable pub folded : (Float → Float → Float) → List Float → ℕ → ℕ → ℕ → Float → Float
+folded op xs at stride zero s = s
+folded op xs at stride (suc n) s = folded op xs (at + stride) stride n (op s (getD xs at nan))
+
+-- the sum with one magnitude more, and the larger of s and a magnitude
+abbrev pub addAbs : Float → Float → Float
+addAbs s x = add binary32 s (absF x)
+
+abbrev pub maxAbs : Float → Float → Float
+maxAbs s x = maxF s (absF x)
+
+-- a sum over its count, 0.0 where the count is 0
+unfoldable pub meanF : Float → ℕ → Float
+meanF s n = cond (eqb n 0) zeroF (div binary32 s (ofInt binary32 (pos n)))
+
+-- a running average: of no values, with the magnitudes of eight more, and its value
+unfoldable pub noAverage : Average
+noAverage = record { sum = zeroF; count = 0 }
+
+unfoldable pub withEight : List Float → ℕ → ℕ → Average → Average
+withEight xs at stride a = record { sum = folded addAbs xs at stride 8 (a .sum); count = a .count + 8 }
+
+unfoldable pub mean : Average → Float
+mean a = meanF (a .sum) (a .count)

@@ -1,0 +1,79 @@
+-- A layout's test and its facts say the same, and the counts are small. Assumes nothing.
+use mathlib.Core.Path.{_≡_, refl}
+use mathlib.Core.Bool.{Bool, true, false, cond, _&&_}
+use Prim.Native.Nat.{ℕ, _+_, _-_, _*_, _/_, _≤_, _<_}
+use native.Mathlib.Nat.{div-lt-iff-lt-mul}
+use native.Mathlib.Omega.{arith}
+use borrow.Author.Tests.{le-leb, leb-true, eqb-false, ne-eqb}
+use lib.Dec.{leb, eqb}
+use Rattle.buffers.proofs.Tests.{and-fst, and-snd, not-true-false}
+use Rattle.rules.specs.Layout.{legalLayout, Sizes, frameSize, kindAt, isSecondary, startBand, hfrBands, ceilDiv, bandsPerGroup, groupCount, codedAt, sidesAt}
+use Rattle.rules.specs.declared.Layout.{Layout}
+
+pub legal-true : (l : Layout) → Sizes l → legalLayout l ≡ true
+unfolding legalLayout
+legal-true l h =
+    rw (
+      le-leb _ _ (h .some),
+      le-leb _ _ (h .few),
+      le-leb _ _ (h .band),
+      le-leb _ _ (h .bands),
+      le-leb _ _ (h .start),
+      le-leb _ _ (h .small),
+      le-leb _ _ (h .large),
+    )
+
+pub legal-sizes : (l : Layout) → legalLayout l ≡ true → Sizes l
+unfolding legalLayout
+legal-sizes l e₁ =
+    let e₂ = and-snd (leb 1 (l .channels)) _ e₁ in
+    let e₃ = and-snd (leb (l .channels) 16) _ e₂ in
+    let e₄ = and-snd (leb 1 (l .total)) _ e₃ in
+    let e₅ = and-snd (leb (l .total) 128) _ e₄ in
+    let e₆ = and-snd (leb (startBand l) (l .total)) _ e₅ in
+    record {
+      some = leb-true _ _ (and-fst (leb 1 (l .channels)) _ e₁);
+      few = leb-true _ _ (and-fst (leb (l .channels) 16) _ e₂);
+      band = leb-true _ _ (and-fst (leb 1 (l .total)) _ e₃);
+      bands = leb-true _ _ (and-fst (leb (l .total) 128) _ e₄);
+      start = leb-true _ _ (and-fst (leb (startBand l) (l .total)) _ e₅);
+      small = leb-true _ _ (and-fst (leb 8 (frameSize l)) _ e₆);
+      large = leb-true _ _ (and-snd (leb 8 (frameSize l)) _ e₆);
+    }
+
+pub legal-false : (l : Layout) → (Sizes l → ⊥) → legalLayout l ≡ false
+legal-false l h = not-true-false (legalLayout l) (λ e. h (legal-sizes l e))
+
+cond-le : {a b n : ℕ} (t : Bool) → a ≤ n → b ≤ n → cond t a b ≤ n
+cond-le true p q = p
+cond-le false p q = q
+
+-- a coded count is at most N
+pub coded-le : (l : Layout) (c : ℕ) → codedAt l c ≤ startBand l
+unfolding codedAt
+coded-le l c = cond-le (isSecondary (kindAt l c)) (omega arith) (omega arith)
+
+-- at most eight groups
+few-groups : (h g : ℕ) (t : Bool) → h ≤ 8 * g → eqb g 0 ≡ t → cond t 0 ((h + (g - 1)) / g) ≤ 8
+few-groups h g true p e = omega arith
+few-groups h g false p e =
+    let q : g ≡ 0 → ⊥ = eqb-false g 0 e in
+    let z : 0 < g = omega arith in
+    let r : (h + (g - 1)) / g < 9 = div-lt-iff-lt-mul z .1 (omega arith) in
+    omega arith
+
+pub groups-le : (l : Layout) → groupCount l ≤ 8
+unfolding groupCount bandsPerGroup ceilDiv
+groups-le l = few-groups (hfrBands l) ((hfrBands l + 7) / 8) _ (omega arith) refl
+
+-- as the code counts them
+pub groups-are : (l : Layout) (g n : ℕ) → g ≡ bandsPerGroup l → n ≡ startBand l → (g ≡ 0 → ⊥)
+    → ((l .total - n + (g - 1)) / g ≡ groupCount l) × ((l .total - n + (g - 1)) / g ≤ 8)
+unfolding groupCount ceilDiv
+groups-are l g n p q h =
+    let is : (l .total - n + (g - 1)) / g ≡ groupCount l = rw (q, ← p, ne-eqb g 0 h) in
+    (is, rw is (groups-le l))
+
+pub sides-le : (l : Layout) (c : ℕ) → sidesAt l c ≤ 8
+unfolding sidesAt
+sides-le l c = cond-le (isSecondary (kindAt l c)) (omega arith) (groups-le l)

@@ -1,0 +1,113 @@
+-- Readers of a list of bits, and what it means that a reader and a writer fit each other.
+-- A reader takes the bits that are left. It answers a value with the bits after it, or a refusal: the number of document 01, and how many bits
+-- were left at the bit that the refusal names.
+use mathlib.Core.Path.{_≡_}
+use mathlib.Core.List.{List, [], _∷_, _++_}
+use mathlib.Core.Bool.{Bool, true, false, cond}
+use mathlib.Core.Option.{Option, none, some}
+use Prim.Native.Nat.{ℕ}
+use lib.ListN.{length, take, drop, replicate}
+use lib.Dec.{leb}
+use Rattle.bits.specs.Bits.{value}
+
+pub data Read (A : Type 0) : Type 0 where
+  ok : A → List Bool → Read A
+  bad : ℕ → ℕ → Read A
+
+abbrev pub Reader : Type 0 → Type 0
+Reader A = List Bool → Read A
+
+abbrev pub pure : {A : Type 0} → A → Reader A
+pure a s = ok a s
+
+abbrev pub andThen : {A B : Type 0} → Read B → (B → Reader A) → Read A
+andThen (ok b t) f = f b t
+andThen (bad n l) f = bad n l
+
+infixr 20 _>>=_
+abbrev pub _>>=_ : {A B : Type 0} → Reader B → (B → Reader A) → Reader A
+_>>=_ p f s = andThen (p s) f
+
+-- the bits left here are what a refusal further down names
+abbrev pub here : {A : Type 0} → (ℕ → Reader A) → Reader A
+here f s = f (length s) s
+
+-- refusal n at the bit with l left, unless the value passes the test
+abbrev pub keep : {A : Type 0} → ℕ → ℕ → Bool → A → Reader A
+keep n l true a = pure a
+keep n l false a = λ s. bad n l
+
+abbrev pub check : {A : Type 0} → ℕ → ℕ → (A → Bool) → Reader A → Reader A
+check n l test p = p >>= λ a. keep n l (test a) a
+
+-- several fields that count as one: any refusal in them names the first bit
+abbrev pub from : {A : Type 0} → ℕ → Read A → Read A
+from l (ok a t) = ok a t
+from l (bad n k) = bad n l
+
+abbrev pub whole : {A : Type 0} → Reader A → Reader A
+whole p s = from (length s) (p s)
+
+-- one after the other; the second may depend on the first
+infixr 60 _⊗_
+abbrev pub _⊗_ : {A B : Type 0} → Reader A → (A → Reader B) → Reader (A × B)
+_⊗_ p f = p >>= λ a. f a >>= λ b. pure (a, b)
+
+-- a value for each x of a list, where each step may depend on a state that the value before it moved on
+abbrev pub walk : {S X A : Type 0} → (S → A → S) → (S → X → Reader A) → S → List X → Reader (List A)
+walk next f s [] = pure []
+walk next f s (x ∷ xs) = f s x >>= λ a. walk next f (next s a) xs >>= λ ys. pure (a ∷ ys)
+
+-- its bits, and when its values are legal
+abbrev pub walkBits : {S X A : Type 0} → (S → A → S) → (S → X → A → List Bool) → S → List X → List A → List Bool
+walkBits next w s [] ys = []
+walkBits next w s (x ∷ xs) [] = []
+walkBits next w s (x ∷ xs) (a ∷ ys) = w s x a ++ walkBits next w (next s a) xs ys
+
+abbrev pub Walked : {S X A : Type 0} → (S → A → S) → (S → X → A → Type 0) → S → List X → List A → Type 0
+Walked next L s [] [] = Unit {0}
+Walked next L s [] (a ∷ ys) = ⊥
+Walked next L s (x ∷ xs) [] = ⊥
+Walked next L s (x ∷ xs) (a ∷ ys) = L s x a × Walked next L (next s a) xs ys
+
+-- the same with no state; and n times the same
+abbrev pub stay : {A : Type 0} → Unit {0} → A → Unit {0}
+stay s a = s
+
+abbrev pub each : {X A : Type 0} → (X → Reader A) → List X → Reader (List A)
+each f xs = walk stay (λ _. f) tt xs
+
+abbrev pub eachBits : {X A : Type 0} → (X → A → List Bool) → List X → List A → List Bool
+eachBits w xs ys = walkBits stay (λ _. w) tt xs ys
+
+abbrev pub Each : {X A : Type 0} → (X → A → Type 0) → List X → List A → Type 0
+Each L xs ys = Walked stay (λ _. L) tt xs ys
+
+abbrev pub times : ℕ → List (Unit {0})
+times n = replicate n tt
+
+-- A number in k bits. Refusal 13 where fewer than k bits are left.
+unfoldable pub number : ℕ → Reader ℕ
+number k s = cond (leb k (length s)) (ok (value (take k s)) (drop k s)) (bad 13 (length s))
+
+-- One of a list of values, whichever's bits come next. Refusal 13 where none does.
+unfoldable pub strip : List Bool → List Bool → Option (List Bool)
+strip [] s = some s
+strip (x ∷ xs) [] = none
+strip (true ∷ xs) (true ∷ s) = strip xs s
+strip (true ∷ xs) (false ∷ s) = none
+strip (false ∷ xs) (true ∷ s) = none
+strip (false ∷ xs) (false ∷ s) = strip xs s
+
+abbrev pub orElse : {A : Type 0} → Option (List Bool) → A → Read A → Read A
+orElse (some t) a r = ok a t
+orElse none a r = r
+
+unfoldable pub oneOf : {A : Type 0} → (A → List Bool) → List A → Reader A
+oneOf w [] s = bad 13 (length s)
+oneOf w (c ∷ cs) s = let r = oneOf w cs s in orElse (strip (w c) s) c r
+
+-- THE TWO LAWS: what is written is read back, and what is read was written, of a legal value
+pub record Lawful {A : Type 0} (L : A → Type 0) (w : A → List Bool) (p : Reader A) : Type 0 where
+  pub there : (a : A) (t : List Bool) → L a → p (w a ++ t) ≡ ok a t
+  pub back : (s : List Bool) (a : A) (t : List Bool) → p s ≡ ok a t → L a × (s ≡ w a ++ t)

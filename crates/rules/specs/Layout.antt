@@ -1,0 +1,95 @@
+-- Document 01, **Layout and lent buffers**: the limits of a layout, and the counts that follow from it.
+use mathlib.Core.List.{List, [], _∷_}
+use mathlib.Core.Bool.{Bool, true, false, cond, _&&_}
+use Prim.Native.Nat.{ℕ, _+_, _-_, _*_, _/_, _≤_}
+use lib.Dec.{leb, eqb}
+use lib.ListN.{getD, take, drop}
+use Rattle.buffers.specs.Walk.{build}
+use Rattle.rules.specs.declared.ChannelType.{ChannelType}
+use Rattle.rules.specs.declared.ChannelType.the-variants.{Discrete, StereoPrimary, StereoSecondary}
+use Rattle.rules.specs.declared.Channel.{Channel}
+use Rattle.rules.specs.declared.Layout.{Layout}
+
+-- the frame's size F
+abbrev pub frameSize : Layout → ℕ
+frameSize l = l .«frame_size»
+
+-- Channels C: 1 to 16. Bands: total 1 to 128, base + stereo at most total. Frame size F: 8 to 65,535 bytes.
+unfoldable pub legalLayout : Layout → Bool
+legalLayout l =
+    leb 1 (l .channels) && (leb (l .channels) 16 && (leb 1 (l .total) && (leb (l .total) 128
+    && (leb (l .base + l .stereo) (l .total) && (leb 8 (frameSize l) && leb (frameSize l) 65535)))))
+
+-- the same as facts
+pub record Sizes (l : Layout) : Type 0 where
+  pub some : 1 ≤ l .channels
+  pub few : l .channels ≤ 16
+  pub band : 1 ≤ l .total
+  pub bands : l .total ≤ 128
+  pub start : l .base + l .stereo ≤ l .total
+  pub small : 8 ≤ frameSize l
+  pub large : frameSize l ≤ 65535
+
+-- the kinds of the channels, in their order
+unfoldable pub kindAt : Layout → ℕ → ChannelType
+kindAt l c = (getD (l .kinds) c (record { kind = Discrete })) .kind
+
+unfoldable pub kindsOf : Layout → List ChannelType
+kindsOf l = build (kindAt l) (l .channels)
+
+abbrev pub isSecondary : ChannelType → Bool
+isSecondary Discrete = false
+isSecondary StereoPrimary = false
+isSecondary StereoSecondary = true
+
+unfoldable pub secondaryAt : Layout → ℕ → Bool
+secondaryAt l c = isSecondary (kindAt l c)
+
+-- Start N
+abbrev pub startBand : Layout → ℕ
+startBand l = l .base + l .stereo
+
+-- HFR bands, bands per group g, groups G
+abbrev pub hfrBands : Layout → ℕ
+hfrBands l = l .total - startBand l
+
+-- a / b rounded up, 0 if b is 0
+unfoldable pub ceilDiv : ℕ → ℕ → ℕ
+ceilDiv a b = cond (eqb b 0) 0 ((a + (b - 1)) / b)
+
+unfoldable pub bandsPerGroup : Layout → ℕ
+bandsPerGroup l = ceilDiv (hfrBands l) 8
+
+unfoldable pub groupCount : Layout → ℕ
+groupCount l = ceilDiv (hfrBands l) (bandsPerGroup l)
+
+-- Coded count: base for a secondary, else N
+abbrev pub codedCount : Layout → ChannelType → ℕ
+codedCount l k = cond (isSecondary k) (l .base) (startBand l)
+
+unfoldable pub codedAt : Layout → ℕ → ℕ
+codedAt l c = codedCount l (kindAt l c)
+
+-- Side values: a secondary's 8 intensities of 4 bits, else G HFR scales of 6 bits
+abbrev pub sideCount : Layout → ChannelType → ℕ
+sideCount l k = cond (isSecondary k) 8 (groupCount l)
+
+abbrev pub sideWidth : ChannelType → ℕ
+sideWidth k = cond (isSecondary k) 4 6
+
+unfoldable pub sidesAt : Layout → ℕ → ℕ
+sidesAt l c = sideCount l (kindAt l c)
+
+-- The lengths of the lent buffers
+abbrev pub spectrumLength : Layout → ℕ
+spectrumLength l = l .channels * 1024
+
+abbrev pub factorLength : Layout → ℕ
+factorLength l = l .channels * 128
+
+abbrev pub sideLength : Layout → ℕ
+sideLength l = l .channels * 8
+
+-- channel c's part of a buffer with n values a channel
+abbrev pub part : {A : Type 0} → ℕ → List A → ℕ → List A
+part n xs c = take n (drop (c * n) xs)

@@ -1,0 +1,46 @@
+-- Document 01, **Level**: the halving, over any estimate, and the removal of pairs.
+use mathlib.Core.List.{List}
+use mathlib.Core.Bool.{Bool, cond}
+use Prim.Native.Nat.{ℕ, zero, suc, _+_, _-_, _*_, _/_}
+use lib.Dec.{ltb}
+use lib.ListN.{set}
+use Rattle.buffers.specs.Walk.{blocks}
+use Rattle.rules.specs.Layout.{part, startBand}
+use Rattle.rules.specs.declared.Layout.{Layout}
+
+-- the halving of low to high by a test that says whether a probe exceeds; n is at least high - low
+unfoldable pub halve : (ℕ → Bool) → ℕ → ℕ → ℕ → ℕ
+halve over zero low high = low
+halve over (suc n) low high =
+    let mid = (low + high) / 2 in
+    cond (ltb low high) (cond (over mid) (halve over n (mid + 1) high) (halve over n low mid)) low
+
+-- of 0 to 255; 255 says that there is none
+unfoldable pub levelOf : (ℕ → Bool) → ℕ
+levelOf over = halve over 255 0 255
+
+-- two bands get factor 0 in every channel
+unfoldable pub clearTwo : List ℕ → ℕ → List ℕ
+clearTwo fs b = set (set fs b 0) (b + 1) 0
+
+unfoldable pub clearPair : Layout → List ℕ → ℕ → List ℕ
+clearPair l factors b = blocks (λ c. clearTwo (part 128 factors c) b) (l .channels)
+
+-- what is found: the level (255: none), the pairs removed, and the factors that remain
+pub record Found : Type 0 where
+  pub level : ℕ
+  pub pairs : ℕ
+  pub factors : List ℕ
+
+-- While there is none, the highest band, top - 1, falls by 2; below 0 the search ends with none; else the two bands above it are cleared and
+-- the search is repeated. n bounds the removals: 64 are more than there can be.
+unfoldable pub remove : Layout → (List ℕ → ℕ → Bool) → ℕ → ℕ → ℕ → List ℕ → Found
+remove l over zero top pairs factors = record { level = levelOf (over factors); pairs = pairs; factors = factors }
+remove l over (suc n) top pairs factors =
+    let found : Found = record { level = levelOf (over factors); pairs = pairs; factors = factors } in
+    cond (ltb 254 (levelOf (over factors)))
+    (cond (ltb top 3) found (remove l over n (top - 2) (pairs + 1) (clearPair l factors (top - 2))))
+    found
+
+unfoldable pub noiseLevel : Layout → (List ℕ → ℕ → Bool) → List ℕ → Found
+noiseLevel l over factors = remove l over 64 (startBand l) 0 factors

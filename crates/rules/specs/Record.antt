@@ -1,0 +1,106 @@
+-- Document 01, **Legal record**: a record, when it is legal, and how it lies in the lent buffers.
+use mathlib.Core.Path.{_≡_}
+use mathlib.Core.List.{List, [], _∷_, _++_, map}
+use mathlib.Core.Bool.{Bool, cond, _&&_, _||_}
+use Prim.Native.Nat.{ℕ, _+_, _*_, _^_, _≤_, _<_}
+use lib.Dec.{leb, ltb, eqb}
+use lib.IntN.{ℤ, pos, natAbs}
+use lib.ListN.{getD, take, drop, replicate}
+use Rattle.buffers.specs.Walk.{build, blocks, every}
+use Rattle.rules.specs.Format.{Each, times}
+use Rattle.rules.specs.Layout.{kindAt, kindsOf, codedCount, codedAt, sideCount, sidesAt, sideWidth, part}
+use Rattle.rules.specs.Resolution.{resolutionAt, resolutionsOf}
+use Rattle.rules.specs.Code.{codeLimit}
+use Rattle.rules.specs.declared.ChannelType.{ChannelType}
+use Rattle.rules.specs.declared.Layout.{Layout}
+
+-- a channel's coded factors and its side values
+pub record Chan : Type 0 where
+  pub factors : List ℕ
+  pub side : List ℕ
+
+pub record Rec : Type 0 where
+  pub level : ℕ
+  pub boundary : ℕ
+  pub chans : List Chan
+  -- by subframe, channel and coded band: the frame's order
+  pub codes : List (List (List ℤ))
+
+-- Level 0..254; boundary 0..127, 0 at level 0
+pub record LegalHead (level boundary : ℕ) : Type 0 where
+  pub levels : level ≤ 254
+  pub boundaries : boundary ≤ 127
+  pub silent : level ≡ 0 → boundary ≡ 0
+
+-- code magnitude at most r at resolution r below 8, else the clamp of **Code**
+unfoldable pub codeRange : ℕ → ℕ
+codeRange r = cond (ltb r 8) r (codeLimit r)
+
+abbrev pub LegalCode : ℕ → ℤ → Type 0
+LegalCode r c = natAbs c ≤ codeRange r
+
+-- factors and HFR scales 0..63; intensities 0..15
+pub record LegalChan (l : Layout) (k : ChannelType) (c : Chan) : Type 0 where
+  pub factors : Each (λ _ f. f < 64) (times (codedCount l k)) (c .factors)
+  pub side : Each (λ _ v. v < 2 ^ sideWidth k) (times (sideCount l k)) (c .side)
+
+-- the resolutions of each channel's coded bands
+abbrev pub resolutions : ℕ → ℕ → List Chan → List (List ℕ)
+resolutions level boundary chans = map (λ c. resolutionsOf level boundary (c .factors)) chans
+
+pub record Legal (l : Layout) (r : Rec) : Type 0 where
+  pub head : LegalHead (r .level) (r .boundary)
+  pub chans : Each (LegalChan l) (kindsOf l) (r .chans)
+  pub codes : Each (λ _. Each (Each LegalCode) (resolutions (r .level) (r .boundary) (r .chans))) (times 8) (r .codes)
+
+-- THE RECORD THAT LIES IN BUFFERS of document 01's lengths: factors C x 128, side C x 8, codes C x 1,024 by channel, subframe, band
+abbrev pub chanOf : Layout → List ℕ → List ℕ → ℕ → Chan
+chanOf l factors side c = record { factors = take (codedAt l c) (part 128 factors c); side = take (sidesAt l c) (part 8 side c) }
+
+abbrev pub codesIn : Layout → List ℤ → ℕ → ℕ → List ℤ
+codesIn l codes s c = take (codedAt l c) (part 128 (part 1024 codes c) s)
+
+unfoldable pub recOf : Layout → ℕ → ℕ → List ℕ → List ℕ → List ℤ → Rec
+recOf l level boundary factors side codes = record {
+  level = level;
+  boundary = boundary;
+  chans = build (chanOf l factors side) (l .channels);
+  codes = build (λ s. build (codesIn l codes s) (l .channels)) 8;
+}
+
+-- AND ITS STORING THERE: everything unwritten is 0
+abbrev pub pad : {A : Type 0} → A → ℕ → List A → List A
+pad d n xs = take n (xs ++ replicate n d)
+
+abbrev pub noChan : Chan
+noChan = record { factors = []; side = [] }
+
+unfoldable pub storeFactors : Layout → Rec → List ℕ
+storeFactors l r = blocks (λ c. pad 0 128 ((getD (r .chans) c noChan) .factors)) (l .channels)
+
+unfoldable pub storeSide : Layout → Rec → List ℕ
+storeSide l r = blocks (λ c. pad 0 8 ((getD (r .chans) c noChan) .side)) (l .channels)
+
+unfoldable pub storeCodes : Layout → Rec → List ℤ
+storeCodes l r = blocks (λ c. blocks (λ s. pad (pos 0) 128 (getD (getD (r .codes) s []) c [])) 8) (l .channels)
+
+-- LEGAL AS A TEST on the buffers: what is written is in its range, everything unwritten is 0
+unfoldable pub legalHead : ℕ → ℕ → Bool
+legalHead level boundary = leb level 254 && (leb boundary 127 && (leb 1 level || eqb boundary 0))
+
+-- the first n of a row's values lie below m, and the others are 0
+unfoldable pub legalRow : ℕ → ℕ → ℕ → List ℕ → Bool
+legalRow n m k xs = every (λ i. cond (ltb i n) (ltb (getD xs i 0) m) (eqb (getD xs i 0) 0)) k
+
+unfoldable pub legalCodes : ℕ → ℕ → ℕ → List ℕ → List ℤ → Bool
+legalCodes level boundary coded fs cs =
+    every (λ s. every (λ b. leb (natAbs (getD cs (s * 128 + b) (pos 0))) (cond (ltb b coded) (codeRange (resolutionAt level boundary fs b)) 0)) 128) 8
+
+unfoldable pub legalChannel : Layout → ℕ → ℕ → List ℕ → List ℕ → List ℤ → ℕ → Bool
+legalChannel l level boundary factors side codes c =
+    legalRow (codedAt l c) 64 128 (part 128 factors c)
+    && (legalRow (sidesAt l c) (2 ^ sideWidth (kindAt l c)) 8 (part 8 side c)
+    && legalCodes level boundary (codedAt l c) (part 128 factors c) (part 1024 codes c))
+
+unfoldable pub legalRecord : Layout → ℕ → ℕ → List ℕ → List ℕ → List ℤ → Bool
+legalRecord l level boundary factors side codes = legalHead level boundary && every (legalChannel l level boundary factors side codes) (l .channels)

@@ -1,0 +1,55 @@
+-- Document 01, **Resolution**.
+use mathlib.Core.List.{List}
+use mathlib.Core.Bool.{cond}
+use Prim.Native.Nat.{ℕ, _+_, _-_, _*_, _/_, min, max}
+use lib.Dec.{eqb, ltb}
+use lib.IntN.{ℤ, pos, _+ℤ_, _-ℤ_, natAbs}
+use lib.ListN.{length, getD}
+use Rattle.buffers.specs.Walk.{build, blocks}
+use Rattle.rules.specs.Tables.{resolutionCurve}
+use Rattle.rules.specs.Signed.{heldZ}
+use Rattle.rules.specs.Layout.{codedAt, part}
+use Rattle.rules.specs.declared.Layout.{Layout}
+
+-- Noise is level - 1, not below 0, in bands below the boundary; else level
+unfoldable pub noiseAt : ℕ → ℕ → ℕ → ℕ
+noiseAt level boundary band = cond (ltb band boundary) (level - 1) level
+
+-- the position, which can be far below zero before it is held to 0..58
+unfoldable pub curvePosition : ℕ → ℕ → ℤ
+curvePosition noise factor = pos noise -ℤ pos (5 * factor / 2) +ℤ pos 2
+
+unfoldable pub heldPosition : ℕ → ℕ → ℕ
+heldPosition noise factor = natAbs (heldZ (pos 0) (pos 58) (curvePosition noise factor))
+
+-- 0 for factor 0; else the curve, within the lowest and the highest resolution
+unfoldable pub resolutionIn : ℕ → ℕ → ℕ → ℕ → ℕ
+resolutionIn lowest highest noise factor =
+    cond (eqb factor 0) 0 (min (max (getD resolutionCurve (heldPosition noise factor) 0) lowest) highest)
+
+abbrev pub lowestResolution : ℕ
+lowestResolution = 1
+
+abbrev pub highestResolution : ℕ
+highestResolution = 15
+
+unfoldable pub resolution : ℕ → ℕ → ℕ
+resolution noise factor = resolutionIn lowestResolution highestResolution noise factor
+
+-- of band b of a channel with these factors
+unfoldable pub resolutionAt : ℕ → ℕ → List ℕ → ℕ → ℕ
+resolutionAt level boundary fs b = resolution (noiseAt level boundary b) (getD fs b 0)
+
+-- of each of its coded bands
+unfoldable pub resolutionsOf : ℕ → ℕ → List ℕ → List ℕ
+resolutionsOf level boundary fs = build (resolutionAt level boundary fs) (length fs)
+
+-- of its 128 bands, 0 past the coded count; and of every channel's
+unfoldable pub bandResolution : ℕ → ℕ → List ℕ → ℕ → ℕ → ℕ
+bandResolution level boundary fs coded b = cond (ltb b coded) (resolutionAt level boundary fs b) 0
+
+unfoldable pub channelResolutions : ℕ → ℕ → List ℕ → ℕ → List ℕ
+channelResolutions level boundary fs coded = build (bandResolution level boundary fs coded) 128
+
+unfoldable pub allResolutions : Layout → ℕ → ℕ → List ℕ → List ℕ
+allResolutions l level boundary factors = blocks (λ c. channelResolutions level boundary (part 128 factors c) (codedAt l c)) (l .channels)

@@ -1,0 +1,163 @@
+// Document 01 as types and definitions: what every crate above works on, and what a reader must believe.
+ghost use mathlib.Core.Path.{_≡_};
+ghost use mathlib.Core.Bool.{Bool, true, false};
+ghost use Prim.Native.Nat.{_+_, _-_, _≤_, _<_};
+ghost use lib.ListN.{length};
+ghost use Rattle.rules.specs.Layout.{legalLayout, Sizes, secondaryAt, codedAt, startBand, bandsPerGroup, groupCount, sidesAt};
+
+pub enum ChannelType {
+    Discrete,
+    StereoPrimary,
+    StereoSecondary,
+}
+
+pub struct Channel {
+    pub kind: ChannelType,
+}
+
+// A stream's layout: how many channels of which kinds, the bands, and the frame's size in bytes.
+pub struct Layout {
+    pub channels: usize,
+    pub kinds: [Channel; 16],
+    pub base: usize,
+    pub stereo: usize,
+    pub total: usize,
+    pub frame_size: usize,
+}
+
+// What the stage answers: level, boundary, pairs removed and bits written, or a refusal with the number beside it.
+pub enum StageAnswer {
+    Delivered(usize, usize, usize, usize),
+    BadLayout,
+    ShortBuffer,
+    BadIntensity(usize),
+    BadSpectrum(usize),
+    NoLevel(usize),
+    NoBoundary(usize),
+    TooLong,
+}
+
+// What the record writer answers: level, boundary and bits written, or a refusal.
+pub enum WriteAnswer {
+    Delivered(usize, usize, usize),
+    BadLayout,
+    ShortBuffer,
+    NotLegal,
+    TooLong,
+}
+
+// What the strict reader answers: level, boundary and bits read, or a refusal with the bit that it names.
+pub enum ReadAnswer {
+    Delivered(usize, usize, usize),
+    BadLayout,
+    ShortBuffer,
+    WrongCheck,
+    WrongSync,
+    BadLevel(usize),
+    BadWidth(usize),
+    BadFactor(usize),
+    PastEnd(usize),
+    FillNotZero(usize),
+}
+
+// Is the layout within document 01's limits?
+pub fn legal(layout: Layout) -> bool
+    ensures { λ r. ⌜ r ≡ legalLayout layout ⌝ }
+{
+    let channels = layout.channels;
+    let total = layout.total;
+    let base = layout.base;
+    let stereo = layout.stereo;
+    let size = layout.frame_size;
+    if channels < 1 {
+        return false;
+    }
+    if 16 < channels {
+        return false;
+    }
+    if total < 1 {
+        return false;
+    }
+    if 128 < total {
+        return false;
+    }
+    if total < base {
+        return false;
+    }
+    if total - base < stereo {
+        return false;
+    }
+    if size < 8 {
+        return false;
+    }
+    if 65535 < size {
+        return false;
+    }
+    true
+}
+
+pub fn is_secondary(layout: Layout, channel: usize) -> bool
+    requires { ⌜ channel < 16 ⌝ }
+    ensures { λ r. ⌜ r ≡ secondaryAt layout channel ⌝ }
+{
+    let entry = layout.kinds[channel];
+    let kind = entry.kind;
+    match kind {
+        ChannelType::StereoSecondary => true,
+        ChannelType::StereoPrimary => false,
+        ChannelType::Discrete => false,
+    }
+}
+
+// Start N.
+pub fn start(layout: Layout) -> usize
+    requires { ⌜ Sizes layout ⌝ }
+    ensures { λ r. ⌜ (r ≡ startBand layout) × (r ≤ layout .total) ⌝ }
+{
+    layout.base + layout.stereo
+}
+
+pub fn coded_count(layout: Layout, channel: usize) -> usize
+    requires { ⌜ Sizes layout ⌝ }
+    requires { ⌜ channel < 16 ⌝ }
+    ensures { λ r. ⌜ (r ≡ codedAt layout channel) × (r ≤ layout .total) ⌝ }
+{
+    if is_secondary(layout, channel) {
+        layout.base
+    } else {
+        start(layout)
+    }
+}
+
+// g, 0 where there are no HFR bands.
+pub fn bands_per_group(layout: Layout) -> usize
+    requires { ⌜ Sizes layout ⌝ }
+    ensures { λ r. ⌜ (r ≡ bandsPerGroup layout) × (r ≤ 16) ⌝ }
+{
+    (layout.total - start(layout) + 7) / 8
+}
+
+// G.
+pub fn groups(layout: Layout) -> usize
+    requires { ⌜ Sizes layout ⌝ }
+    ensures { λ r. ⌜ (r ≡ groupCount layout) × (r ≤ 8) ⌝ }
+{
+    let g = bands_per_group(layout);
+    if g == 0 {
+        return 0;
+    }
+    (layout.total - start(layout) + (g - 1)) / g
+}
+
+// How many side values a channel has.
+pub fn side_count(layout: Layout, channel: usize) -> usize
+    requires { ⌜ Sizes layout ⌝ }
+    requires { ⌜ channel < 16 ⌝ }
+    ensures { λ r. ⌜ (r ≡ sidesAt layout channel) × (r ≤ 8) ⌝ }
+{
+    if is_secondary(layout, channel) {
+        8
+    } else {
+        groups(layout)
+    }
+}
