@@ -27,6 +27,14 @@ pub cond-same : {A : Type 0} {a a′ b b′ : A} (t : Bool) → (t ≡ true → 
 cond-same true f g = f refl
 cond-same false f g = g refl
 
+-- what both arms have, the choice has; and a bound on it
+pub cond-both : {A : Type 0} (P : A → Type 0) {a b : A} (t : Bool) → (t ≡ true → P a) → (t ≡ false → P b) → P (cond t a b)
+cond-both P true f g = f refl
+cond-both P false f g = g refl
+
+pub cond-bound : {a b n : ℕ} (t : Bool) → (t ≡ true → a ≤ n) → (t ≡ false → b ≤ n) → cond t a b ≤ n
+cond-bound {a} {b} {n} t f g = cond-both (λ (x : ℕ). x ≤ n) t f g
+
 -- whether every entry of a table is at most m
 unfoldable pub allLe : ℕ → List ℕ → Bool
 allLe m [] = true

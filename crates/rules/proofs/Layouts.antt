@@ -1,12 +1,12 @@
 -- A layout's test and its facts say the same, and the counts are small. Assumes nothing.
 use mathlib.Core.Path.{_≡_, refl}
-use mathlib.Core.Bool.{Bool, true, false, cond, _&&_}
+use mathlib.Core.Bool.{Bool, true, false, cond}
 use Prim.Native.Nat.{ℕ, _+_, _-_, _*_, _/_, _≤_, _<_}
 use native.Mathlib.Nat.{div-lt-iff-lt-mul}
 use native.Mathlib.Omega.{arith}
 use borrow.Author.Tests.{le-leb, leb-true, eqb-false, ne-eqb}
 use lib.Dec.{leb, eqb}
-use Rattle.buffers.proofs.Tests.{and-fst, and-snd, not-true-false}
+use Rattle.buffers.proofs.Tests.{and-fst, and-snd, not-true-false, cond-bound}
 use Rattle.rules.specs.Layout.{legalLayout, Sizes, frameSize, kindAt, isSecondary, startBand, hfrBands, ceilDiv, bandsPerGroup, groupCount, codedAt, sidesAt}
 use Rattle.rules.specs.declared.Layout.{Layout}
 
@@ -44,14 +44,10 @@ legal-sizes l e₁ =
 pub legal-false : (l : Layout) → (Sizes l → ⊥) → legalLayout l ≡ false
 legal-false l h = not-true-false (legalLayout l) (λ e. h (legal-sizes l e))
 
-cond-le : {a b n : ℕ} (t : Bool) → a ≤ n → b ≤ n → cond t a b ≤ n
-cond-le true p q = p
-cond-le false p q = q
-
 -- a coded count is at most N
 pub coded-le : (l : Layout) (c : ℕ) → codedAt l c ≤ startBand l
 unfolding codedAt
-coded-le l c = cond-le (isSecondary (kindAt l c)) (omega arith) (omega arith)
+coded-le l c = cond-bound (isSecondary (kindAt l c)) (λ _. omega arith) (λ _. omega arith)
 
 -- at most eight groups
 few-groups : (h g : ℕ) (t : Bool) → h ≤ 8 * g → eqb g 0 ≡ t → cond t 0 ((h + (g - 1)) / g) ≤ 8
@@ -76,4 +72,4 @@ groups-are l g n p q h =
 
 pub sides-le : (l : Layout) (c : ℕ) → sidesAt l c ≤ 8
 unfolding sidesAt
-sides-le l c = cond-le (isSecondary (kindAt l c)) (omega arith) (groups-le l)
+sides-le l c = cond-bound (isSecondary (kindAt l c)) (λ _. omega arith) (λ _. groups-le l)

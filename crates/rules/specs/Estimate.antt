@@ -1,7 +1,7 @@
 -- Document 01, **Estimate**.
 use mathlib.Core.List.{List, []}
 use mathlib.Core.Bool.{Bool, cond}
-use Prim.Native.Nat.{ℕ, _+_, _-_, _*_}
+use Prim.Native.Nat.{ℕ, _+_, _*_}
 use lib.Dec.{ltb}
 use lib.Ieee.{Float, nan, le}
 use lib.ListN.{getD, take}

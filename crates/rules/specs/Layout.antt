@@ -1,5 +1,5 @@
 -- Document 01, **Layout and lent buffers**: the limits of a layout, and the counts that follow from it.
-use mathlib.Core.List.{List, [], _∷_}
+use mathlib.Core.List.{List}
 use mathlib.Core.Bool.{Bool, true, false, cond, _&&_}
 use Prim.Native.Nat.{ℕ, _+_, _-_, _*_, _/_, _≤_}
 use lib.Dec.{leb, eqb}
@@ -7,7 +7,6 @@ use lib.ListN.{getD, take, drop}
 use Rattle.buffers.specs.Walk.{build}
 use Rattle.rules.specs.declared.ChannelType.{ChannelType}
 use Rattle.rules.specs.declared.ChannelType.the-variants.{Discrete, StereoPrimary, StereoSecondary}
-use Rattle.rules.specs.declared.Channel.{Channel}
 use Rattle.rules.specs.declared.Layout.{Layout}
 
 -- the frame's size F

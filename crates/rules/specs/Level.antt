@@ -1,7 +1,7 @@
 -- Document 01, **Level**: the halving, over any estimate, and the removal of pairs.
 use mathlib.Core.List.{List}
 use mathlib.Core.Bool.{Bool, cond}
-use Prim.Native.Nat.{ℕ, zero, suc, _+_, _-_, _*_, _/_}
+use Prim.Native.Nat.{ℕ, zero, suc, _+_, _-_, _/_}
 use lib.Dec.{ltb}
 use lib.ListN.{set}
 use Rattle.buffers.specs.Walk.{blocks}

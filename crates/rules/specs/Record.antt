@@ -1,11 +1,11 @@
 -- Document 01, **Legal record**: a record, when it is legal, and how it lies in the lent buffers.
 use mathlib.Core.Path.{_≡_}
-use mathlib.Core.List.{List, [], _∷_, _++_, map}
+use mathlib.Core.List.{List, [], _++_, map}
 use mathlib.Core.Bool.{Bool, cond, _&&_, _||_}
 use Prim.Native.Nat.{ℕ, _+_, _*_, _^_, _≤_, _<_}
 use lib.Dec.{leb, ltb, eqb}
 use lib.IntN.{ℤ, pos, natAbs}
-use lib.ListN.{getD, take, drop, replicate}
+use lib.ListN.{getD, take, replicate}
 use Rattle.buffers.specs.Walk.{build, blocks, every}
 use Rattle.rules.specs.Format.{Each, times}
 use Rattle.rules.specs.Layout.{kindAt, kindsOf, codedCount, codedAt, sideCount, sidesAt, sideWidth, part}
@@ -104,3 +104,9 @@ legalChannel l level boundary factors side codes c =
 
 unfoldable pub legalRecord : Layout → ℕ → ℕ → List ℕ → List ℕ → List ℤ → Bool
 legalRecord l level boundary factors side codes = legalHead level boundary && every (legalChannel l level boundary factors side codes) (l .channels)
+
+-- DEMAND 3's premise, 'each code is in its range': each written code of the buffers, at the resolution of its band
+abbrev pub CodesInRange : Layout → ℕ → ℕ → List ℕ → List ℤ → Type 0
+CodesInRange l level boundary factors codes =
+    (c s b : ℕ) → c < l .channels → s < 8 → b < codedAt l c →
+    LegalCode (resolutionAt level boundary (part 128 factors c) b) (getD (part 1024 codes c) (s * 128 + b) (pos 0))

@@ -1,0 +1,159 @@
+-- When the record writer and the strict reader deliver, and what they then leave. Assumes nothing.
+use mathlib.Core.Path.{_≡_, _∙_, ap}
+use mathlib.Core.List.{List, [], _∷_}
+use mathlib.Core.Bool.{true, not}
+use Prim.Native.Nat.{ℕ, _≤_}
+use native.Mathlib.Omega.{arith}
+use borrow.Author.Tests.{leb-true, ltb-false, le-ltb, not-false}
+use lib.Dec.{leb, ltb}
+use lib.ListN.{length, take, drop}
+use lib.Seq.{length-take-le, take-at}
+use Rattle.bits.specs.Bits.{Bytes}
+use Rattle.buffers.proofs.Tests.{and-fst, and-snd, cond-both}
+use Rattle.rules.specs.Layout.{legalLayout, Sizes, frameSize, spectrumLength, factorLength, sideLength}
+use Rattle.rules.specs.Record.{Rec, Legal, recOf, legalRecord, storeFactors, storeSide, storeCodes}
+use Rattle.rules.specs.Fields.{fields}
+use Rattle.rules.specs.Frame.{payload, frameOf}
+use Rattle.rules.specs.Reading.{Scanned, accepted, faulty, strict}
+use Rattle.rules.specs.Refusals.{delivered, refused}
+use Rattle.rules.specs.Stage.{laid, RecordLent, FrameLeft, writeRoom, lentRecord, written, FrameLent, RecordLeft, readRoom, readLeft, read}
+use Rattle.rules.specs.declared.Layout.{Layout}
+use Rattle.rules.proofs.Layouts.{legal-true, legal-sizes}
+use Rattle.rules.proofs.Demand3.{bytes-take, Framed, frame-length, strict-complete, strict-sound}
+use Rattle.rules.proofs.Stores.{stored, record-front, legal-front}
+use Rattle.rules.proofs.Legality.{record-legal, stored-legal, restored}
+
+-- a refusal is no delivery
+refusal : {A : Type 0} {k p : ℕ} {ns : List ℕ} → refused k p ≡ delivered ns → A
+refusal e = let z : _≡_ {A = ℕ} 0 1 = cc in absurd (omega arith)
+
+-- the front of what was laid over a buffer is what was laid
+pub laid-front : {A : Type 0} (n : ℕ) (new old : List A) → length new ≡ n → take n (laid new old) ≡ new
+laid-front n new old e = take-at new (drop (length new) old) n e
+
+-- ---- the record writer
+
+-- it delivers just where all of this holds
+pub record Writes (l : Layout) (t : RecordLent) : Type 0 where
+  pub sizes : Sizes l
+  pub room : writeRoom l t ≡ true
+  pub legal : legalRecord l (t .level) (t .boundary) (t .factors) (t .side) (t .codes) ≡ true
+  pub fits : length (fields l (lentRecord l t)) ≤ payload l
+
+module _ (l : Layout) (t : RecordLent) where
+  module _ (ns : List ℕ) where
+    abbrev Wrote : FrameLeft → Type 0
+    Wrote x = x .outcome ≡ delivered ns → Writes l t
+
+    pub writes : written l t .outcome ≡ delivered ns → Writes l t
+    unfolding written
+    writes =
+        cond-both Wrote (not (legalLayout l)) (λ _. refusal)
+        (λ a. cond-both Wrote (not (writeRoom l t)) (λ _. refusal)
+        (λ b. cond-both Wrote (not (legalRecord l (t .level) (t .boundary) (t .factors) (t .side) (t .codes))) (λ _. refusal)
+        (λ c. cond-both Wrote (ltb (payload l) (length (fields l (lentRecord l t)))) (λ _. refusal)
+        (λ d _. record { sizes = legal-sizes l (not-false _ a); room = not-false _ b; legal = not-false _ c; fits = ltb-false _ _ d }))))
+
+  pub writes-this : Writes l t → written l t ≡ record {
+    outcome = delivered (t .level ∷ t .boundary ∷ length (fields l (lentRecord l t)) ∷ []);
+    frame = laid (frameOf l (lentRecord l t)) (t .frame);
+  }
+  unfolding written
+  writes-this w = rw (legal-true l (w .sizes), w .room, w .legal, le-ltb _ _ (w .fits))
+
+-- the record's buffers have their stated lengths
+record Room (l : Layout) (t : RecordLent) : Type 0 where
+  factors : factorLength l ≤ length (t .factors)
+  side : sideLength l ≤ length (t .side)
+  codes : spectrumLength l ≤ length (t .codes)
+
+write-room : (l : Layout) (t : RecordLent) → writeRoom l t ≡ true → Room l t
+unfolding writeRoom
+write-room l t e₁ =
+    let e₂ = and-snd (leb (factorLength l) (length (t .factors))) _ e₁ in
+    let e₃ = and-snd (leb (sideLength l) (length (t .side))) _ e₂ in
+    record {
+      factors = leb-true _ _ (and-fst (leb (factorLength l) (length (t .factors))) _ e₁);
+      side = leb-true _ _ (and-fst (leb (sideLength l) (length (t .side))) _ e₂);
+      codes = leb-true _ _ (and-fst (leb (spectrumLength l) (length (t .codes))) _ e₃);
+    }
+
+-- its record is legal, the frame is the record's, and the buffers are what the record is stored as
+module _ (l : Layout) (t : RecordLent) (w : Writes l t) where
+  room : Room l t
+  room = write-room l t (w .room)
+
+  pub writes-legal : Legal l (lentRecord l t)
+  unfolding lentRecord
+  writes-legal = record-legal l (w .sizes) (t .level) (t .boundary) (t .factors) (t .side) (t .codes) (w .legal) (room .factors) (room .side) (room .codes)
+
+  pub writes-frame : take (frameSize l) (written l t .frame) ≡ frameOf l (lentRecord l t)
+  writes-frame = rw (writes-this l t w) (laid-front (frameSize l) (frameOf l (lentRecord l t)) (t .frame) (frame-length l (w .sizes) (lentRecord l t)))
+
+  pub writes-stored : (storeFactors l (lentRecord l t) ≡ take (factorLength l) (t .factors)) × (storeSide l (lentRecord l t) ≡ take (sideLength l) (t .side))
+      × (storeCodes l (lentRecord l t) ≡ take (spectrumLength l) (t .codes))
+  unfolding lentRecord
+  writes-stored =
+      rw (record-front l (t .level) (t .boundary) (t .factors) (t .side) (t .codes)) at
+      (restored l (w .sizes) (t .level) (t .boundary) (take (factorLength l) (t .factors)) (take (sideLength l) (t .side)) (take (spectrumLength l) (t .codes))
+      (legal-front l (t .level) (t .boundary) (t .factors) (t .side) (t .codes) ∙ w .legal)
+      (length-take-le _ _ (room .factors)) (length-take-le _ _ (room .side)) (length-take-le _ _ (room .codes)))
+
+-- ---- the strict reader
+
+-- it delivers just where all of this holds
+pub record Reads (l : Layout) (u : FrameLent) (r : Rec) (n : ℕ) : Type 0 where
+  pub sizes : Sizes l
+  pub room : readRoom l u ≡ true
+  pub scan : strict l (take (frameSize l) (u .frame)) ≡ accepted r n
+
+-- there is such a record with this level and boundary
+abbrev pub RecordWith : ℕ → ℕ → (Rec → Type 0) → Type 0
+RecordWith level boundary P = (r : Rec) × (r .level ≡ level) × (r .boundary ≡ boundary) × P r
+
+module _ (l : Layout) (u : FrameLent) where
+  module _ (level boundary n : ℕ) where
+    scanned : (x : Scanned) → readLeft l u x .outcome ≡ delivered (level ∷ boundary ∷ n ∷ []) → RecordWith level boundary (λ r. x ≡ accepted r n)
+    unfolding readLeft
+    scanned (accepted r m) e = let q : m ≡ n = cc in (r, (cc), (cc), ap (accepted r) q)
+    scanned (faulty k p) e = refusal e
+
+    abbrev Got : RecordLeft → Type 0
+    Got x = x .outcome ≡ delivered (level ∷ boundary ∷ n ∷ []) → RecordWith level boundary (λ r. Reads l u r n)
+
+    pub reads : read l u .outcome ≡ delivered (level ∷ boundary ∷ n ∷ []) → RecordWith level boundary (λ r. Reads l u r n)
+    unfolding read
+    reads =
+        cond-both Got (not (legalLayout l)) (λ _. refusal)
+        (λ a. cond-both Got (not (readRoom l u)) (λ _. refusal)
+        (λ b e. let (r, p, q, s) = scanned (strict l (take (frameSize l) (u .frame))) e in
+        (r, p, q, record { sizes = legal-sizes l (not-false _ a); room = not-false _ b; scan = s })))
+
+  module _ (r : Rec) (n : ℕ) where
+    pub framed-reads : legalLayout l ≡ true → readRoom l u ≡ true → Framed l r n (take (frameSize l) (u .frame)) → Reads l u r n
+    framed-reads a m f = record { sizes = legal-sizes l a; room = m; scan = rw (f .bytes, f .ends) (strict-complete l r (f .legal) (f .fits)) }
+
+    front-length : readRoom l u ≡ true → length (take (frameSize l) (u .frame)) ≡ frameSize l
+    unfolding readRoom
+    front-length m = length-take-le _ _ (leb-true _ _ (and-fst (leb (frameSize l) (length (u .frame))) _ m))
+
+    module _ (h : Reads l u r n) where
+      pub reads-this : read l u ≡ record {
+        outcome = delivered (r .level ∷ r .boundary ∷ n ∷ []);
+        factors = laid (storeFactors l r) (u .factors);
+        side = laid (storeSide l r) (u .side);
+        codes = laid (storeCodes l r) (u .codes);
+      }
+      unfolding read readLeft
+      reads-this = rw (legal-true l (h .sizes), h .room, h .scan)
+
+      -- the frame is the record's
+      pub reads-framed : Bytes (u .frame) → Framed l r n (take (frameSize l) (u .frame))
+      reads-framed b = strict-sound l (h .sizes) (take (frameSize l) (u .frame)) (bytes-take (frameSize l) (u .frame) b) (front-length (h .room)) r n (h .scan)
+
+      -- the record lies in what is left, and everything unwritten there is 0
+      pub reads-record : Legal l r → recOf l (r .level) (r .boundary) (read l u .factors) (read l u .side) (read l u .codes) ≡ r
+      reads-record k = rw reads-this (stored l (h .sizes) r k _ _ _)
+
+      pub reads-legal : Legal l r → legalRecord l (r .level) (r .boundary) (read l u .factors) (read l u .side) (read l u .codes) ≡ true
+      reads-legal k = rw reads-this (stored-legal l (h .sizes) r k _ _ _)
