@@ -11,7 +11,7 @@ ghost use Rattle.rules.specs.Code.{stepOf, stepShift, magnitudeBits, codeLimit}
 ghost use Rattle.quantizer.specs.Packed.{packed};
 
 // The entry at a place of a row.
-fn digit(row: u64, place: usize) -> u32
+pub fn digit(row: u64, place: usize) -> u32
     requires { ⌜ place ≤ 15 ⌝ }
     ensures { λ r. ⌜ r ≡ row / 2 ^ (4 * place) % 16 ⌝ }
 {

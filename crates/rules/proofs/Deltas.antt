@@ -35,7 +35,7 @@ minus-down a zero h = absurd (omega arith)
 minus-down a (suc b) h = sub-down a (suc b) h
 
 -- a + (b - c), where it isn't negative and where it is
-shift-up : (a b c : ℕ) → c ≤ a + b → pos a +ℤ (pos b -ℤ pos c) ≡ pos (a + b - c)
+pub shift-up : (a b c : ℕ) → c ≤ a + b → pos a +ℤ (pos b -ℤ pos c) ≡ pos (a + b - c)
 shift-up a b c h =
     leb-case (λ _. pos a +ℤ (pos b -ℤ pos c) ≡ pos (a + b - c)) c b
     (λ l. let e : a + (b - c) ≡ a + b - c = omega arith in rw (minus-up b c l) (ap pos e))

@@ -22,8 +22,11 @@ use Rattle.rules.specs.Record.{Rec, recOf, legalRecord, storeFactors, st
 use Rattle.rules.specs.Fields.{fields}
 use Rattle.rules.specs.Frame.{payload, frameOf}
 use Rattle.rules.specs.Reading.{Scanned, accepted, faulty, strict}
-use Rattle.rules.specs.Refusals.{Outcome, delivered, refused}
+use Rattle.rules.specs.Refusals.{Outcome, delivered, refused, stageNumber, writeNumber, readNumber}
 use Rattle.rules.specs.declared.Layout.{Layout}
+use Rattle.rules.specs.declared.StageAnswer.{StageAnswer}
+use Rattle.rules.specs.declared.WriteAnswer.{WriteAnswer}
+use Rattle.rules.specs.declared.ReadAnswer.{ReadAnswer}
 
 -- new values over a buffer's stated length; a longer buffer's rest stays untouched
 abbrev pub laid : {A : Type 0} → List A → List A → List A
@@ -64,6 +67,28 @@ pub record Left : Type 0 where
   pub factors : List ℕ
   pub side : List ℕ
   pub frame : List ℕ
+
+-- a call's buffers at its entry, and its answer and buffers at its exit
+abbrev pub stageLent : List Float → List ℕ → List Float → List ℤ → List ℕ → List ℕ → List ℕ → Lent
+stageLent spectra intensities scaled codes factors side frame = record {
+  spectra = spectra;
+  intensities = intensities;
+  scaled = scaled;
+  codes = codes;
+  factors = factors;
+  side = side;
+  frame = frame;
+}
+
+abbrev pub stageLeft : StageAnswer → List Float → List ℤ → List ℕ → List ℕ → List ℕ → Left
+stageLeft answer scaled codes factors side frame = record {
+  outcome = stageNumber answer;
+  scaled = scaled;
+  codes = codes;
+  factors = factors;
+  side = side;
+  frame = frame;
+}
 
 -- refusals 1 to 4 change nothing
 abbrev pub kept : Lent → Outcome → Left
@@ -169,6 +194,19 @@ pub record FrameLeft : Type 0 where
   pub outcome : Outcome
   pub frame : List ℕ
 
+abbrev pub recordLent : ℕ → ℕ → List ℕ → List ℕ → List ℤ → List ℕ → RecordLent
+recordLent level boundary factors side codes frame = record {
+  level = level;
+  boundary = boundary;
+  factors = factors;
+  side = side;
+  codes = codes;
+  frame = frame;
+}
+
+abbrev pub frameLeft : WriteAnswer → List ℕ → FrameLeft
+frameLeft answer frame = record { outcome = writeNumber answer; frame = frame }
+
 unfoldable pub writeRoom : Layout → RecordLent → Bool
 writeRoom l t =
     leb (factorLength l) (length (t .factors)) && (leb (sideLength l) (length (t .side)) && (leb (spectrumLength l) (length (t .codes))
@@ -199,6 +237,12 @@ pub record RecordLeft : Type 0 where
   pub factors : List ℕ
   pub side : List ℕ
   pub codes : List ℤ
+
+abbrev pub frameLent : List ℕ → List ℕ → List ℕ → List ℤ → FrameLent
+frameLent frame factors side codes = record { frame = frame; factors = factors; side = side; codes = codes }
+
+abbrev pub recordLeft : ReadAnswer → List ℕ → List ℕ → List ℤ → RecordLeft
+recordLeft answer factors side codes = record { outcome = readNumber answer; factors = factors; side = side; codes = codes }
 
 unfoldable pub readRoom : Layout → FrameLent → Bool
 readRoom l t =

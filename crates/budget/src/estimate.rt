@@ -1,0 +1,141 @@
+// Document 01, **Estimate**: the part that no level or boundary changes, and the values of all bands.
+ghost use mathlib.Core.Path.{_≡_};
+ghost use Prim.Native.Nat.{_*_, _≤_, _<_};
+ghost use lib.ListN.{length};
+ghost use Rattle.rules.specs.Layout.{Sizes, sidesAt, kindAt, sideWidth, spectrumLength, factorLength};
+ghost use Rattle.rules.specs.Estimate.{bandBits, channelBits, headerBits, fixedBits, spectralBits, exceeds};
+use quantizer::resolutions::calculate_resolution;
+use quantizer::resolutions::noise_at;
+use rules::Layout;
+use rules::coded_count;
+use widths::calculate_optimal_delta_length;
+
+// A band's eight values, of a channel's 1,024. At resolution 0 none takes a bit.
+pub fn spectral_bit_count(scaled: &[f32], band: usize, resolution: u8) -> usize
+    requires { ⌜ (length (now scaled) ≡ 1024) × (band < 128) × (resolution ≤ 15) ⌝ }
+    ensures { λ r. ⌜ (r ≡ bandBits (now (scaled .entry)) band resolution) × (r ≤ 96) ⌝ }
+{
+    if resolution == 0 {
+        return 0;
+    }
+    let at = band * 8;
+    let mut sum: usize = 0;
+    let mut s = 0;
+    while s < 8 {
+        sum += quantizer::value_bits(scaled[at + s], resolution) as usize;
+        s += 1;
+    }
+    sum
+}
+
+// A channel's coded bands, each resolution worked out on the way.
+pub fn channel_bits(
+    scaled: &[f32],
+    factors: &[u8],
+    coded: usize,
+    level: usize,
+    boundary: usize,
+) -> usize
+    requires { ⌜ (length (now scaled) ≡ 1024) × (length (now factors) ≡ 128) × (coded ≤ 128) ⌝ }
+    requires { ⌜ level ≤ 511 ⌝ }
+    ensures { λ r. ⌜ (r ≡ channelBits (now (scaled .entry)) (now (factors .entry)) coded level boundary) × (r ≤ 12288) ⌝ }
+{
+    let mut sum: usize = 0;
+    let mut b = 0;
+    while b < coded {
+        let resolution = calculate_resolution(factors[b], noise_at(level, boundary, b));
+        sum += spectral_bit_count(scaled, b, resolution);
+        b += 1;
+    }
+    sum
+}
+
+// What a channel's side values take: 32 bits of a secondary, else 6G.
+fn side_bits(layout: Layout, channel: usize) -> usize
+    requires { ⌜ Sizes layout ⌝ }
+    requires { ⌜ channel < 16 ⌝ }
+    ensures { λ r. ⌜ (r ≡ sidesAt layout channel * sideWidth (kindAt layout channel)) × (r ≤ 48) ⌝ }
+{
+    if rules::is_secondary(layout, channel) {
+        32
+    } else {
+        rules::groups(layout) * 6
+    }
+}
+
+pub fn channel_header(layout: Layout, channel: usize, factors: &[u8]) -> usize
+    requires { ⌜ Sizes layout ⌝ }
+    requires { ⌜ (channel < 16) × (length (now factors) ≡ 128) ⌝ }
+    ensures { λ r. ⌜ (r ≡ headerBits layout (now (factors .entry)) channel) × (r ≤ 819) ⌝ }
+{
+    let coded = coded_count(layout, channel);
+    let width = calculate_optimal_delta_length(factors, coded);
+    width.cost + side_bits(layout, channel)
+}
+
+// The part that no level or boundary changes.
+pub fn header_total(layout: Layout, factors: &[u8]) -> usize
+    requires { ⌜ Sizes layout ⌝ }
+    requires { ⌜ length (now factors) ≡ factorLength layout ⌝ }
+    ensures { λ r. ⌜ (r ≡ fixedBits layout (now (factors .entry))) × (r ≤ 13152) ⌝ }
+{
+    let channels = layout.channels;
+    let mut sum: usize = 0;
+    let mut c = 0;
+    while c < channels {
+        let f = c * 128;
+        sum += channel_header(layout, c, &factors[f..f + 128]);
+        c += 1;
+    }
+    48 + sum
+}
+
+pub fn spectral_total(
+    layout: Layout,
+    scaled: &[f32],
+    factors: &[u8],
+    level: usize,
+    boundary: usize,
+) -> usize
+    requires { ⌜ Sizes layout ⌝ }
+    requires { ⌜ (length (now scaled) ≡ spectrumLength layout) × (length (now factors) ≡ factorLength layout) ⌝ }
+    requires { ⌜ level ≤ 511 ⌝ }
+    ensures { λ r. ⌜ (r ≡ spectralBits layout (now (scaled .entry)) (now (factors .entry)) level boundary) × (r ≤ 196608) ⌝ }
+{
+    let channels = layout.channels;
+    let mut sum: usize = 0;
+    let mut c = 0;
+    while c < channels {
+        let coded = coded_count(layout, c);
+        let a = c * 1024;
+        let f = c * 128;
+        sum += channel_bits(
+            &scaled[a..a + 1024],
+            &factors[f..f + 128],
+            coded,
+            level,
+            boundary,
+        );
+        c += 1;
+    }
+    sum
+}
+
+// Whether a level and a boundary take more than 8F bits, the fixed part being known.
+pub fn is_over(
+    layout: Layout,
+    scaled: &[f32],
+    factors: &[u8],
+    fixed: usize,
+    level: usize,
+    boundary: usize,
+) -> bool
+    requires { ⌜ Sizes layout ⌝ }
+    requires { ⌜ (length (now scaled) ≡ spectrumLength layout) × (length (now factors) ≡ factorLength layout) ⌝ }
+    requires { ⌜ (fixed ≡ fixedBits layout (now factors)) × (fixed ≤ 13152) × (level ≤ 511) ⌝ }
+    ensures { λ r. ⌜ r ≡ exceeds layout (now (scaled .entry)) (now (factors .entry)) level boundary ⌝ }
+{
+    let available = 8 * layout.frame_size;
+    let used = fixed + spectral_total(layout, scaled, factors, level, boundary);
+    available < used
+}

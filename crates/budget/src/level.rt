@@ -1,0 +1,81 @@
+// Document 01, **Level**: the halving, and the removal of pairs of bands while there is no level.
+ghost use mathlib.Core.Path.{_≡_};
+ghost use Prim.Native.Nat.{_+_, _≤_, _<_};
+ghost use lib.ListN.{length};
+ghost use Rattle.rules.specs.Layout.{Sizes, spectrumLength, factorLength};
+ghost use Rattle.rules.specs.Estimate.{exceeds};
+ghost use Rattle.rules.specs.Level.{levelOf, clearTwo, clearPair};
+ghost use Rattle.rules.specs.Stage.{foundOf};
+use crate::estimate::header_total;
+use crate::estimate::is_over;
+use rules::Layout;
+
+// 255 says that there is none.
+pub fn binary_search_level(layout: Layout, scaled: &[f32], factors: &[u8]) -> usize
+    requires { ⌜ Sizes layout ⌝ }
+    requires { ⌜ (length (now scaled) ≡ spectrumLength layout) × (length (now factors) ≡ factorLength layout) ⌝ }
+    ensures { λ r. ⌜ (r ≡ levelOf (λ level. exceeds layout (now (scaled .entry)) (now (factors .entry)) level 0)) × (r ≤ 255) ⌝ }
+{
+    let fixed = header_total(layout, factors);
+    let mut low: usize = 0;
+    let mut high: usize = 255;
+    while low < high {
+        let mid = (low + high) / 2;
+        if is_over(layout, scaled, factors, fixed, mid, 0) {
+            low = mid + 1;
+        } else {
+            high = mid;
+        }
+    }
+    low
+}
+
+fn clear_two(factors: &mut [u8], band: usize)
+    requires { ⌜ (length (now factors) ≡ 128) × (band + 1 < 128) ⌝ }
+    ensures { λ _. ⌜ now (factors .exit) ≡ clearTwo (now (factors .entry)) band ⌝ }
+{
+    factors[band] = 0;
+    factors[band + 1] = 0;
+}
+
+// Two bands get factor 0 in every channel.
+pub fn clear_pair(layout: Layout, factors: &mut [u8], band: usize)
+    requires { ⌜ Sizes layout ⌝ }
+    requires { ⌜ (length (now factors) ≡ factorLength layout) × (band + 1 < 128) ⌝ }
+    ensures { λ _. ⌜ now (factors .exit) ≡ clearPair layout (now (factors .entry)) band ⌝ }
+{
+    let channels = layout.channels;
+    let mut c = 0;
+    while c < channels {
+        let f = c * 128;
+        clear_two(&mut factors[f..f + 128], band);
+        c += 1;
+    }
+}
+
+// The level, 255 where there is none, and the pairs removed.
+pub struct Removal {
+    pub level: usize,
+    pub pairs: usize,
+}
+
+// `top` is one above the highest band. The lowest one or two bands are never cleared.
+pub fn calculate_noise_level(layout: Layout, scaled: &[f32], factors: &mut [u8]) -> Removal
+    requires { ⌜ Sizes layout ⌝ }
+    requires { ⌜ (length (now scaled) ≡ spectrumLength layout) × (length (now factors) ≡ factorLength layout) ⌝ }
+    ensures { λ r. ⌜ (r .level ≡ foundOf layout (now (scaled .entry)) (now (factors .entry)) .level) × (r .pairs ≡ foundOf layout (now (scaled .entry)) (now (factors .entry)) .pairs) × (now (factors .exit) ≡ foundOf layout (now (scaled .entry)) (now (factors .entry)) .factors) × (r .level ≤ 255) ⌝ }
+{
+    let mut top = layout.base + layout.stereo;
+    let mut pairs: usize = 0;
+    let mut level = binary_search_level(layout, scaled, factors);
+    while 254 < level {
+        if top < 3 {
+            return Removal { level, pairs };
+        }
+        top -= 2;
+        clear_pair(layout, factors, top);
+        pairs += 1;
+        level = binary_search_level(layout, scaled, factors);
+    }
+    Removal { level, pairs }
+}

@@ -1,0 +1,133 @@
+-- `codes::quantize_spectra` meets its contract. The invariant: the first c channels are stored. Assumes nothing.
+use mathlib.Core.Path.{_∙_}
+use Prim.Native.Nat.{_≤_, _-_, _*_}
+use native.Mathlib.Omega.{arith}
+use borrow.Author.Needs.{needs}
+use Rattle.buffers.proofs.Build.{back-width}
+use Rattle.buffers.proofs.Blocks.{Blocked, blocked-none, blocked-more, blocked-exact}
+use Rattle.codes.proofs.Channels.{codesIn, codes-size, row-small, all-are}
+use Rattle.codes.proofs.quantize_spectra.Statement.{statement}
+use Rattle.codes.proofs.quantize_spectra.Tie as tie
+
+abbrev Inv-loop : tie.InvT-loop
+Inv-loop level boundary factors resolutions scaled codes₀ channels c₀ codes c = (c ≤ channels) × Blocked (codesIn resolutions scaled) 1024 codes₀ c codes
+
+abbrev μ-loop : tie.MeasureT-loop
+μ-loop level boundary factors resolutions scaled codes₀ channels c₀ codes c = channels - c
+
+loop-holds : tie.Need-loop-holds Inv-loop μ-loop
+loop-holds c = (search needs, blocked-none _ 1024 _)
+
+mul-a : tie.Need-mul-a Inv-loop μ-loop
+mul-a c = search needs
+
+mul-f : tie.Need-mul-f Inv-loop μ-loop
+mul-f c = search needs
+
+add-channel-codes : tie.Need-add-channel-codes Inv-loop μ-loop
+add-channel-codes c = search needs
+
+sub-channel-codes : tie.Need-sub-channel-codes Inv-loop μ-loop
+sub-channel-codes c = search needs
+
+part-channel-codes-start : tie.Need-part-channel-codes-start Inv-loop μ-loop
+part-channel-codes-start c = search needs
+
+part-channel-codes-end : tie.Need-part-channel-codes-end Inv-loop μ-loop
+part-channel-codes-end c = search needs
+
+add-channel-codes-2 : tie.Need-add-channel-codes-2 Inv-loop μ-loop
+add-channel-codes-2 c = search needs
+
+mul-channel-codes : tie.Need-mul-channel-codes Inv-loop μ-loop
+mul-channel-codes c = search needs
+
+sub-channel-codes-2 : tie.Need-sub-channel-codes-2 Inv-loop μ-loop
+sub-channel-codes-2 c = search needs
+
+part-channel-codes-start-2 : tie.Need-part-channel-codes-start-2 Inv-loop μ-loop
+part-channel-codes-start-2 c = search needs
+
+part-channel-codes-end-2 : tie.Need-part-channel-codes-end-2 Inv-loop μ-loop
+part-channel-codes-end-2 c = search needs
+
+add-channel-codes-3 : tie.Need-add-channel-codes-3 Inv-loop μ-loop
+add-channel-codes-3 c = search needs
+
+mul-channel-codes-2 : tie.Need-mul-channel-codes-2 Inv-loop μ-loop
+mul-channel-codes-2 c = search needs
+
+sub-channel-codes-3 : tie.Need-sub-channel-codes-3 Inv-loop μ-loop
+sub-channel-codes-3 c = search needs
+
+part-channel-codes-start-3 : tie.Need-part-channel-codes-start-3 Inv-loop μ-loop
+part-channel-codes-start-3 c = search needs
+
+part-channel-codes-end-3 : tie.Need-part-channel-codes-end-3 Inv-loop μ-loop
+part-channel-codes-end-3 c = search needs
+
+channel-codes-requires : tie.Need-channel-codes-requires Inv-loop μ-loop
+channel-codes-requires c κs =
+    let s = c .before .before .before .before in
+    let start = s .before .before .before .before in
+    let a = start .args in (
+      rw (back-width (s .loop .c * 128) 128)
+          (row-small (a .layout) (a .level) (a .boundary) (a .factors .now) (a .resolutions .now) (start .pre .1 .0) (s .loop .c) (c .before .before .before .loop-test .taken)),
+      search needs,
+    )
+
+add-c : tie.Need-add-c Inv-loop μ-loop
+add-c c = search needs
+
+loop-less : tie.Need-loop-less Inv-loop μ-loop
+loop-less c = search needs
+
+loop-again : tie.Need-loop-again Inv-loop μ-loop
+loop-again c =
+    let s = c .before .before .before .before .before .before in
+    let a = s .before .before .before .before .args in (
+      search needs,
+      blocked-more (codesIn (a .resolutions .now) (a .scaled .now)) 1024 (a .layout .channels) (a .codes .now) (λ i h. codes-size _ _) (s .loop .c) (s .loop .codes)
+          (c .before .before .before .before .before .loop-test .taken) (s .loop .inv .1) (c .before .channel-codes .last .1 .1 .0) (omega arith)
+          (c .before .channel-codes .ensures ∙ rw (back-width (s .loop .c * 1024) 1024, back-width (s .loop .c * 128) 128)),
+    )
+
+same-length : tie.Need-same-length Inv-loop μ-loop
+same-length c = c .before .loop .inv .1 .0
+
+returns : tie.Need-returns Inv-loop μ-loop
+returns c =
+    let start = c .before .before .before .before .before in
+    let a = start .args in
+    blocked-exact _ 1024 (a .codes .now) (c .before .loop .c) (a .layout .channels) _ (search needs) (search needs) (search needs) (c .before .loop .inv .1)
+    ∙ all-are (a .layout) (a .level) (a .boundary) (a .factors .now) (a .resolutions .now) (start .pre .1 .0) (a .scaled .now)
+
+pub quantize-spectra-spec : {M : Type 1} → statement M
+quantize-spectra-spec =
+    tie.close
+    (tie.spec
+    Inv-loop
+    μ-loop
+    loop-holds
+    mul-a
+    mul-f
+    add-channel-codes
+    sub-channel-codes
+    part-channel-codes-start
+    part-channel-codes-end
+    add-channel-codes-2
+    mul-channel-codes
+    sub-channel-codes-2
+    part-channel-codes-start-2
+    part-channel-codes-end-2
+    add-channel-codes-3
+    mul-channel-codes-2
+    sub-channel-codes-3
+    part-channel-codes-start-3
+    part-channel-codes-end-3
+    channel-codes-requires
+    add-c
+    loop-less
+    loop-again
+    same-length
+    returns)

@@ -1,0 +1,266 @@
+-- A channel's width, factors and side values, one way through the readers after the other; and the channels in their parts of the buffers.
+-- Assumes nothing.
+use mathlib.Core.Path.{_≡_, refl, sym, _∙_, ap, ap₂, subst}
+use mathlib.Core.List.{List, [], _∷_, _++_, append-nil}
+use mathlib.Core.Bool.{Bool, true, false, not, _&&_, _||_}
+use mathlib.Core.Logic.{⊎-elim}
+use Prim.Native.Nat.{ℕ, _+_, _-_, _*_, _≤_, _<_}
+use native.Mathlib.Nat.{suc-mul, mul-le-mul-right, eq-or-lt-of-le}
+use native.Mathlib.Numerals.{add-one}
+use native.Mathlib.Omega.{arith}
+use lib.Dec.{leb, eqb}
+use lib.ListN.{length, take, drop, getD, length-append, length-drop, drop-of-length-le}
+use lib.Seq.{take-at, drop-at, drop-cons, length-take-le}
+use Rattle.bits.specs.declared.Place.{Place}
+use Rattle.buffers.specs.Walk.{build}
+use Rattle.buffers.proofs.Build.{back-width, build-none, build-more, length-build, build-at}
+use Rattle.rules.specs.Format.{Read, ok, check, stay, each, times, number}
+use Rattle.rules.specs.Layout.{kindAt, kindsOf, codedAt, sidesAt, sideWidth, factorLength, sideLength, part}
+use Rattle.rules.specs.Width.{width}
+use Rattle.rules.specs.Record.{Chan, Rec, chanOf, pad, noChan, storeFactors, storeSide}
+use Rattle.rules.specs.Reading.{readFactors, readWidth, readChannel}
+use Rattle.rules.specs.declared.Layout.{Layout}
+use Rattle.rules.proofs.Cuts.{build-same, blocks-same, part-of-front, parts-all}
+use Rattle.headers.specs.declared.Fault.{Fault}
+use Rattle.headers.specs.declared.Value.{Value}
+use Rattle.headers.specs.declared.Value.the-variants as value
+use Rattle.headers.specs.declared.Step.{Step}
+use Rattle.headers.specs.declared.Step.the-variants as step
+use Rattle.headers.specs.Answers.{leftAt, leftOver, Told, Row, Stored, stepOf, chanIn, StoredChannel, Rows, StoredChannels}
+use Rattle.headers.proofs.Answered.{Hands, told-of, left-over, check-cut, check-yes, check-no}
+use Rattle.headers.proofs.Walks.{onto, onto-nil, walk-turn, walk-stop}
+
+-- A REFUSAL ends what would be stored
+pub stored-cut : {s : List ℕ} {x : Read ℕ} {y : Read (List ℕ)} {m n k : ℕ} {xs : List ℕ} {r : Value} {f : Fault} {o : Step} → r ≡ value.Refused f → Told s x m r → Hands x y
+    → o ≡ stepOf r → Stored s y n k xs o
+stored-cut {s} {y} {n} {k} {xs} {f} e t h z =
+    let w = told-of e t in
+    subst (λ o. Stored s y n k xs o) (sym (z ∙ ap stepOf e))
+    (record { done = record { is = h (f .number) (leftOver s (f .at)) (w .is); within = w .within; numbered = w .small }; row = tt })
+
+pub stored-of : {s : List ℕ} {x : Read (List ℕ)} {n k : ℕ} {xs : List ℕ} {r r′ : Step} → r ≡ r′ → Stored s x n k xs r → Stored s x n k xs r′
+stored-of {s} {x} {n} {k} {xs} e t = subst (λ z. Stored s x n k xs z) e t
+
+pub twice-not : (b : Bool) → not (not b) ≡ b
+twice-not true = refl
+twice-not false = refl
+
+-- THE WIDTH, then the factors, then whether it is the chosen one
+module _ (s : List ℕ) (at n : ℕ) where
+  pub width-cut : Hands (number 3 (leftAt s at)) (readWidth n (leftAt s at))
+  width-cut k j e = rw e refl
+
+  module _ {w : ℕ} {q : Place} {m : ℕ} (h : at ≤ 8 * length s) (t : Told s (number 3 (leftAt s at)) m (value.Of w q)) where
+    pub width-no : {xs : List ℕ} → (leb w 6 && (leb 1 n || eqb w 0)) ≡ false → Stored s (readWidth n (leftAt s at)) n 128 xs (step.Refused (record { number = 11; at = at }))
+    width-no e = record { done = record { is = rw (t .is, e, left-over s at) refl; within = h; numbered = (omega arith, omega arith) }; row = tt }
+
+    module _ (e : (leb w 6 && (leb 1 n || eqb w 0)) ≡ true) where
+      -- what is left to do
+      width-go : readWidth n (leftAt s at) ≡ check 11 (leftOver s at) (λ fs. eqb (width fs) w) (readFactors w n) (leftAt s (q .at))
+      width-go = rw (t .is, e, left-over s at) refl
+
+      pub width-stop : {xs : List ℕ} {r : Step} {f : Fault} → r ≡ step.Refused f → Stored s (readFactors w n (leftAt s (q .at))) n 128 xs r → Stored s (readWidth n (leftAt s at)) n 128 xs r
+      width-stop {r} {f} i u =
+          let v = stored-of i u in
+          stored-of (sym i)
+          (record {
+            done = record {
+              is = width-go ∙ check-cut (readFactors w n) (leftAt s (q .at)) 11 (leftOver s at) (λ fs. eqb (width fs) w) (f .number) (leftOver s (f .at)) (v .done .is);
+              within = v .done .within;
+              numbered = v .done .numbered;
+            };
+            row = tt;
+          })
+
+      pub width-wrong : {xs : List ℕ} {o : Place} → Stored s (readFactors w n (leftAt s (q .at))) n 128 xs (step.At o) → eqb (width (take n xs)) w ≡ false
+          → Stored s (readWidth n (leftAt s at)) n 128 xs (step.Refused (record { number = 11; at = at }))
+      width-wrong u i = record {
+        done = record { is = width-go ∙ check-no (readFactors w n) (leftAt s (q .at)) 11 (leftOver s at) (λ fs. eqb (width fs) w) (u .done .is) i; within = h; numbered = (omega arith, omega arith) };
+        row = tt;
+      }
+
+      pub width-right : {xs : List ℕ} {o : Place} → Stored s (readFactors w n (leftAt s (q .at))) n 128 xs (step.At o) → eqb (width (take n xs)) w ≡ true
+          → Stored s (readWidth n (leftAt s at)) n 128 xs (step.At o)
+      width-right u i = record {
+        done = record {
+          is = width-go ∙ check-yes (readFactors w n) (leftAt s (q .at)) 11 (leftOver s at) (λ fs. eqb (width fs) w) (u .done .is) i;
+          within = u .done .within;
+          numbered = tt;
+        };
+        row = u .row;
+      }
+
+-- A CHANNEL: n and k are its counts, and w is the width of its side values
+abbrev pub Whole : Layout → ℕ → List ℕ → ℕ → List ℕ → List ℕ → Step → Type 0
+Whole l c s at F S r = StoredChannel s (readChannel l (kindAt l c) (leftAt s at)) (codedAt l c) (sidesAt l c) F S r
+
+module _ (l : Layout) (c : ℕ) (s : List ℕ) (at : ℕ) {n : ℕ} (counts : n ≡ codedAt l c) {F : List ℕ} {o : Step} (t : Stored s (readWidth n (leftAt s at)) n 128 F o) where
+  -- the factors, of the coded count itself
+  coded : {o′ : Step} → o ≡ o′ → Stored s (readWidth (codedAt l c) (leftAt s at)) (codedAt l c) 128 F o′
+  coded {o′} e = subst (λ m. Stored s (readWidth m (leftAt s at)) m 128 F o′) counts (stored-of e t)
+
+  pub channel-cut : {S : List ℕ} {f : Fault} → o ≡ step.Refused f → Whole l c s at F S o
+  unfolding codedAt sidesAt
+  channel-cut {S} e =
+      let v = coded e in
+      subst (Whole l c s at F S) (sym e) (record { done = record { is = rw (v .done .is) refl; within = v .done .within; numbered = v .done .numbered }; rows = tt })
+
+  module _ {S : List ℕ} {q : Place} (e : o ≡ step.At q) where
+    sides : (r : Step) → Stored s (each (λ _. number (sideWidth (kindAt l c))) (times (sidesAt l c)) (leftAt s (q .at))) (sidesAt l c) 8 S r → Whole l c s at F S r
+    unfolding codedAt sidesAt
+    sides (step.At _) u = record { done = record { is = rw (coded e .done .is, u .done .is) refl; within = u .done .within; numbered = tt }; rows = (coded e .row, u .row) }
+    sides (step.Refused f) u = record { done = record { is = rw (coded e .done .is, u .done .is) refl; within = u .done .within; numbered = u .done .numbered }; rows = tt }
+
+    pub channel-stored : {k w : ℕ} → k ≡ sidesAt l c → w ≡ sideWidth (kindAt l c) → (r : Step) → Stored s (each (λ _. number w) (times k) (leftAt s (q .at))) k 8 S r
+        → Whole l c s at F S r
+    channel-stored {w} i j r u =
+        sides r
+        (subst (λ v. Stored s (each (λ _. number v) (times (sidesAt l c)) (leftAt s (q .at))) (sidesAt l c) 8 S r) j
+        (subst (λ m. Stored s (each (λ _. number w) (times m) (leftAt s (q .at))) m 8 S r) i u))
+
+-- A PART of a buffer of n rows of k, put back as ys
+abbrev back : ℕ → ℕ → List ℕ → List ℕ → List ℕ
+back k c xs ys = take (c * k) xs ++ (ys ++ drop (c * k + k - c * k) (drop (c * k) xs))
+
+module _ (k n c : ℕ) (xs ys : List ℕ) (l : length xs ≡ n * k) (h : c < n) (y : length ys ≡ k) where
+  row-ends : c * k + k ≤ n * k
+  row-ends = omega (arith, mul-le-mul-right k h, suc-mul c k)
+
+  front : length (take (c * k) xs) ≡ c * k
+  front = length-take-le (c * k) xs (omega (arith, row-ends))
+
+  pub back-length : length (back k c xs ys) ≡ n * k
+  back-length = rw (back-width (c * k) k) (simp (length-append, length-drop) (omega (arith, front, row-ends)))
+
+  back-new : part k (back k c xs ys) c ≡ ys
+  back-new = rw (drop-at (take (c * k) xs) (ys ++ drop (c * k + k - c * k) (drop (c * k) xs)) (c * k) front) (take-at ys (drop (c * k + k - c * k) (drop (c * k) xs)) k y)
+
+  back-old : (i : ℕ) → i < c → part k (back k c xs ys) i ≡ part k xs i
+  back-old i g =
+      sym (part-of-front k c i (back k c xs ys) g)
+      ∙ ap (λ z. part k z i) (take-at (take (c * k) xs) (ys ++ drop (c * k + k - c * k) (drop (c * k) xs)) (c * k) front)
+      ∙ part-of-front k c i xs g
+
+-- ALL CHANNELS: c of them are read, each in its part
+pub record Reading (l : Layout) (s : List ℕ) (x : Read (List Chan)) (c at : ℕ) (F S : List ℕ) : Type 0 where
+  pub below : c ≤ l .channels
+  pub within : at ≤ 8 * length s
+  pub factors-long : length F ≡ factorLength l
+  pub side-long : length S ≡ sideLength l
+  pub rows : Rows l F S c
+  pub is : x ≡ onto (build (chanOf l F S) c) (each (readChannel l) (drop c (kindsOf l)) (leftAt s at))
+
+kinds-next : (l : Layout) (c : ℕ) → c < l .channels → drop c (kindsOf l) ≡ kindAt l c ∷ drop (c + 1) (kindsOf l)
+unfolding kindsOf
+kinds-next l c h =
+    drop-cons (build (kindAt l) (l .channels)) c (kindAt l c) (omega (arith, length-build (kindAt l) (l .channels)))
+    ∙ ap₂ (λ k m. k ∷ drop m (build (kindAt l) (l .channels))) (build-at (kindAt l) (l .channels) c (kindAt l c) h) (sym (add-one c))
+
+kinds-end : (l : Layout) (c : ℕ) → l .channels ≤ c → drop c (kindsOf l) ≡ []
+unfolding kindsOf
+kinds-end l c h =
+    let z : length (build (kindAt l) (l .channels)) ≤ c = omega (arith, length-build (kindAt l) (l .channels)) in
+    drop-of-length-le (build (kindAt l) (l .channels)) z
+
+module _ (l : Layout) (s : List ℕ) where
+  pub reading-none : (at : ℕ) (F S : List ℕ) → at ≤ 8 * length s → length F ≡ factorLength l → length S ≡ sideLength l
+      → Reading l s (each (readChannel l) (kindsOf l) (leftAt s at)) 0 at F S
+  reading-none at F S h f g = record {
+    below = omega arith;
+    within = h;
+    factors-long = f;
+    side-long = g;
+    rows = λ c i. absurd (omega arith);
+    is = rw (build-none (chanOf l F S), onto-nil (each (readChannel l) (kindsOf l) (leftAt s at))) refl;
+  }
+
+  module _ {x : Read (List Chan)} {c at : ℕ} {F S : List ℕ} (w : Reading l s x c at F S) where
+    pub reading-all : (q : Place) → q .at ≡ at → l .channels ≤ c → StoredChannels l s x F S (step.At q)
+    reading-all q e h =
+        let z : c ≡ l .channels = omega (arith, w .below) in
+        record {
+          done = record {
+            is = w .is ∙ rw (kinds-end l c h) (ap₂ (λ a b. ok a (leftAt s b)) (append-nil (build (chanOf l F S) c) ∙ ap (build (chanOf l F S)) z) (sym e));
+            within = omega (arith, w .within);
+            numbered = tt;
+          };
+          rows = λ i g. w .rows i (omega arith);
+        }
+
+    module _ (h : c < l .channels) where
+      pub reading-stop : {ys zs : List ℕ} {r : Step} {f : Fault} → r ≡ step.Refused f → Whole l c s at ys zs r
+          → {A B : List ℕ} → StoredChannels l s x A B r
+      reading-stop {ys} {zs} {r} {f} e t {A} {B} =
+          let v = subst (Whole l c s at ys zs) e t in
+          subst (λ z. StoredChannels l s x A B z) (sym e)
+          (record {
+            done = record {
+              is = w .is ∙ rw (kinds-next l c h)
+                  (walk-stop stay (λ _. readChannel l) (build (chanOf l F S) c) tt (kindAt l c) (drop (c + 1) (kindsOf l)) (leftAt s at) (f .number) (leftOver s (f .at)) (v .done .is));
+              within = v .done .within;
+              numbered = v .done .numbered;
+            };
+            rows = tt;
+          })
+
+      module _ (ys zs : List ℕ) (fl : length ys ≡ 128) (sl : length zs ≡ 8) {q : Place} {r : Step} (z : r ≡ step.At q)
+          (told : Whole l c s at ys zs r) where
+        t : Whole l c s at ys zs (step.At q)
+        t = subst (Whole l c s at ys zs) z told
+
+        new-f : part 128 (back 128 c F ys) c ≡ ys
+        new-f = back-new 128 (l .channels) c F ys (w .factors-long) h fl
+
+        new-s : part 8 (back 8 c S zs) c ≡ zs
+        new-s = back-new 8 (l .channels) c S zs (w .side-long) h sl
+
+        old-f : (i : ℕ) → i < c → part 128 (back 128 c F ys) i ≡ part 128 F i
+        old-f i g = back-old 128 (l .channels) c F ys (w .factors-long) h fl i g
+
+        old-s : (i : ℕ) → i < c → part 8 (back 8 c S zs) i ≡ part 8 S i
+        old-s i g = back-old 8 (l .channels) c S zs (w .side-long) h sl i g
+
+        chans : build (chanOf l (back 128 c F ys) (back 8 c S zs)) (c + 1) ≡ build (chanOf l F S) c ++ (chanIn (codedAt l c) (sidesAt l c) ys zs ∷ [])
+        chans =
+            build-more (chanOf l (back 128 c F ys) (back 8 c S zs)) c
+            ∙ ap₂ (λ xs x. xs ++ (x ∷ []))
+            (build-same (chanOf l (back 128 c F ys) (back 8 c S zs)) (chanOf l F S) c (λ i g. ap₂ (chanIn (codedAt l i) (sidesAt l i)) (old-f i g) (old-s i g)))
+            (ap₂ (chanIn (codedAt l c) (sidesAt l c)) new-f new-s)
+
+        rows′ : (i : ℕ) → i < c + 1 → Row (codedAt l i) 128 (part 128 (back 128 c F ys) i) × Row (sidesAt l i) 8 (part 8 (back 8 c S zs) i)
+        rows′ i g =
+            ⊎-elim
+            (λ (e : i ≡ c). rw (e, new-f, new-s) (t .rows))
+            (λ (e : i < c). rw (old-f i e, old-s i e) (w .rows i e))
+            (eq-or-lt-of-le (omega arith))
+
+        pub reading-more : Reading l s x (c + 1) (q .at) (back 128 c F ys) (back 8 c S zs)
+        reading-more = record {
+          below = omega arith;
+          within = t .done .within;
+          factors-long = back-length 128 (l .channels) c F ys (w .factors-long) h fl;
+          side-long = back-length 8 (l .channels) c S zs (w .side-long) h sl;
+          rows = rows′;
+          is = w .is ∙ rw (kinds-next l c h)
+              (walk-turn stay (λ _. readChannel l) (build (chanOf l F S) c) tt (kindAt l c) (drop (c + 1) (kindsOf l)) (leftAt s at) (chanIn (codedAt l c) (sidesAt l c) ys zs) (leftAt s (q .at)) (t .done .is)
+              ∙ ap (λ d. onto d (each (readChannel l) (drop (c + 1) (kindsOf l)) (leftAt s (q .at)))) (sym chans));
+        }
+
+-- THE BUFFERS hold what the record with these channels is stored as
+module _ (l : Layout) (F S : List ℕ) (h : Rows l F S (l .channels)) (r : Rec) (e : r .chans ≡ build (chanOf l F S) (l .channels)) where
+  chan-at : (c : ℕ) → c < l .channels → getD (r .chans) c noChan ≡ chanOf l F S c
+  chan-at c g = rw e (build-at (chanOf l F S) (l .channels) c noChan g)
+
+  pub holds-factors : length F ≡ factorLength l → storeFactors l r ≡ F
+  unfolding storeFactors
+  holds-factors z =
+      blocks-same (λ c. pad 0 128 ((getD (r .chans) c noChan) .factors)) (part 128 F) (l .channels)
+      (λ c g. ap (λ x. pad 0 128 (x .factors)) (chan-at c g) ∙ sym (h c g .0 .padded))
+      ∙ parts-all 128 (l .channels) F z
+
+  pub holds-side : length S ≡ sideLength l → storeSide l r ≡ S
+  unfolding storeSide
+  holds-side z =
+      blocks-same (λ c. pad 0 8 ((getD (r .chans) c noChan) .side)) (part 8 S) (l .channels)
+      (λ c g. ap (λ x. pad 0 8 (x .side)) (chan-at c g) ∙ sym (h c g .1 .padded))
+      ∙ parts-all 8 (l .channels) S z

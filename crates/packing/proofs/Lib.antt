@@ -1,0 +1,4 @@
+pub mod Walks
+pub mod Codes
+pub mod Rows
+pub mod Frames

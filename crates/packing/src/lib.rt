@@ -1,0 +1,84 @@
+// Document 01, **Frame** and **Check**: a record's frame, written into a lent buffer.
+ghost use mathlib.Core.Path.{_≡_};
+ghost use mathlib.Core.Bool.{cond};
+ghost use Prim.Native.Nat.{_*_, _≤_};
+ghost use lib.Dec.{ltb};
+ghost use lib.ListN.{length, replicate};
+ghost use Rattle.bits.specs.Place.{Writes};
+ghost use Rattle.rules.specs.Layout.{Sizes, frameSize};
+ghost use Rattle.rules.specs.Record.{recOf};
+ghost use Rattle.rules.specs.Resolution.{allResolutions};
+ghost use Rattle.rules.specs.Fields.{fields};
+ghost use Rattle.rules.specs.Frame.{payload, frameOf};
+use self::header::write_channels;
+use self::header::write_head;
+use self::spectra::write_codes;
+use bits::Place;
+use buffers::clear_u8;
+use crc::seal;
+use rules::Layout;
+
+pub mod header;
+pub mod spectra;
+
+// All fields, from the first bit on; how many bits they are.
+fn write_fields(
+    layout: Layout,
+    level: usize,
+    boundary: usize,
+    factors: &[u8],
+    side: &[u8],
+    codes: &[i32],
+    resolutions: &[u8],
+    bytes: &mut [u8],
+) -> usize
+    requires { ⌜ Sizes layout ⌝ }
+    requires { ⌜ (level ≤ 511) × (boundary ≤ 127) ⌝ }
+    requires { ⌜ (length (now factors) ≡ layout .channels * 128) × (length (now side) ≡ layout .channels * 8) × (length (now codes) ≡ layout .channels * 1024) ⌝ }
+    requires { ⌜ now resolutions ≡ allResolutions layout level boundary (now factors) ⌝ }
+    ensures { λ r. ⌜ Writes (now (bytes .entry)) 0 (fields layout (recOf layout level boundary (now (factors .entry)) (now (side .entry)) (now (codes .entry)))) (now (bytes .exit)) r ⌝ }
+{
+    let start = Place { at: 0 };
+    let head = write_head(start, bytes, level, boundary);
+    let next = write_channels(head, bytes, layout, factors, side);
+    let end = write_codes(next, bytes, layout, resolutions, codes);
+    end.at
+}
+
+// The record's frame, sealed; zeros where its fields pass the payload's end. Answers how many bits the fields are.
+pub fn pack_frame(
+    layout: Layout,
+    level: usize,
+    boundary: usize,
+    factors: &[u8],
+    side: &[u8],
+    codes: &[i32],
+    resolutions: &[u8],
+    frame: &mut [u8],
+) -> usize
+    requires { ⌜ Sizes layout ⌝ }
+    requires { ⌜ (level ≤ 511) × (boundary ≤ 127) ⌝ }
+    requires { ⌜ (length (now factors) ≡ layout .channels * 128) × (length (now side) ≡ layout .channels * 8) × (length (now codes) ≡ layout .channels * 1024) ⌝ }
+    requires { ⌜ (now resolutions ≡ allResolutions layout level boundary (now factors)) × (length (now frame) ≡ frameSize layout) ⌝ }
+    ensures bits { λ r. ⌜ r ≡ length (fields layout (recOf layout level boundary (now (factors .entry)) (now (side .entry)) (now (codes .entry)))) ⌝ }
+    ensures stored { λ r. ⌜ now (frame .exit) ≡ cond (ltb (payload layout) r) (replicate (frameSize layout) 0) (frameOf layout (recOf layout level boundary (now (factors .entry)) (now (side .entry)) (now (codes .entry)))) ⌝ }
+{
+    clear_u8(frame);
+    let end = layout.frame_size - 2;
+    let count = write_fields(
+        layout,
+        level,
+        boundary,
+        factors,
+        side,
+        codes,
+        resolutions,
+        &mut frame[..end],
+    );
+    if 8 * end < count {
+        clear_u8(frame);
+        return count;
+    }
+    seal(frame);
+    count
+}
