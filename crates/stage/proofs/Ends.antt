@@ -1,0 +1,106 @@
+-- How the stage ends, on buffers of the stated lengths and on longer ones. Assumes nothing.
+use mathlib.Core.Path.{_≡_, refl, sym, ap, _∙_}
+use mathlib.Core.List.{List, _++_}
+use mathlib.Core.Bool.{Bool, true, false, cond}
+use Prim.Native.Nat.{ℕ, _≤_, _<_}
+use borrow.Author.Tests.{lt-ltb, le-ltb}
+use lib.Dec.{ltb}
+use lib.IntN.{ℤ}
+use lib.Ieee.{Float}
+use lib.ListN.{length, drop}
+use Rattle.rules.specs.Layout.{frameSize, spectrumLength, factorLength, sideLength}
+use Rattle.rules.specs.Factor.{allFactors}
+use Rattle.rules.specs.Scaling.{allScaled}
+use Rattle.rules.specs.Hfr.{allSide}
+use Rattle.rules.specs.Record.{recOf}
+use Rattle.rules.specs.Fields.{fields}
+use Rattle.rules.specs.Frame.{payload, frameOf}
+use Rattle.rules.specs.Refusals.{Outcome, refused, stageNumber}
+use Rattle.rules.specs.Stage.{Lent, Left, Made, noFloats, noCodes, noFactors, noSide, noFrame, foundOf, boundaryFor, made, madeRecord, finished, settled, stageLeft, stageLent}
+use Rattle.rules.specs.declared.Layout.{Layout}
+use Rattle.rules.specs.declared.StageAnswer.{StageAnswer}
+use Rattle.rules.specs.declared.StageAnswer.the-variants.{Delivered}
+use Rattle.rules.proofs.Made.{made-boundary}
+use Rattle.stage.specs.Ended.{Delivers, foundAs, madeOf, blank, sent, ended, over}
+
+under : {A B : Type 0} (f : A → B) (t : Bool) {a b : A} {x y : B} → f a ≡ x → f b ≡ y → f (cond t a b) ≡ cond t x y
+under f true p q = p
+under f false p q = q
+
+-- ---- from the level on
+
+module _ (l : Layout) (level b pairs n : ℕ) (sc : List Float) (fa si : List ℕ) (co : List ℤ) (fr : List ℕ)
+    (d : Delivers l level b sc fa si n co fr) (q : b ≡ boundaryFor l sc (foundAs level pairs fa)) where
+  abbrev m : Made
+  m = madeOf l sc si (foundAs level pairs fa)
+
+  is-record : recOf l level b fa si co ≡ madeRecord l m
+  unfolding madeRecord
+  is-record = rw (d .coded, q)
+
+  is-bits : n ≡ length (fields l (madeRecord l m))
+  is-bits = d .bits ∙ ap (λ r. length (fields l r)) is-record
+
+  -- refusal 7
+  pub sent-over : (x : Left) → payload l < n → x ≡ blank l (refused 7 0) → x ≡ sent l m
+  unfolding sent
+  sent-over x h e = e ∙ rw (ap (ltb (payload l)) (sym is-bits) ∙ lt-ltb (payload l) n h)
+
+  pub sent-fits : n ≤ payload l → stageLeft (Delivered level b pairs n) sc co fa si fr ≡ sent l m
+  unfolding sent stageNumber
+  sent-fits h =
+      let e : fr ≡ frameOf l (madeRecord l m) = d .stored ∙ rw (le-ltb (payload l) n h) (ap (frameOf l) is-record) in
+      rw (ap (ltb (payload l)) (sym is-bits) ∙ le-ltb (payload l) n h, is-bits, e, d .coded, q)
+
+-- ---- the whole, from what `prepare` and the search of the level leave
+
+pub record Searched (l : Layout) (xs : List Float) (is : List ℕ) (sc : List Float) (si : List ℕ) (n k : ℕ) (fa : List ℕ) : Type 0 where
+  pub scaled : sc ≡ allScaled l xs (allFactors l xs)
+  pub side : si ≡ allSide l xs (allScaled l xs (allFactors l xs)) is
+  pub level : n ≡ foundOf l (allScaled l xs (allFactors l xs)) (allFactors l xs) .level
+  pub pairs : k ≡ foundOf l (allScaled l xs (allFactors l xs)) (allFactors l xs) .pairs
+  pub factors : fa ≡ foundOf l (allScaled l xs (allFactors l xs)) (allFactors l xs) .factors
+
+pub found-same : (l : Layout) {sc sc′ : List Float} {fa fa′ : List ℕ} → sc ≡ sc′ → fa ≡ fa′ → foundOf l sc fa ≡ foundOf l sc′ fa′
+found-same l p q = rw (p, q)
+
+module _ (l : Layout) (xs : List Float) (is : List ℕ) (sc : List Float) (si : List ℕ) (level pairs : ℕ) (fa : List ℕ)
+    (w : Searched l xs is sc si level pairs fa) (x : Left) where
+  made-is : madeOf l sc si (foundAs level pairs fa) ≡ made l xs is
+  unfolding made
+  made-is = rw (w .scaled, w .side, w .level, w .pairs, w .factors)
+
+  -- refusal 5
+  pub ended-none : 254 < level → x ≡ blank l (refused 5 pairs) → x ≡ ended l (made l xs is)
+  unfolding ended
+  ended-none h e = e ∙ rw (← made-is, lt-ltb 254 level h)
+
+  pub ended-sent : level ≤ 254 → x ≡ sent l (madeOf l sc si (foundAs level pairs fa)) → x ≡ ended l (made l xs is)
+  unfolding ended
+  ended-sent h e = e ∙ rw (← made-is, le-ltb 254 level h)
+
+-- zeros in all buffers
+pub left-blank : (l : Layout) (r : StageAnswer) (o : Outcome) (sc : List Float) (co : List ℤ) (fa si fr : List ℕ) → stageNumber r ≡ o
+    → sc ≡ noFloats l → co ≡ noCodes l → fa ≡ noFactors l → si ≡ noSide l → fr ≡ noFrame l → stageLeft r sc co fa si fr ≡ blank l o
+left-blank l r o sc co fa si fr e p q s t u = rw (e, p, q, s, t, u)
+
+-- ---- longer buffers
+
+-- `settled` lays what is left over what was lent
+pub settled-over : (l : Layout) (t : Lent) (xs : List Float) (is : List ℕ) → over t (ended l (made l xs is)) ≡ settled l t (made l xs is)
+unfolding ended sent settled finished
+settled-over l t xs is =
+    let m = made l xs is in
+    rw (le-ltb 127 (m .boundary) (made-boundary l xs is))
+    (under (over t) (ltb 254 (m .found .level)) refl
+    (under (over t) (ltb (payload l) (length (fields l (madeRecord l m)))) refl refl))
+
+-- the parts are back in their wholes
+pub opened : (l : Layout) (r : StageAnswer) (xs : List Float) (is : List ℕ) (ys : List Float) (js : List ℕ)
+    (sc₀ : List Float) (co₀ : List ℤ) (fa₀ si₀ fr₀ : List ℕ) (sc : List Float) (co : List ℤ) (fa si fr : List ℕ)
+    → length sc ≡ spectrumLength l → length co ≡ spectrumLength l → length fa ≡ factorLength l → length si ≡ sideLength l → length fr ≡ frameSize l
+    → stageLeft r sc co fa si fr ≡ ended l (made l ys js)
+    → stageLeft r (sc ++ drop (spectrumLength l) sc₀) (co ++ drop (spectrumLength l) co₀) (fa ++ drop (factorLength l) fa₀) (si ++ drop (sideLength l) si₀) (fr ++ drop (frameSize l) fr₀)
+    ≡ settled l (stageLent xs is sc₀ co₀ fa₀ si₀ fr₀) (made l ys js)
+opened l r xs is ys js sc₀ co₀ fa₀ si₀ fr₀ sc co fa si fr p q s t u e =
+    (rw (p, q, s, t, u) at (ap (over (stageLent xs is sc₀ co₀ fa₀ si₀ fr₀)) e)) ∙ settled-over l (stageLent xs is sc₀ co₀ fa₀ si₀ fr₀) ys js

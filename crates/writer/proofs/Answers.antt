@@ -1,0 +1,136 @@
+-- How the record writer comes to each of its answers, layer by layer. Assumes nothing.
+use mathlib.Core.Path.{_≡_, sym, ap, _∙_}
+use mathlib.Core.List.{List, _++_, append-nil}
+use mathlib.Core.Bool.{Bool, true, false, cond, not}
+use Prim.Native.Nat.{ℕ, _*_, _≤_, _<_}
+use native.Mathlib.Omega.{arith}
+use borrow.Author.Tests.{le-leb, leb-true, lt-ltb, le-ltb}
+use lib.Dec.{leb, ltb}
+use lib.IntN.{ℤ}
+use lib.ListN.{length, take, drop, replicate, length-replicate, take-append-drop, drop-of-length-le}
+use lib.Seq.{length-take-le}
+use Rattle.buffers.proofs.Tests.{and-fst, and-snd, not-true-false}
+use Rattle.rules.specs.Layout.{Sizes, frameSize, spectrumLength, factorLength, sideLength, legalLayout}
+use Rattle.rules.specs.Record.{Rec, recOf, legalRecord}
+use Rattle.rules.specs.Fields.{fields}
+use Rattle.rules.specs.Frame.{payload, frameOf}
+use Rattle.rules.specs.Refusals.{Outcome, writeNumber}
+use Rattle.rules.specs.Stage.{laid, noFrame, FrameLeft, recordLent, frameLeft, writeRoom, lentRecord, written}
+use Rattle.rules.specs.declared.Layout.{Layout}
+use Rattle.rules.specs.declared.WriteAnswer.{WriteAnswer}
+use Rattle.rules.specs.declared.WriteAnswer.the-variants.{Delivered, BadLayout, ShortBuffer, NotLegal, TooLong}
+use Rattle.rules.proofs.Stores.{record-front, legal-front}
+use Rattle.rules.proofs.Demand3.{frame-length}
+use Rattle.writer.specs.declared.Room.{Room}
+use Rattle.writer.specs.Write.{roomFor, roomOf, Enough, opened}
+
+-- ---- room
+
+module _ (l : Layout) (r : Room) where
+  pub room-true : Enough l r → roomFor l r ≡ true
+  unfolding roomFor
+  room-true h = rw (le-leb _ _ (h .factors), le-leb _ _ (h .side), le-leb _ _ (h .codes), le-leb _ _ (h .frame))
+
+  pub room-facts : roomFor l r ≡ true → Enough l r
+  unfolding roomFor
+  room-facts e₁ =
+      let e₂ = and-snd (leb (factorLength l) (r .factors)) _ e₁ in
+      let e₃ = and-snd (leb (sideLength l) (r .side)) _ e₂ in
+      record {
+        factors = leb-true _ _ (and-fst (leb (factorLength l) (r .factors)) _ e₁);
+        side = leb-true _ _ (and-fst (leb (sideLength l) (r .side)) _ e₂);
+        codes = leb-true _ _ (and-fst (leb (spectrumLength l) (r .codes)) _ e₃);
+        frame = leb-true _ _ (and-snd (leb (spectrumLength l) (r .codes)) _ e₃);
+      }
+
+  pub room-false : (Enough l r → ⊥) → roomFor l r ≡ false
+  room-false h = not-true-false (roomFor l r) (λ e. h (room-facts e))
+
+-- ---- the gate
+
+module _ (l : Layout) (level boundary : ℕ) (F S : List ℕ) (C : List ℤ) (frame : List ℕ) where
+  pub gate-layout : legalLayout l ≡ false → frameLeft BadLayout frame ≡ written l (recordLent level boundary F S C frame)
+  unfolding written writeNumber
+  gate-layout e = rw e
+
+  module _ (e : legalLayout l ≡ true) where
+    pub gate-short : roomFor l (roomOf (length F) (length S) (length C) (length frame)) ≡ false → frameLeft ShortBuffer frame ≡ written l (recordLent level boundary F S C frame)
+    unfolding written writeNumber writeRoom roomFor
+    gate-short h = rw (e, h)
+
+    pub gate-open : roomFor l (roomOf (length F) (length S) (length C) (length frame)) ≡ true → opened l (recordLent level boundary F S C frame) ≡ written l (recordLent level boundary F S C frame)
+    unfolding written writeRoom roomFor opened
+    gate-open h = rw (e, h)
+
+-- ---- the run, on a frame of the stated length
+
+laid-exact : (new old : List ℕ) → length old ≤ length new → laid new old ≡ new
+laid-exact new old h = rw (drop-of-length-le old h, append-nil new)
+
+blank-length : (l : Layout) → length (noFrame l) ≡ frameSize l
+blank-length l = length-replicate (frameSize l) 0
+
+module _ (l : Layout) (level boundary : ℕ) (F S : List ℕ) (C : List ℤ) (frame : List ℕ) where
+  abbrev rec : Rec
+  rec = recOf l level boundary F S C
+
+  pub run-illegal : legalRecord l level boundary F S C ≡ false → frameLeft NotLegal frame ≡ opened l (recordLent level boundary F S C frame)
+  unfolding opened writeNumber
+  run-illegal e = rw e
+
+  -- what the packer answers and leaves
+  module _ (z : Sizes l) (n : length frame ≡ frameSize l) (e : legalRecord l level boundary F S C ≡ true)
+      (count : ℕ) (bits : count ≡ length (fields l rec)) (left : List ℕ)
+      (stored : left ≡ cond (ltb (payload l) count) (replicate (frameSize l) 0) (frameOf l rec)) where
+    pub run-long : payload l < count → frameLeft TooLong left ≡ opened l (recordLent level boundary F S C frame)
+    unfolding opened writeNumber lentRecord
+    run-long h =
+        let is : left ≡ laid (noFrame l) frame = stored ∙ rw (lt-ltb _ _ h) (sym (laid-exact (noFrame l) frame (omega (arith, blank-length l)))) in
+        rw (e, ← bits, lt-ltb _ _ h, is)
+
+    pub run-done : count ≤ payload l → frameLeft (Delivered level boundary count) left ≡ opened l (recordLent level boundary F S C frame)
+    unfolding opened writeNumber lentRecord
+    run-done h =
+        let is : left ≡ laid (frameOf l rec) frame = stored ∙ rw (le-ltb _ _ h) (sym (laid-exact (frameOf l rec) frame (omega (arith, frame-length l z rec)))) in
+        rw (e, ← bits, le-ltb _ _ h, is)
+
+-- ---- the cut: a longer frame's rest stays, and nothing past the stated lengths is looked at
+
+-- 2,048 are enough for the resolutions of 16 channels
+pub lent-resolutions : (l : Layout) → Sizes l → length {A = ℕ} (take (l .channels * 128) (replicate 2048 0)) ≡ l .channels * 128
+lent-resolutions l z = length-take-le (l .channels * 128) (replicate 2048 0) (omega arith)
+
+-- with a rest behind the frame
+abbrev behind : List ℕ → FrameLeft → FrameLeft
+behind rest x = record { outcome = x .outcome; frame = x .frame ++ rest }
+
+laid-front : (new old : List ℕ) (n : ℕ) → length new ≡ n → n ≤ length old → laid new (take n old) ++ drop n old ≡ laid new old
+laid-front new old n e h =
+    ap (λ xs. xs ++ drop n old) (laid-exact new (take n old) (omega (arith, length-take-le n old h)))
+    ∙ ap (λ k. new ++ drop k old) (sym e)
+
+-- of each of the three outcomes
+behind-cond : (rest : List ℕ) (t u : Bool) (o₁ o₂ o₃ : Outcome) (f₁ f₂ f₃ g₁ g₂ g₃ : List ℕ) → f₁ ++ rest ≡ g₁ → f₂ ++ rest ≡ g₂ → f₃ ++ rest ≡ g₃ →
+    behind rest (cond t (record { outcome = o₁; frame = f₁ }) (cond u (record { outcome = o₂; frame = f₂ }) (record { outcome = o₃; frame = f₃ })))
+    ≡ cond t (record { outcome = o₁; frame = g₁ }) (cond u (record { outcome = o₂; frame = g₂ }) (record { outcome = o₃; frame = g₃ }))
+behind-cond rest true u o₁ o₂ o₃ f₁ f₂ f₃ g₁ g₂ g₃ p q r = rw p
+behind-cond rest false true o₁ o₂ o₃ f₁ f₂ f₃ g₁ g₂ g₃ p q r = rw q
+behind-cond rest false false o₁ o₂ o₃ f₁ f₂ f₃ g₁ g₂ g₃ p q r = rw r
+
+module _ (l : Layout) (z : Sizes l) (level boundary : ℕ) (F S : List ℕ) (C : List ℤ) (frame : List ℕ) (h : frameSize l ≤ length frame) where
+  cut-open : behind (drop (frameSize l) frame)
+      (opened l (recordLent level boundary (take (factorLength l) F) (take (sideLength l) S) (take (spectrumLength l) C) (take (frameSize l) frame)))
+      ≡ opened l (recordLent level boundary F S C frame)
+  unfolding opened lentRecord
+  cut-open =
+      rw (legal-front l level boundary F S C, record-front l level boundary F S C)
+      (behind-cond (drop (frameSize l) frame) (not (legalRecord l level boundary F S C)) (ltb (payload l) (length (fields l (recOf l level boundary F S C)))) _ _ _ _ _ _ _ _ _
+      (take-append-drop (frameSize l) frame)
+      (laid-front (noFrame l) frame (frameSize l) (blank-length l) h)
+      (laid-front (frameOf l (recOf l level boundary F S C)) frame (frameSize l) (frame-length l z (recOf l level boundary F S C)) h))
+
+  -- as `cut` answers it
+  pub cut-left : (answer : WriteAnswer) (left : List ℕ) →
+      frameLeft answer left ≡ opened l (recordLent level boundary (take (factorLength l) F) (take (sideLength l) S) (take (spectrumLength l) C) (take (frameSize l) frame)) →
+      frameLeft answer (left ++ drop (frameSize l) frame) ≡ opened l (recordLent level boundary F S C frame)
+  cut-left answer left e = ap (behind (drop (frameSize l) frame)) e ∙ cut-open

@@ -1,0 +1,131 @@
+// The record writer: a legal record's frame, written into a lent buffer.
+ghost use mathlib.Core.Path.{_≡_};
+ghost use Prim.Native.Nat.{_*_};
+ghost use lib.ListN.{length};
+ghost use Rattle.rules.specs.Layout.{Sizes, frameSize};
+ghost use Rattle.rules.specs.Stage.{recordLent, frameLeft, written};
+ghost use Rattle.writer.specs.Write.{roomFor, roomOf, Enough, opened};
+use packing::pack_frame;
+use records::is_legal;
+use rules::Layout;
+use rules::WriteAnswer;
+use rules::legal;
+
+// The lengths of the lent buffers.
+struct Room {
+    factors: usize,
+    side: usize,
+    codes: usize,
+    frame: usize,
+}
+
+fn enough(layout: Layout, room: Room) -> bool
+    requires { ⌜ Sizes layout ⌝ }
+    ensures { λ r. ⌜ r ≡ roomFor layout room ⌝ }
+{
+    if room.factors < layout.channels * 128 {
+        return false;
+    }
+    if room.side < layout.channels * 8 {
+        return false;
+    }
+    if room.codes < layout.channels * 1024 {
+        return false;
+    }
+    if room.frame < layout.frame_size {
+        return false;
+    }
+    true
+}
+
+// On buffers of the stated lengths.
+fn run(
+    layout: Layout,
+    level: usize,
+    boundary: usize,
+    factors: &[u8],
+    side: &[u8],
+    codes: &[i32],
+    resolutions: &mut [u8],
+    frame: &mut [u8],
+) -> WriteAnswer
+    requires { ⌜ Sizes layout ⌝ }
+    requires { ⌜ (length (now factors) ≡ layout .channels * 128) × (length (now side) ≡ layout .channels * 8) × (length (now codes) ≡ layout .channels * 1024) × (length (now resolutions) ≡ layout .channels * 128) × (length (now frame) ≡ frameSize layout) ⌝ }
+    ensures { λ r. ⌜ frameLeft r (now (frame .exit)) ≡ opened layout (recordLent level boundary (now (factors .entry)) (now (side .entry)) (now (codes .entry)) (now (frame .entry))) ⌝ }
+{
+    if is_legal(layout, level, boundary, factors, side, codes, resolutions) {
+        let bits = pack_frame(
+            layout,
+            level,
+            boundary,
+            factors,
+            side,
+            codes,
+            resolutions,
+            frame,
+        );
+        if 8 * (layout.frame_size - 2) < bits {
+            return WriteAnswer::TooLong;
+        }
+        return WriteAnswer::Delivered(level, boundary, bits);
+    }
+    WriteAnswer::NotLegal
+}
+
+// Lends the parts of the stated lengths, and room for the resolutions of up to 16 channels.
+fn cut(
+    layout: Layout,
+    level: usize,
+    boundary: usize,
+    factors: &[u8],
+    side: &[u8],
+    codes: &[i32],
+    frame: &mut [u8],
+) -> WriteAnswer
+    requires { ⌜ Sizes layout ⌝ }
+    requires { ⌜ Enough layout (roomOf (length (now factors)) (length (now side)) (length (now codes)) (length (now frame))) ⌝ }
+    ensures { λ r. ⌜ frameLeft r (now (frame .exit)) ≡ opened layout (recordLent level boundary (now (factors .entry)) (now (side .entry)) (now (codes .entry)) (now (frame .entry))) ⌝ }
+{
+    let m = layout.channels * 128;
+    let k = layout.channels * 8;
+    let n = layout.channels * 1024;
+    let f = layout.frame_size;
+    let mut resolutions = [0u8; 2048];
+    run(
+        layout,
+        level,
+        boundary,
+        &factors[..m],
+        &side[..k],
+        &codes[..n],
+        &mut resolutions[..m],
+        &mut frame[..f],
+    )
+}
+
+// Takes any arguments. Refusals 1, 2, 15 and 7, in this order.
+pub fn write_record(
+    layout: Layout,
+    level: usize,
+    boundary: usize,
+    factors: &[u8],
+    side: &[u8],
+    codes: &[i32],
+    frame: &mut [u8],
+) -> WriteAnswer
+    ensures { λ r. ⌜ frameLeft r (now (frame .exit)) ≡ written layout (recordLent level boundary (now (factors .entry)) (now (side .entry)) (now (codes .entry)) (now (frame .entry))) ⌝ }
+{
+    let room = Room {
+        factors: factors.len(),
+        side: side.len(),
+        codes: codes.len(),
+        frame: frame.len(),
+    };
+    if !legal(layout) {
+        return WriteAnswer::BadLayout;
+    }
+    if !enough(layout, room) {
+        return WriteAnswer::ShortBuffer;
+    }
+    cut(layout, level, boundary, factors, side, codes, frame)
+}
