@@ -1,7 +1,6 @@
 -- What the reader's caller has beside the codes: the resolutions of the record that lies in the buffers, and its stored codes. Assumes nothing.
 use mathlib.Core.Path.{_≡_, refl, sym, _∙_, ap}
 use mathlib.Core.List.{List, [], _∷_, _++_, map}
-use mathlib.Core.Bool.{Bool}
 use Prim.Native.Nat.{ℕ, zero, suc, _+_, _≤_}
 use native.Mathlib.Omega.{arith}
 use borrow.Author.Tests.{lt-ltb}
@@ -10,16 +9,14 @@ use lib.ListN.{length, getD, take}
 use lib.Seq.{getD-take, length-take-le}
 use Rattle.buffers.specs.Walk.{build, blocks}
 use Rattle.buffers.proofs.Build.{length-build, build-at, build-of}
-use Rattle.rules.specs.Format.{each, times}
 use Rattle.rules.specs.Layout.{Sizes, codedAt, part, factorLength}
 use Rattle.rules.specs.Resolution.{resolution, noiseAt, resolutionAt, resolutionsOf, bandResolution, channelResolutions, allResolutions}
 use Rattle.rules.specs.Record.{Chan, resolutions, chanOf, codesIn, recOf, pad, storeCodes}
-use Rattle.rules.specs.Reading.{readCode}
 use Rattle.rules.specs.declared.Layout.{Layout}
 use Rattle.rules.proofs.Cuts.{build-same, blocks-same, block-part, length-part}
 use Rattle.rules.proofs.Stores.{coded-few}
 use Rattle.quantizer.proofs.Bands.{resolutionsAt, channel-size}
-use Rattle.spectra.specs.Rows.{codedRows, readSubframes}
+use Rattle.spectra.specs.Rows.{codedRows}
 
 -- of a channel's 128 resolutions the coded ones are its coded factors'
 coded-resolutions : (level boundary : ℕ) (fs : List ℕ) (coded : ℕ) → length fs ≡ 128 → coded ≤ 128
@@ -43,7 +40,7 @@ map-build f g (suc n) = snoc (build g n) (g n) ∙ ap (λ xs. xs ++ (f (g n) ∷
 
 module _ (l : Layout) (level boundary : ℕ) (factors side : List ℕ) where
   -- the resolutions that the codes are read by are those of the record in the buffers
-  coded-rows : Sizes l → length factors ≡ factorLength l
+  pub coded-rows : Sizes l → length factors ≡ factorLength l
       → codedRows l (allResolutions l level boundary factors) ≡ resolutions level boundary (build (chanOf l factors side) (l .channels))
   unfolding codedRows allResolutions
   coded-rows z e =
@@ -52,12 +49,6 @@ module _ (l : Layout) (level boundary : ℕ) (factors side : List ℕ) where
       (λ c h. ap (take (codedAt l c)) (block-part (resolutionsAt l level boundary factors) 128 (l .channels) c (λ i _. channel-size level boundary (part 128 factors i) (codedAt l i)) h)
       ∙ coded-resolutions level boundary (part 128 factors c) (codedAt l c) (length-part 128 (l .channels) c factors (omega arith) h) (coded-few l z c))
       ∙ sym (map-build (λ (c : Chan). resolutionsOf level boundary (c .factors)) (chanOf l factors side) (l .channels))
-
-  -- so that what is read is what the rules read after the channels' headers
-  pub subframes-are : Sizes l → length factors ≡ factorLength l → (s : List Bool)
-      → readSubframes l (allResolutions l level boundary factors) s
-      ≡ each (λ _. each (each readCode) (resolutions level boundary (build (chanOf l factors side) (l .channels)))) (times 8) s
-  subframes-are z e s = ap (λ rows. each (λ _. each (each readCode) rows) (times 8) s) (coded-rows z e)
 
   -- the codes that were read, stored, are the buffer
   pub codes-stored : (codes : List ℤ) → codes ≡ blocks (λ c. blocks (λ s. pad (pos 0) 128 (codesIn l codes s c)) 8) (l .channels)
