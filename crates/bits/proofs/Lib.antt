@@ -1,8 +1,0 @@
-pub mod Numbers
-pub mod Parts
-pub mod Over
-pub mod Runs
-pub mod Fields
-mod Words
-mod Shifts
-mod Tail

@@ -1,3 +1,0 @@
-pub mod Count
-pub mod Small
-pub mod Scaled

@@ -1,3 +1,0 @@
-pub mod Signs
-pub mod Entries
-pub mod Bands

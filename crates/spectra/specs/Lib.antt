@@ -1,4 +1,0 @@
-pub mod Seen
-pub mod Told
-pub mod Ones
-pub mod Rows
