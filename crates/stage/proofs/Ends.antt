@@ -1,7 +1,6 @@
 -- How the stage ends, on buffers of the stated lengths and on longer ones. Assumes nothing.
 use mathlib.Core.Path.{_≡_, refl, sym, ap, _∙_}
 use mathlib.Core.List.{List, _++_}
-use mathlib.Core.Bool.{Bool, true, false, cond}
 use Prim.Native.Nat.{ℕ, _≤_, _<_}
 use borrow.Author.Tests.{lt-ltb, le-ltb}
 use lib.Dec.{ltb}
@@ -21,11 +20,8 @@ use Rattle.rules.specs.declared.Layout.{Layout}
 use Rattle.rules.specs.declared.StageAnswer.{StageAnswer}
 use Rattle.rules.specs.declared.StageAnswer.the-variants.{Delivered}
 use Rattle.rules.proofs.Made.{made-boundary}
+use Rattle.stage.proofs.Rooms.{under}
 use Rattle.stage.specs.Ended.{Delivers, foundAs, madeOf, blank, sent, ended, over}
-
-under : {A B : Type 0} (f : A → B) (t : Bool) {a b : A} {x y : B} → f a ≡ x → f b ≡ y → f (cond t a b) ≡ cond t x y
-under f true p q = p
-under f false p q = q
 
 -- ---- from the level on
 

@@ -70,7 +70,7 @@ unfolding gateOf
 gate-open l r xs is e = let b = gate-by (legalLayout l) (roomB l r) _ e in (legal-sizes l (b .0), room-facts l r (b .1))
 
 -- a function goes into the arms of a choice
-under : {A B : Type 0} (f : A → B) (t : Bool) {a b : A} {x y : B} → f a ≡ x → f b ≡ y → f (cond t a b) ≡ cond t x y
+pub under : {A B : Type 0} (f : A → B) (t : Bool) {a b : A} {x y : B} → f a ≡ x → f b ≡ y → f (cond t a b) ≡ cond t x y
 under f true p q = p
 under f false p q = q
 

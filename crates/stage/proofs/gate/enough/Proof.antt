@@ -1,3 +1,4 @@
+-- `stage::gate::enough` meets its contract. Assumes nothing.
 use native.Mathlib.Omega.{arith}
 use mathlib.Core.Path.{sym}
 use Rattle.stage.proofs.Rooms.{room-false, room-true}

@@ -1,3 +1,4 @@
+-- `stage::gate::first_bad_intensity` meets its contract. The invariant: the search from i on is the whole search. Assumes nothing.
 use mathlib.Core.Logic.{⊎-elim}
 use borrow.Author.Tests.{lt-ltb, le-ltb}
 use Prim.Native.Nat.{_≤_, _-_}

@@ -1,3 +1,4 @@
+-- `stage::gate::first_bad_spectrum` meets its contract. The invariant: the search from i on is the whole search. Assumes nothing.
 use mathlib.Core.Path.{ap}
 use mathlib.Core.Bool.{not}
 use Prim.Native.Nat.{_≤_, _-_}

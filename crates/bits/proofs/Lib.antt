@@ -1,0 +1,8 @@
+pub mod Numbers
+pub mod Parts
+pub mod Over
+pub mod Runs
+pub mod Fields
+mod Words
+mod Shifts
+mod Tail

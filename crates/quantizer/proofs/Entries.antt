@@ -1,0 +1,132 @@
+-- The tables' entries, each table by one computed test of all its entries. Assumes nothing.
+use mathlib.Core.Path.{_≡_, refl, sym, ap, _∙_}
+use mathlib.Core.Bool.{Bool, true, cond, _&&_}
+use mathlib.Core.List.{List, []}
+use mathlib.Core.Logic.{⊎-elim}
+use Prim.Native.Nat.{ℕ, zero, suc, _+_, _-_, _*_, _/_, _%_, _^_, _≤_, _<_}
+use native.Mathlib.Nat.{eq-or-lt-of-le}
+use native.Mathlib.Omega.{arith}
+use borrow.Author.Tests.{leb-true, ltb-true, le-ltb}
+use lib.Dec.{leb, ltb}
+use lib.IntN.{pos, natAbs}
+use lib.Ieee.{binary32, ofBits, ofInt, add, sub, toSigned}
+use lib.ListN.{getD, take, drop}
+use Rattle.buffers.specs.Walk.{build, every}
+use Rattle.buffers.proofs.Build.{build-at}
+use Rattle.buffers.proofs.Every.{every-at}
+use Rattle.buffers.proofs.Tests.{and-fst, and-snd}
+use Rattle.rules.specs.Tables.{resolutionCurve, stepTable, maxBitTable, spectrumBits, spectrumValue}
+use Rattle.rules.specs.Code.{stepOf, stepShift, magnitudeBits, codeLimit}
+use Rattle.quantizer.specs.Packed.{packed}
+
+-- two functions that give the same list
+alike : {A : Type 0} (f g : ℕ → A) (n : ℕ) → build f n ≡ build g n → (i : ℕ) → i < n → f i ≡ g i
+alike f g n e i h = sym (build-at f n i (f i) h) ∙ ap (λ (l : List _). getD l i (f i)) e ∙ build-at g n i (f i) h
+
+-- none of 0 to n - 1: what the last arm of a match is left with
+abbrev pub Others : ℕ → ℕ → Type 0
+Others zero r = Unit
+Others (suc n) r = Others n r × (r ≡ n → ⊥)
+
+pub last-arm : (n r : ℕ) → r ≤ n → Others n r → r ≡ n
+last-arm zero r h o = omega arith
+last-arm (suc n) r h o =
+    ⊎-elim (λ (e : r ≡ suc n). e) (λ (l : r < suc n). absurd (o .1 (last-arm n r (omega arith) (o .0)))) (eq-or-lt-of-le h)
+
+-- the entry at a place of a row
+abbrev pub digitOf : ℕ → ℕ → ℕ
+digitOf row place = row / 2 ^ (4 * place) % 16
+
+-- ---- SCALE_TO_RESOLUTION_CURVE
+abbrev pub curveRow : ℕ → ℕ
+curveRow i = packed (take 16 (drop (16 * i) resolutionCurve))
+
+curve-test : build (λ (i : ℕ). digitOf (curveRow (i / 16)) (i % 16)) 59 ≡ build (λ (i : ℕ). getD resolutionCurve i 0) 59
+unfolding build packed resolutionCurve
+curve-test = refl
+
+pub curve-entry : (i : ℕ) → i ≤ 58 → digitOf (curveRow (i / 16)) (i % 16) ≡ getD resolutionCurve i 0
+curve-entry i h = alike _ _ 59 curve-test i (omega arith)
+
+-- ---- the rows of the spectrum tables
+module _ (t : List (List ℕ)) where
+  row-entry : build (λ (r : ℕ). build (λ (p : ℕ). digitOf (packed (getD t r [])) p) 16) 8 ≡ build (λ (r : ℕ). getD t r []) 8
+      → (r p : ℕ) → r < 8 → p ≤ 15 → digitOf (packed (getD t r [])) p ≡ getD (getD t r []) p 0
+  row-entry e r p h k =
+      sym (build-at (digitOf (packed (getD t r []))) 16 p 0 (omega arith))
+      ∙ ap (λ (l : List ℕ). getD l p 0) (alike (λ (i : ℕ). build (λ (j : ℕ). digitOf (packed (getD t i [])) j) 16) (λ (i : ℕ). getD t i []) 8 e r h)
+
+pub length-entry : (r p : ℕ) → r < 8 → p ≤ 15 → digitOf (packed (getD spectrumBits r [])) p ≡ getD (getD spectrumBits r []) p 0
+unfolding build packed spectrumBits
+length-entry = row-entry spectrumBits refl
+
+pub word-entry : (r p : ℕ) → r < 8 → p ≤ 15 → digitOf (packed (getD spectrumValue r [])) p ≡ getD (getD spectrumValue r []) p 0
+unfolding build packed spectrumValue
+word-entry = row-entry spectrumValue refl
+
+-- a length is at most 4, and a word has no more bits than its length
+small : ℕ → ℕ → Bool
+small r p =
+    leb (getD (getD spectrumBits r []) p 0) 4 && ltb (getD (getD spectrumValue r []) p 0) (2 ^ getD (getD spectrumBits r []) p 0)
+
+all-small : every (λ (r : ℕ). every (small r) 16) 8 ≡ true
+unfolding every small spectrumBits spectrumValue
+all-small = refl
+
+is-small : (r p : ℕ) → r < 8 → p ≤ 15 → small r p ≡ true
+is-small r p h k = every-at (small r) 16 p (every-at (λ (i : ℕ). every (small i) 16) 8 r all-small h) (omega arith)
+
+pub length-le : (r p : ℕ) → r < 8 → p ≤ 15 → getD (getD spectrumBits r []) p 0 ≤ 4
+unfolding small
+length-le r p h k = leb-true _ _ (and-fst _ _ (is-small r p h k))
+
+pub word-lt : (r p : ℕ) → r < 8 → p ≤ 15 → getD (getD spectrumValue r []) p 0 < 2 ^ getD (getD spectrumBits r []) p 0
+unfolding small
+word-lt r p h k = ltb-true _ _ (and-snd (leb (getD (getD spectrumBits r []) p 0) 4) _ (is-small r p h k))
+
+-- ---- MAX_BIT_TABLE - 1, and the limit
+pub bits-entry : (r : ℕ) → r ≤ 15 → digitOf 0xBA98765433332210 r ≡ magnitudeBits r
+unfolding build magnitudeBits maxBitTable
+bits-entry r h = alike (digitOf 0xBA98765433332210) magnitudeBits 16 refl r (omega arith)
+
+pub bits-le : (r : ℕ) → r ≤ 15 → magnitudeBits r ≤ 11
+unfolding every magnitudeBits maxBitTable
+bits-le r h = leb-true _ _ (every-at (λ (i : ℕ). leb (magnitudeBits i) 11) 16 r refl (omega arith))
+
+-- a shift by so few bits loses none
+pub one-shifted : (m : ℕ) → m ≤ 11 → (1 * 2 ^ m) % 2 ^ 32 ≡ 2 ^ m
+unfolding build
+one-shifted m h = alike (λ (i : ℕ). (1 * 2 ^ i) % 2 ^ 32) (λ (i : ℕ). 2 ^ i) 12 refl m (omega arith)
+
+pub power-le : (m : ℕ) → m ≤ 11 → (1 ≤ 2 ^ m) × (2 ^ m ≤ 2048)
+unfolding every
+power-le m h = (
+  leb-true _ _ (every-at (λ (i : ℕ). leb 1 (2 ^ i)) 12 m refl (omega arith)),
+  leb-true _ _ (every-at (λ (i : ℕ). leb (2 ^ i) 2048) 12 m refl (omega arith)),
+)
+
+pub limit-le : (r : ℕ) → r ≤ 15 → codeLimit r ≤ 2047
+unfolding every codeLimit magnitudeBits maxBitTable
+limit-le r h = leb-true _ _ (every-at (λ (i : ℕ). leb (codeLimit i) 2047) 16 r refl (omega arith))
+
+-- ---- QUANTIZER_INVERSE_STEP_SIZE, and the step + 0.5
+pub shift-low : (r : ℕ) → r < 8 → pos (r + 1) ≡ stepShift r
+unfolding build stepShift stepOf stepTable ofBits toSigned add
+shift-low r h = alike (λ (i : ℕ). pos (i + 1)) stepShift 8 refl r h
+
+pub shift-high : (r : ℕ) → 8 ≤ r → r ≤ 15 → pos (2 ^ (r - 4)) ≡ stepShift r
+unfolding build stepShift stepOf stepTable ofBits toSigned add
+shift-high r l h =
+    let z : cond (ltb r 8) (stepShift r) (pos (2 ^ (r - 4))) ≡ stepShift r = alike (λ (i : ℕ). cond (ltb i 8) (stepShift i) (pos (2 ^ (i - 4)))) stepShift 16 refl r (omega arith) in
+    rw (le-ltb r 8 l) at z
+
+pub shift-nat : (r : ℕ) → r ≤ 15 → (stepShift r ≡ pos (natAbs (stepShift r))) × (natAbs (stepShift r) ≤ 2048)
+unfolding build every stepShift stepOf stepTable ofBits toSigned add
+shift-nat r h = (
+  alike stepShift (λ (i : ℕ). pos (natAbs (stepShift i))) 16 refl r (omega arith),
+  leb-true _ _ (every-at (λ (i : ℕ). leb (natAbs (stepShift i)) 2048) 16 r refl (omega arith)),
+)
+
+pub step-entry : (r : ℕ) → r ≤ 15 → sub binary32 (ofInt binary32 (stepShift r)) (ofBits binary32 0x3F000000) ≡ stepOf r
+unfolding build stepShift stepOf stepTable ofBits sub ofInt toSigned
+step-entry r h = alike (λ (i : ℕ). sub binary32 (ofInt binary32 (stepShift i)) (ofBits binary32 0x3F000000)) stepOf 16 refl r (omega arith)

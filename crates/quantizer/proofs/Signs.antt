@@ -1,0 +1,67 @@
+-- Signed numbers: the size of a sum and of a difference, what is held to a range, and a code's place. Assumes nothing.
+use mathlib.Core.Path.{_≡_, refl, subst}
+use mathlib.Core.Bool.{Bool, true, false, cond}
+use Prim.Native.Nat.{ℕ, suc, _+_, _-_, _≤_, _<_, zero-le}
+use native.Mathlib.Nat.{add-comm, le-refl}
+use native.Mathlib.Omega.{arith}
+use borrow.Author.Tests.{lt-ltb, le-ltb, ltb-true, ltb-false}
+use lib.Dec.{T, ltb}
+use lib.IntN.{ℤ, pos, negsuc, _+ℤ_, natAbs}
+use lib.Signed.{mag, ltZ}
+use Rattle.rules.specs.Signed.{heldZ}
+use Rattle.rules.specs.Code.{codePlace}
+
+-- what is held is no larger than the ends
+pub held-mag : (lo hi z : ℤ) (n : ℕ) → mag lo ≤ n → mag hi ≤ n → mag (heldZ lo hi z) ≤ n
+unfolding heldZ
+held-mag lo hi z n l h = go lo hi z (ltZ z lo) (ltZ hi z) refl refl l h
+  where
+    go : (lo hi z : ℤ) (p q : Bool) → ltZ z lo ≡ p → ltZ hi z ≡ q → mag lo ≤ n → mag hi ≤ n → mag (cond p lo (cond q hi z)) ≤ n
+    go lo hi z true q e f l h = l
+    go lo hi z false true e f l h = h
+    go lo (pos b) (pos k) false false e f l h = omega (arith, ltb-false b k f)
+    go lo (negsuc b) (pos k) false false e f l h = absurd (subst T f tt)
+    go (pos a) hi (negsuc k) false false e f l h = absurd (subst T e tt)
+    go (negsuc a) hi (negsuc k) false false e f l h = omega (arith, ltb-false a k e)
+
+-- held to 0..top
+module _ (top n : ℕ) where
+  held-over : top < n → heldZ (pos 0) (pos top) (pos n) ≡ pos top
+  unfolding heldZ
+  held-over h = rw (le-ltb n 0 zero-le, lt-ltb top n h)
+
+  held-in : n ≤ top → heldZ (pos 0) (pos top) (pos n) ≡ pos n
+  unfolding heldZ
+  held-in h = rw (le-ltb n 0 zero-le, le-ltb top n h)
+
+abbrev heldTo : ℕ → ℤ → ℤ
+heldTo top z = heldZ (pos 0) (pos top) z
+
+pub held-nat : (top : ℕ) (z : ℤ) → (heldTo top z ≡ pos (natAbs (heldTo top z))) × (natAbs (heldTo top z) ≤ top)
+held-nat top (pos n) = go (ltb top n) refl
+  where
+    go : (t : Bool) → ltb top n ≡ t → (heldTo top (pos n) ≡ pos (natAbs (heldTo top (pos n)))) × (natAbs (heldTo top (pos n)) ≤ top)
+    go true e = rw (held-over top n (ltb-true top n e)) (refl, le-refl top)
+    go false e = rw (held-in top n (ltb-false top n e)) (refl, ltb-false top n e)
+held-nat top (negsuc n) = unfold heldZ in (refl, zero-le)
+
+-- a code's place: held to -8..7 and moved up by 8
+pub place-le : (z : ℤ) → codePlace z ≤ 15
+unfolding codePlace
+place-le z = held-nat 15 (pos 8 +ℤ z) .1
+
+pub place-is : (z : ℤ) → heldZ (negsuc 7) (pos 7) z +ℤ pos 8 ≡ pos (codePlace z)
+unfolding codePlace heldZ
+place-is (pos n) = go (ltb 7 n) (ltb-true 7 n) (ltb-false 7 n)
+  where
+    go : (t : Bool) → (t ≡ true → 7 < n) → (t ≡ false → n ≤ 7) → cond t (pos 7) (pos n) +ℤ pos 8 ≡ pos (natAbs (heldTo 15 (pos (8 + n))))
+    go true l h = let z : 15 < 8 + n = omega (arith, l refl) in rw (held-over 15 (8 + n) z)
+    go false l h = let z : 8 + n ≤ 15 = omega (arith, h refl) in rw (held-in 15 (8 + n) z, add-comm n 8)
+place-is (negsuc n) = go (ltb 7 n) (ltb-true 7 n) (ltb-false 7 n)
+  where
+    go : (t : Bool) → (t ≡ true → 7 < n) → (t ≡ false → n ≤ 7) → cond t (negsuc 7) (negsuc n) +ℤ pos 8 ≡ pos (natAbs (heldTo 15 (pos 8 +ℤ negsuc n)))
+    go true l h = let z : 8 < suc n = omega (arith, l refl) in rw (lt-ltb 8 (suc n) z)
+    go false l h =
+        let z : suc n ≤ 8 = omega (arith, h refl) in
+        let y : 8 - suc n ≤ 15 = omega arith in
+        rw (le-ltb 8 (suc n) z, held-in 15 (8 - suc n) y)

@@ -1,0 +1,15 @@
+-- `quantizer::resolutions::calculate_resolution` meets its contract. Assumes nothing.
+use borrow.Author.Needs.{needs}
+use Rattle.rules.specs.Resolution.{resolution}
+use Rattle.quantizer.proofs.resolutions.calculate_resolution.Statement.{statement}
+use Rattle.quantizer.proofs.resolutions.calculate_resolution.Tie as tie
+
+resolution-in-requires : tie.Need-resolution-in-requires
+resolution-in-requires c κs = search needs
+
+returns : tie.Need-returns
+unfolding resolution
+returns c = (c .resolution-in .ensures .0, c .resolution-in .ensures .1)
+
+pub calculate-resolution-spec : {M : Type 1} → statement M
+calculate-resolution-spec = tie.close (tie.spec resolution-in-requires returns)

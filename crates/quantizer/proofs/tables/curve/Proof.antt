@@ -1,0 +1,25 @@
+-- `quantizer::tables::curve` meets its contract. Assumes nothing.
+use mathlib.Core.Path.{_∙_, ap}
+use Prim.Native.Nat.{ℕ, _%_}
+use native.Mathlib.Omega.{arith}
+use borrow.Author.Needs.{needs}
+use Rattle.quantizer.proofs.Entries.{digitOf, curve-entry}
+use Rattle.quantizer.proofs.tables.curve.Statement.{statement}
+use Rattle.quantizer.proofs.tables.curve.Tie as tie
+
+curve-row-requires : tie.Need-curve-row-requires
+curve-row-requires c κs = search needs
+
+digit-requires : tie.Need-digit-requires
+digit-requires c κs = search needs
+
+cast-result : tie.Need-cast-result
+cast-result c = search needs
+
+returns : tie.Need-returns
+returns c =
+    let at = c .before .before .args .at in
+    (c .digit .ensures ∙ ap (λ (n : ℕ). digitOf n (at % 16)) (c .before .curve-row .ensures) ∙ curve-entry at (c .before .before .pre), omega arith)
+
+pub curve-spec : {M : Type 1} → statement M
+curve-spec = tie.close (tie.spec curve-row-requires digit-requires cast-result returns)

@@ -1,0 +1,77 @@
+// Document 01, **Resolution**, **Code** and **Estimate**, one value at a time: what estimate, quantiser, packer and reader share.
+ghost use mathlib.Core.Path.{_≡_};
+ghost use Prim.Native.Nat.{_≤_};
+ghost use Rattle.rules.specs.Signed.{heldZ};
+ghost use Rattle.rules.specs.Code.{rawCode, codePlace, codeOf};
+ghost use Rattle.rules.specs.Estimate.{valueBits};
+use self::tables::code_length;
+use self::tables::dead_zone;
+use self::tables::limit_of;
+use self::tables::magnitude_bits;
+use self::tables::shift_of;
+use self::tables::step_of;
+use floats::magnitude;
+use floats::truncate;
+
+pub mod resolutions;
+pub mod tables;
+
+// z held within low and high.
+pub fn held(z: i64, low: i64, high: i64) -> i64
+    ensures { λ r. ⌜ r ≡ heldZ low high z ⌝ }
+{
+    if z < low {
+        return low;
+    }
+    if high < z {
+        return high;
+    }
+    z
+}
+
+// The code before it is held: scaled x step + (step + 1), two roundings, truncated, less step + 0.5.
+pub fn raw_code(scaled: f32, r: u8) -> i64
+    requires { ⌜ r ≤ 15 ⌝ }
+    ensures { λ z. ⌜ z ≡ rawCode r scaled ⌝ }
+{
+    let step = step_of(r);
+    let up = step + 1.0;
+    let whole = truncate(scaled * step + up);
+    whole - shift_of(r)
+}
+
+// The place of a code in a row of the tables below resolution 8.
+pub fn code_place(z: i64) -> usize
+    ensures { λ r. ⌜ (r ≡ codePlace z) × (r ≤ 15) ⌝ }
+{
+    (held(z, -8, 7) + 8) as usize
+}
+
+pub fn code(scaled: f32, r: u8) -> i32
+    requires { ⌜ r ≤ 15 ⌝ }
+    ensures { λ z. ⌜ z ≡ codeOf r scaled ⌝ }
+{
+    let raw = raw_code(scaled, r);
+    if r < 8 {
+        return held(raw, -8, 7) as i32;
+    }
+    let limit = limit_of(r);
+    held(raw, -limit, limit) as i32
+}
+
+// The bits that the estimate counts for a scaled value.
+pub fn value_bits(scaled: f32, r: u8) -> u32
+    requires { ⌜ r ≤ 15 ⌝ }
+    ensures { λ n. ⌜ (n ≡ valueBits r scaled) × (n ≤ 12) ⌝ }
+{
+    if r < 8 {
+        let raw = raw_code(scaled, r);
+        let place = code_place(raw);
+        return code_length(r, place);
+    }
+    let bits = magnitude_bits(r);
+    if dead_zone(r) <= magnitude(scaled) {
+        return bits + 1;
+    }
+    bits
+}

@@ -1,0 +1,151 @@
+// The tables by resolution. Entries below 16 stand sixteen in a number, the first in its lowest four
+// bits, and are shifted out: an array would be copied to the stack at each read.
+ghost use mathlib.Core.Path.{_≡_};
+ghost use mathlib.Core.List.{[]};
+ghost use Prim.Native.Nat.{_*_, _/_, _%_, _^_, _≤_, _<_};
+ghost use lib.IntN.{pos};
+ghost use lib.Ieee.{nan};
+ghost use lib.ListN.{getD, take, drop};
+ghost use Rattle.rules.specs.Tables.{resolutionCurve, deadZoneTable, spectrumBits, spectrumValue};
+ghost use Rattle.rules.specs.Code.{stepOf, stepShift, magnitudeBits, codeLimit};
+ghost use Rattle.quantizer.specs.Packed.{packed};
+
+// The entry at a place of a row.
+pub fn digit(row: u64, place: usize) -> u32
+    requires { ⌜ place ≤ 15 ⌝ }
+    ensures { λ r. ⌜ r ≡ row / 2 ^ (4 * place) % 16 ⌝ }
+{
+    ((row >> (4 * place)) % 16) as u32
+}
+
+// SCALE_TO_RESOLUTION_CURVE.
+fn curve_row(i: usize) -> u64
+    requires { ⌜ i ≤ 3 ⌝ }
+    ensures { λ r. ⌜ r ≡ packed (take 16 (drop (16 * i) resolutionCurve)) ⌝ }
+{
+    match i {
+        0 => 0xCCCD_DDDD_DEEE_EEEF,
+        1 => 0xAAAA_AAAB_BBBB_BCCC,
+        2 => 0x5667_8888_8899_9999,
+        _ => 0x0000_0122_2233_3444,
+    }
+}
+
+pub fn curve(at: usize) -> u8
+    requires { ⌜ at ≤ 58 ⌝ }
+    ensures { λ r. ⌜ (r ≡ getD resolutionCurve at 0) × (r ≤ 15) ⌝ }
+{
+    digit(curve_row(at / 16), at % 16) as u8
+}
+
+// MAX_BIT_TABLE - 1, not below 0.
+pub fn magnitude_bits(r: u8) -> u32
+    requires { ⌜ r ≤ 15 ⌝ }
+    ensures { λ n. ⌜ (n ≡ magnitudeBits r) × (n ≤ 11) ⌝ }
+{
+    digit(0xBA98_7654_3333_2210, r as usize)
+}
+
+pub fn limit_of(r: u8) -> i64
+    requires { ⌜ r ≤ 15 ⌝ }
+    ensures { λ z. ⌜ z ≡ pos (codeLimit r) ⌝ }
+{
+    let top: u32 = 1 << magnitude_bits(r);
+    (top - 1) as i64
+}
+
+// step + 0.5: 1, 2, .., 8, 16, .., 2048.
+fn whole_step(r: u8) -> u32
+    requires { ⌜ r ≤ 15 ⌝ }
+    ensures { λ n. ⌜ (pos n ≡ stepShift r) × (n ≤ 2048) ⌝ }
+{
+    if r < 8 { r as u32 + 1 } else { 1 << (r - 4) }
+}
+
+pub fn shift_of(r: u8) -> i64
+    requires { ⌜ r ≤ 15 ⌝ }
+    ensures { λ z. ⌜ z ≡ stepShift r ⌝ }
+{
+    whole_step(r) as i64
+}
+
+// QUANTIZER_INVERSE_STEP_SIZE.
+pub fn step_of(r: u8) -> f32
+    requires { ⌜ r ≤ 15 ⌝ }
+    ensures { λ x. ⌜ x ≡ stepOf r ⌝ }
+{
+    whole_step(r) as f32 - 0.5
+}
+
+// QUANTIZER_DEAD_ZONE.
+pub fn dead_zone(r: u8) -> f32
+    requires { ⌜ r ≤ 15 ⌝ }
+    ensures { λ x. ⌜ x ≡ getD deadZoneTable r nan ⌝ }
+{
+    match r {
+        0 => 0.0,
+        1 => 3.3333334e-1,
+        2 => 2.0e-1,
+        3 => 1.4285715e-1,
+        4 => 1.1111111e-1,
+        5 => 9.090909e-2,
+        6 => 7.692308e-2,
+        7 => 6.666667e-2,
+        8 => 3.2258064e-2,
+        9 => 1.5873017e-2,
+        10 => 7.874016e-3,
+        11 => 3.921569e-3,
+        12 => 1.9569471e-3,
+        13 => 9.775171e-4,
+        14 => 4.885198e-4,
+        _ => 2.4420026e-4,
+    }
+}
+
+// QUANTIZE_SPECTRUM_BITS.
+fn length_row(r: u8) -> u64
+    requires { ⌜ r < 8 ⌝ }
+    ensures { λ n. ⌜ n ≡ packed (getD spectrumBits r []) ⌝ }
+{
+    match r {
+        0 => 0,
+        1 => 0x0000_0021_2000_0000,
+        2 => 0x0000_0322_2300_0000,
+        3 => 0x0000_3332_3330_0000,
+        4 => 0x0004_3333_3334_0000,
+        5 => 0x0044_4333_3344_4000,
+        6 => 0x0444_4433_3444_4400,
+        _ => 0x4444_4443_4444_4440,
+    }
+}
+
+// QUANTIZE_SPECTRUM_VALUE.
+fn word_row(r: u8) -> u64
+    requires { ⌜ r < 8 ⌝ }
+    ensures { λ n. ⌜ n ≡ packed (getD spectrumValue r []) ⌝ }
+{
+    match r {
+        0 => 0,
+        1 => 0x0000_0020_3000_0000,
+        2 => 0x0000_0610_2700_0000,
+        3 => 0x0000_6420_3570_0000,
+        4 => 0x000E_5310_246F_0000,
+        5 => 0x00EC_A310_24BD_F000,
+        6 => 0x0ECA_8610_279B_DF00,
+        _ => 0xECA8_6420_3579_BDF0,
+    }
+}
+
+pub fn code_length(r: u8, place: usize) -> u32
+    requires { ⌜ (r < 8) × (place ≤ 15) ⌝ }
+    ensures { λ n. ⌜ (n ≡ getD (getD spectrumBits r []) place 0) × (n ≤ 4) ⌝ }
+{
+    digit(length_row(r), place)
+}
+
+pub fn code_word(r: u8, place: usize) -> u32
+    requires { ⌜ (r < 8) × (place ≤ 15) ⌝ }
+    ensures { λ n. ⌜ (n ≡ getD (getD spectrumValue r []) place 0) × (n < 2 ^ getD (getD spectrumBits r []) place 0) ⌝ }
+{
+    digit(word_row(r), place)
+}

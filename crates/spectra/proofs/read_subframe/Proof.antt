@@ -1,0 +1,162 @@
+-- `spectra::read_subframe` meets its contract. The invariant is `Upto` of `Channels.antt`. Assumes nothing.
+use mathlib.Core.Path.{_≡_, sym, _∙_, subst}
+use Prim.Native.Nat.{_+_, _-_, _*_, _≤_}
+use native.Mathlib.Omega.{arith}
+use borrow.Author.Needs.{needs}
+use lib.ListN.{length, take}
+use Rattle.buffers.proofs.Build.{back-width}
+use Rattle.rules.specs.Format.{each}
+use Rattle.rules.specs.Layout.{codedAt, part}
+use Rattle.rules.specs.Reading.{readCode}
+use Rattle.spectra.specs.Told.{leftAt, Stored}
+use Rattle.spectra.specs.Rows.{Subframe}
+use Rattle.spectra.proofs.Channels.{Upto, upto-none, upto-all, upto-stop, upto-more}
+use Rattle.spectra.proofs.Padding.{lent-length, renewed-length}
+use Rattle.spectra.proofs.Small.{part-small}
+use Rattle.spectra.proofs.read_subframe.Statement.{statement}
+use Rattle.spectra.proofs.read_subframe.Tie as tie
+
+abbrev Inv-loop : tie.InvT-loop
+Inv-loop layout subframe part resolutions codes₀ channels at₀ c₀ codes at c = Upto layout subframe part resolutions codes₀ at₀ codes at c
+
+abbrev μ-loop : tie.MeasureT-loop
+μ-loop layout subframe part resolutions codes₀ channels at₀ c₀ codes at c = channels - c
+
+loop-holds : tie.Need-loop-holds Inv-loop μ-loop
+loop-holds c = upto-none _ _ _ _ _ _ (omega arith)
+
+coded-count-requires : tie.Need-coded-count-requires Inv-loop μ-loop
+coded-count-requires c κs = search needs
+
+mul-from : tie.Need-mul-from Inv-loop μ-loop
+mul-from c = search needs
+
+mul-to : tie.Need-mul-to Inv-loop μ-loop
+mul-to c = search needs
+
+add-to : tie.Need-add-to Inv-loop μ-loop
+add-to c = search needs
+
+mul-to-2 : tie.Need-mul-to-2 Inv-loop μ-loop
+mul-to-2 c = search needs
+
+add-read-spectra : tie.Need-add-read-spectra Inv-loop μ-loop
+add-read-spectra c = search needs
+
+sub-read-spectra : tie.Need-sub-read-spectra Inv-loop μ-loop
+sub-read-spectra c = search needs
+
+part-read-spectra-start : tie.Need-part-read-spectra-start Inv-loop μ-loop
+part-read-spectra-start c = search needs
+
+part-read-spectra-end : tie.Need-part-read-spectra-end Inv-loop μ-loop
+part-read-spectra-end c = search needs
+
+add-read-spectra-2 : tie.Need-add-read-spectra-2 Inv-loop μ-loop
+add-read-spectra-2 c = search needs
+
+mul-read-spectra : tie.Need-mul-read-spectra Inv-loop μ-loop
+mul-read-spectra c = search needs
+
+sub-read-spectra-2 : tie.Need-sub-read-spectra-2 Inv-loop μ-loop
+sub-read-spectra-2 c = search needs
+
+part-read-spectra-start-2 : tie.Need-part-read-spectra-start-2 Inv-loop μ-loop
+part-read-spectra-start-2 c = search needs
+
+part-read-spectra-end-2 : tie.Need-part-read-spectra-end-2 Inv-loop μ-loop
+part-read-spectra-end-2 c = search needs
+
+read-spectra-requires : tie.Need-read-spectra-requires Inv-loop μ-loop
+read-spectra-requires c κs =
+    let a = c .before .before .before .before .before .before .before in
+    ((search needs, search needs), (search needs, search needs, search needs, part-small (c .before .before .before .before .loop .c * 128 + 128 - c .before .before .before .before .loop .c * 128) (c .before .before .before .before .loop .c * 128) (a .args .resolutions .now) (a .pre .1 .1 .2)))
+
+-- the row's place in the buffer, its length, and what it told
+fits : (c : tie.After-read-spectra Inv-loop μ-loop) → let n = c .before .before .before .before .before .loop in let a = c .before .before .before .before .before .before .before .before .args in
+    (n .c * 8 + a .subframe) * 128 + 128 ≤ length (n .codes)
+fits c = omega (arith, c .before .before .before .before .before .loop .inv .same)
+
+long : (c : tie.After-read-spectra Inv-loop μ-loop) → length (c .read-spectra .last .1 .1 .1 .1 .0) ≡ 128
+long c = c .read-spectra .kept .1 .1 .1 .1 .0 ∙ lent-length _ 128 (c .before .before .before .before .before .loop .codes) (fits c)
+
+told : (c : tie.After-read-spectra Inv-loop μ-loop) → let n = c .before .before .before .before .before .loop in let a = c .before .before .before .before .before .before .before .before .args in
+    Stored (a .part .now) (each readCode (take (codedAt (a .layout) (n .c)) (part 128 (a .resolutions .now) (n .c))) (leftAt (a .part .now) (n .at))) (codedAt (a .layout) (n .c))
+    (c .read-spectra .last .1 .1 .1 .1 .0) (c .read-spectra .result)
+told c =
+    let n = c .before .before .before .before .before .loop in
+    rw (back-width (n .c * 128) 128, c .before .before .before .coded-count .ensures .0) at (c .read-spectra .ensures)
+
+enum-known-step : tie.Need-enum-known-step Inv-loop μ-loop
+enum-known-step c = search needs
+
+enum-told : tie.Need-enum-told Inv-loop μ-loop
+enum-told c = search needs
+
+same-length : tie.Need-same-length Inv-loop μ-loop
+same-length c =
+    let r = c .before .before .before in
+    let l = r .before .before .before .before .before .loop in
+    let a = r .before .before .before .before .before .before .before .before .args in
+    renewed-length (l .c * 8 + a .subframe) (l .codes) (r .read-spectra .last .1 .1 .1 .1 .0) (fits r) (long r) ∙ l .inv .same
+
+returns : tie.Need-returns Inv-loop μ-loop
+returns c =
+    let r = c .before .before .before in
+    let l = r .before .before .before .before .before .loop in
+    let a = r .before .before .before .before .before .before .before .before .args in
+    subst (Subframe _ _ _ _ _ _) (sym (c .enum-told .given .1))
+    (upto-stop (a .layout) (a .subframe) (a .part .now) (a .resolutions .now) (a .codes .now) (a .place .at) (l .codes) (l .at) (l .c) (l .inv) (omega arith) _ _ _
+    (subst (Stored _ _ _ _) (c .enum-told .given .1) (told r)))
+
+add-c : tie.Need-add-c Inv-loop μ-loop
+add-c c = search needs
+
+loop-less : tie.Need-loop-less Inv-loop μ-loop
+loop-less c = search needs
+
+loop-again : tie.Need-loop-again Inv-loop μ-loop
+loop-again c =
+    let r = c .before .before .before .before in
+    let l = r .before .before .before .before .before .loop in
+    let a = r .before .before .before .before .before .before .before .before in
+    upto-more _ _ _ _ _ _ (l .codes) (l .at) (l .c) (l .inv) (omega arith) (omega arith) (a .pre .1 .1 .1) _ (long r) (c .before .step .given .0 .0)
+    (subst (Stored _ _ _ _) (c .before .step .given .1) (told r))
+
+same-length-2 : tie.Need-same-length-2 Inv-loop μ-loop
+same-length-2 c = c .before .loop .inv .same
+
+returns-2 : tie.Need-returns-2 Inv-loop μ-loop
+returns-2 c = upto-all _ _ _ _ _ _ _ _ _ (c .before .loop .inv) (omega arith)
+
+pub read-subframe-spec : {M : Type 1} → statement M
+read-subframe-spec =
+    tie.close
+    (tie.spec
+    Inv-loop
+    μ-loop
+    loop-holds
+    coded-count-requires
+    mul-from
+    mul-to
+    add-to
+    mul-to-2
+    add-read-spectra
+    sub-read-spectra
+    part-read-spectra-start
+    part-read-spectra-end
+    add-read-spectra-2
+    mul-read-spectra
+    sub-read-spectra-2
+    part-read-spectra-start-2
+    part-read-spectra-end-2
+    read-spectra-requires
+    enum-known-step
+    enum-told
+    same-length
+    returns
+    add-c
+    loop-less
+    loop-again
+    same-length-2
+    returns-2)

@@ -1,0 +1,46 @@
+-- **Frame**: subframe by subframe, channel by channel, the codes; in the buffer they lie by channel, subframe and band, C x 1,024.
+use mathlib.Core.Path.{_≡_}
+use mathlib.Core.List.{List}
+use Prim.Native.Nat.{ℕ, _+_, _*_, _≤_, _<_}
+use lib.IntN.{ℤ, pos}
+use lib.ListN.{length, take}
+use Rattle.buffers.specs.Walk.{build, blocks}
+use Rattle.rules.specs.Format.{Read, Reader, each, times}
+use Rattle.rules.specs.Layout.{codedAt, part}
+use Rattle.rules.specs.Record.{codesIn, pad}
+use Rattle.rules.specs.Reading.{readCode}
+use Rattle.rules.specs.declared.Layout.{Layout}
+use Rattle.spectra.specs.Told.{stepRead, stepPlace, Done, Blank}
+use Rattle.spectra.specs.declared.Step.{Step}
+
+-- the resolutions of every channel's coded bands, from C x 128
+unfoldable pub codedRows : Layout → List ℕ → List (List ℕ)
+codedRows l rs = build (λ c. take (codedAt l c) (part 128 rs c)) (l .channels)
+
+-- one subframe, channel by channel; and the eight
+abbrev pub readSubframe : Layout → List ℕ → Reader (List (List ℤ))
+readSubframe l rs = each (each readCode) (codedRows l rs)
+
+abbrev pub readSubframes : Layout → List ℕ → Reader (List (List (List ℤ)))
+readSubframes l rs = each (λ _. readSubframe l rs) (times 8)
+
+-- channel c's row of subframe s
+abbrev pub rowOf : List ℤ → ℕ → ℕ → List ℤ
+rowOf codes c s = part 128 codes (c * 8 + s)
+
+-- the coded codes of subframe s
+abbrev pub subframeIn : Layout → List ℤ → ℕ → List (List ℤ)
+subframeIn l codes s = build (λ c. take (codedAt l c) (rowOf codes c s)) (l .channels)
+
+-- what reading subframe s tells of a reader's result x: the subframe's rows are stored, and no other row changes
+pub record Subframe (l : Layout) (frame : List ℕ) (x : Read (List (List ℤ))) (s : ℕ) (before after : List ℤ) (r : Step) : Type 0 where
+  pub is : x ≡ stepRead frame (subframeIn l after s) r
+  pub within : stepPlace r ≤ 8 * length frame
+  pub blank : Done r ((c : ℕ) → c < l .channels → Blank (codedAt l c) (rowOf after c s))
+  pub kept : Done r ((c t : ℕ) → c < l .channels → t < 8 → (t ≡ s → ⊥) → rowOf after c t ≡ rowOf before c t)
+
+-- what reading all eight tells: the buffer holds the codes that were read, and zeros
+pub record Subframes (l : Layout) (frame : List ℕ) (x : Read (List (List (List ℤ)))) (codes : List ℤ) (r : Step) : Type 0 where
+  pub is : x ≡ stepRead frame (build (λ s. build (codesIn l codes s) (l .channels)) 8) r
+  pub within : stepPlace r ≤ 8 * length frame
+  pub blank : Done r (codes ≡ blocks (λ c. blocks (λ s. pad (pos 0) 128 (codesIn l codes s c)) 8) (l .channels))
