@@ -1,6 +1,6 @@
 -- Room in the buffers, what a scan leaves in them, and the rest of a longer buffer. Assumes nothing.
-use mathlib.Core.Path.{_≡_, refl, sym, _∙_, subst}
-use mathlib.Core.Bool.{true, false}
+use mathlib.Core.Path.{_≡_, refl, sym, _∙_, ap, subst}
+use mathlib.Core.Bool.{Bool, true, false, not}
 use mathlib.Core.List.{List, _++_}
 use Prim.Native.Nat.{ℕ}
 use borrow.Author.Tests.{le-leb, leb-true}
@@ -17,11 +17,16 @@ use Rattle.rules.specs.declared.Layout.{Layout}
 use Rattle.rules.specs.declared.ReadAnswer.{ReadAnswer}
 use Rattle.rules.specs.declared.ReadAnswer.the-variants as read
 use Rattle.rules.proofs.Stores.{length-factors, length-side, length-codes}
+use Rattle.headers.proofs.Channels.{twice-not}
 use Rattle.headers.specs.declared.Fault.{Fault}
 use Rattle.reader.specs.declared.Room.{Room}
 use Rattle.reader.specs.declared.record.Found.{Found}
 use Rattle.reader.specs.declared.record.Found.the-variants as found
 use Rattle.reader.specs.Answers.{Enough, roomFor, Scans, Settled, outcomeOf, factorsOf, sideOf, codesOf}
+
+-- what a test that is turned round says of what it tests
+pub turned : {r x b : Bool} → r ≡ x → not r ≡ b → x ≡ not b
+turned {r} e t = sym e ∙ sym (twice-not r) ∙ ap not t
 
 abbrev Fits : Layout → Room → Type 0
 Fits l r = Enough l (r .frame) (r .factors) (r .side) (r .codes)

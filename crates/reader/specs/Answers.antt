@@ -1,4 +1,4 @@
--- How the answers of this crate say what the strict reader of the rules finds. `s` is the part of a frame between its sync and its check.
+-- Document 01, **Refusal numbers**: how the answers of this crate say what the strict reader of the rules finds. `s` is the part of a frame between its sync and its check.
 use mathlib.Core.Path.{_≡_}
 use mathlib.Core.List.{List, [], _∷_}
 use mathlib.Core.Bool.{Bool, _&&_}

@@ -1,6 +1,5 @@
 // The strict reader: a frame back to its record, or the first thing that is wrong with it.
 ghost use mathlib.Core.Path.{_≡_};
-ghost use Prim.Native.Nat.{_+_, _*_, _≤_};
 ghost use lib.ListN.{length, take};
 ghost use Rattle.rules.specs.Layout.{Sizes, frameSize};
 ghost use Rattle.rules.specs.Reading.{strict};

@@ -1,6 +1,6 @@
 // The record in the part of a frame between its sync and its check.
 ghost use mathlib.Core.Path.{_≡_};
-ghost use Prim.Native.Nat.{_+_, _*_, _≤_};
+ghost use Prim.Native.Nat.{_*_, _≤_};
 ghost use lib.ListN.{length};
 ghost use Rattle.rules.specs.Layout.{Sizes, factorLength, sideLength, spectrumLength};
 ghost use Rattle.rules.specs.Resolution.{allResolutions};

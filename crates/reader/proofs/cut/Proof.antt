@@ -38,7 +38,9 @@ slice-aggregate-settle-4 : tie.Need-slice-aggregate-settle-4
 slice-aggregate-settle-4 c = sym (length-take-le _ _ (c .before .before .before .before .before .before .before .before .before .before .pre .1 .codes))
 
 settle-requires : tie.Need-settle-requires
-settle-requires c κs = let a = c .before .before .before .before .before .before .before .before .before .before .pre in (a .0, (length-take-le _ _ (a .1 .frame), record { factors = length-take-le _ _ (a .1 .factors); side = length-take-le _ _ (a .1 .side); codes = length-take-le _ _ (a .1 .codes) }))
+settle-requires c κs =
+    let a = c .before .before .before .before .before .before .before .before .before .before .pre in
+    (a .0, (length-take-le _ _ (a .1 .frame), record { factors = length-take-le _ _ (a .1 .factors); side = length-take-le _ _ (a .1 .side); codes = length-take-le _ _ (a .1 .codes) }))
 
 same-length : tie.Need-same-length
 same-length c = search needs
@@ -50,7 +52,9 @@ same-length-3 : tie.Need-same-length-3
 same-length-3 c = search needs
 
 returns : tie.Need-returns
-returns c = let a = c .before .before .before .before .before .before .before .before .before .before .before .before .before .before .before .before .args in left-is (a .layout) (frameLent (a .frame .now) (a .factors .now) (a .side .now) (a .codes .now)) (c .before .before .before .before .before .settle .ensures)
+returns c =
+    let a = c .before .before .before .before .before .before .before .before .before .before .before .before .before .before .before .before .args in
+    left-is (a .layout) (frameLent (a .frame .now) (a .factors .now) (a .side .now) (a .codes .now)) (c .before .before .before .before .before .settle .ensures)
 
 pub cut-spec : {M : Type 1} → statement M
 cut-spec =

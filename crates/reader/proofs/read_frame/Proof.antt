@@ -1,14 +1,13 @@
 -- `read_frame` is `read`: refusals 1 and 2, and behind them `cut`. Assumes nothing.
-use mathlib.Core.Bool.{true, false, not}
-use mathlib.Core.Path.{_≡_, sym, _∙_, ap, refl}
+use mathlib.Core.Bool.{true, false}
+use mathlib.Core.Path.{_≡_, _∙_, refl}
 use borrow.Author.Needs.{needs}
 use Rattle.rules.proofs.Layouts.{legal-sizes}
 use Rattle.rules.specs.Layout.{legalLayout}
 use Rattle.rules.specs.Refusals.{readNumber}
 use Rattle.rules.specs.Stage.{read, readRoom}
-use Rattle.headers.proofs.Channels.{twice-not}
 use Rattle.reader.specs.Answers.{roomFor}
-use Rattle.reader.proofs.Calls.{room-facts}
+use Rattle.reader.proofs.Calls.{turned, room-facts}
 use Rattle.reader.proofs.read_frame.Statement.{statement}
 use Rattle.reader.proofs.read_frame.Tie as tie
 
@@ -18,21 +17,21 @@ legal-requires c κs = search needs
 returns : tie.Need-returns
 unfolding read readNumber
 returns c =
-    let e : legalLayout (c .before .before .before .before .before .args .layout) ≡ false = sym (c .before .legal .ensures) ∙ sym (twice-not _) ∙ ap not (c .if1 .taken) in
+    let e : legalLayout (c .before .before .before .before .before .args .layout) ≡ false = turned (c .before .legal .ensures) (c .if1 .taken) in
     rw e refl
 
 enough-requires : tie.Need-enough-requires
-enough-requires c κs = legal-sizes _ (sym (c .before .legal .ensures) ∙ sym (twice-not _) ∙ ap not (c .if1 .left))
+enough-requires c κs = legal-sizes _ (turned (c .before .legal .ensures) (c .if1 .left))
 
 returns-2 : tie.Need-returns-2
 unfolding read readNumber readRoom roomFor
 returns-2 c =
-    let e : legalLayout (c .before .before .before .before .before .before .before .args .layout) ≡ true = sym (c .before .before .before .legal .ensures) ∙ sym (twice-not _) ∙ ap not (c .before .before .if1 .left) in
-    let r = sym (c .before .enough .ensures) ∙ sym (twice-not _) ∙ ap not (c .if2 .taken) in
+    let e : legalLayout (c .before .before .before .before .before .before .before .args .layout) ≡ true = turned (c .before .before .before .legal .ensures) (c .before .before .if1 .left) in
+    let r = turned (c .before .enough .ensures) (c .if2 .taken) in
     rw (e, r) refl
 
 cut-requires : tie.Need-cut-requires
-cut-requires c κs = (legal-sizes _ (sym (c .before .before .before .before .before .before .legal .ensures) ∙ sym (twice-not _) ∙ ap not (c .before .before .before .before .before .if1 .left)), room-facts _ _ (sym (c .before .before .before .before .enough .ensures) ∙ sym (twice-not _) ∙ ap not (c .before .before .before .if2 .left)))
+cut-requires c κs = (legal-sizes _ (turned (c .before .before .before .before .before .before .legal .ensures) (c .before .before .before .before .before .if1 .left)), room-facts _ _ (turned (c .before .before .before .before .enough .ensures) (c .before .before .before .if2 .left)))
 
 same-length : tie.Need-same-length
 same-length c = search needs
@@ -46,8 +45,8 @@ same-length-3 c = search needs
 returns-3 : tie.Need-returns-3
 unfolding read readRoom roomFor
 returns-3 c =
-    let e : legalLayout (c .before .before .before .before .before .before .before .before .before .before .before .before .before .before .before .before .args .layout) ≡ true = sym (c .before .before .before .before .before .before .before .before .before .before .before .before .legal .ensures) ∙ sym (twice-not _) ∙ ap not (c .before .before .before .before .before .before .before .before .before .before .before .if1 .left) in
-    let r = sym (c .before .before .before .before .before .before .before .before .before .before .enough .ensures) ∙ sym (twice-not _) ∙ ap not (c .before .before .before .before .before .before .before .before .before .if2 .left) in
+    let e : legalLayout (c .before .before .before .before .before .before .before .before .before .before .before .before .before .before .before .before .args .layout) ≡ true = turned (c .before .before .before .before .before .before .before .before .before .before .before .before .legal .ensures) (c .before .before .before .before .before .before .before .before .before .before .before .if1 .left) in
+    let r = turned (c .before .before .before .before .before .before .before .before .before .before .enough .ensures) (c .before .before .before .before .before .before .before .before .before .if2 .left) in
     c .before .before .before .before .before .cut .ensures ∙ rw (e, r) refl
 
 pub read-frame-spec : {M : Type 1} → statement M

@@ -31,7 +31,9 @@ returns-6 c = ap (λ n. refused n (c .before .args .fault .at)) (sym (c .match .
 
 returns-7 : tie.Need-returns-7
 unfolding readNumber
-returns-7 c = let e : 14 ≡ c .before .args .fault .number = omega arith in ap (λ n. refused n (c .before .args .fault .at)) e
+returns-7 c =
+    let e : 14 ≡ c .before .args .fault .number = omega arith in
+    ap (λ n. refused n (c .before .args .fault .at)) e
 
 pub refusal-spec : {M : Type 1} → statement M
 refusal-spec =

@@ -19,10 +19,14 @@ add-at : tie.Need-add-at
 add-at c = omega (arith, subst FillIn (c .before .fill .given .1) (c .before .before .before .pre .1))
 
 returns : tie.Need-returns
-returns c = let a = c .before .before .before .args in sym (ap (finished (a .level) (a .boundary) (a .end .at)) (c .before .enum-told .given .1))
+returns c =
+    let a = c .before .before .before .args in
+    sym (ap (finished (a .level) (a .boundary) (a .end .at)) (c .before .enum-told .given .1))
 
 returns-2 : tie.Need-returns-2
-returns-2 c = let a = c .before .before .before .args in sym (ap (finished (a .level) (a .boundary) (a .end .at)) (c .before .fill .given .1))
+returns-2 c =
+    let a = c .before .before .before .args in
+    sym (ap (finished (a .level) (a .boundary) (a .end .at)) (c .before .fill .given .1))
 
 pub finish-spec : {M : Type 1} → statement M
 finish-spec = tie.close (tie.spec enum-told add-t8 enum-known-fill add-at returns returns-2)

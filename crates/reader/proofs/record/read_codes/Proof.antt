@@ -14,7 +14,9 @@ array-borrow-prefix-resolutions : tie.Need-array-borrow-prefix-resolutions
 array-borrow-prefix-resolutions c = search needs
 
 slice-aggregate-read-resolved : tie.Need-slice-aggregate-read-resolved
-slice-aggregate-read-resolved c = let h : c .before .before .before .before .args .layout .channels * 128 ≤ 2048 = omega arith in sym (length-take-le _ _ h)
+slice-aggregate-read-resolved c =
+    let h : c .before .before .before .before .args .layout .channels * 128 ≤ 2048 = omega arith in
+    sym (length-take-le _ _ h)
 
 read-resolved-requires : tie.Need-read-resolved-requires
 read-resolved-requires c κs =

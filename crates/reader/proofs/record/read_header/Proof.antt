@@ -19,7 +19,9 @@ value-fault-requires : tie.Need-value-fault-requires
 value-fault-requires c κs = search needs
 
 returns : tie.Need-returns
-returns c = let a = c .before .before .before .before .before .before .before .args in level-cut (a .layout) (a .part .now) (c .before .before .before .read-level .ensures) (c .before .enum-told .given .1) (c .value-fault .ensures)
+returns c =
+    let a = c .before .before .before .before .before .before .before .args in
+    level-cut (a .layout) (a .part .now) (c .before .before .before .read-level .ensures) (c .before .enum-told .given .1) (c .value-fault .ensures)
 
 read-boundary-requires : tie.Need-read-boundary-requires
 read-boundary-requires c κs = record { within = told-of (c .before .first .given .1) (c .before .before .before .read-level .ensures) .within; short = omega arith }
@@ -34,7 +36,9 @@ value-fault-requires-2 : tie.Need-value-fault-requires-2
 value-fault-requires-2 c κs = search needs
 
 returns-2 : tie.Need-returns-2
-returns-2 c = let a = c .before .before .before .before .before .before .before .before .before .before .before .args in boundary-cut (a .layout) (a .part .now) (c .before .before .before .before .before .before .before .read-level .ensures) (c .before .before .before .before .before .first .given .1) (c .before .before .before .read-boundary .ensures) (c .before .enum-told2 .given .1) (c .value-fault2 .ensures)
+returns-2 c =
+    let a = c .before .before .before .before .before .before .before .before .before .before .before .args in
+    boundary-cut (a .layout) (a .part .now) (c .before .before .before .before .before .before .before .read-level .ensures) (c .before .before .before .before .before .first .given .1) (c .before .before .before .read-boundary .ensures) (c .before .enum-told2 .given .1) (c .value-fault2 .ensures)
 
 read-channels-requires : tie.Need-read-channels-requires
 read-channels-requires c κs = (search needs, (record { within = told-of (c .before .before .before .second .given .1) (c .before .before .before .before .before .read-boundary .ensures) .within; short = omega arith }, (search needs, search needs)))
@@ -55,7 +59,9 @@ same-length-2 : tie.Need-same-length-2
 same-length-2 c = search needs
 
 returns-3 : tie.Need-returns-3
-returns-3 c = let a = c .before .before .before .before .before .before .before .before .before .before .before .before .before .before .before .before .before .before .before .before .before .args in channels-cut (a .layout) (a .part .now) (c .before .before .before .before .before .before .before .before .before .before .before .before .before .before .before .before .before .read-level .ensures) (c .before .before .before .before .before .before .before .before .before .before .before .before .before .before .before .first .given .1) (c .before .before .before .before .before .before .before .before .before .before .before .before .before .read-boundary .ensures) (c .before .before .before .before .before .before .before .before .before .before .before .second .given .1) (c .before .before .before .before .before .before .before .read-channels .ensures) (c .before .enum-told3 .given .1) (c .step-fault .ensures)
+returns-3 c =
+    let a = c .before .before .before .before .before .before .before .before .before .before .before .before .before .before .before .before .before .before .before .before .before .args in
+    channels-cut (a .layout) (a .part .now) (c .before .before .before .before .before .before .before .before .before .before .before .before .before .before .before .before .before .read-level .ensures) (c .before .before .before .before .before .before .before .before .before .before .before .before .before .before .before .first .given .1) (c .before .before .before .before .before .before .before .before .before .before .before .before .before .read-boundary .ensures) (c .before .before .before .before .before .before .before .before .before .before .before .second .given .1) (c .before .before .before .before .before .before .before .read-channels .ensures) (c .before .enum-told3 .given .1) (c .step-fault .ensures)
 
 cast-t21 : tie.Need-cast-t21
 cast-t21 c = search needs
@@ -70,7 +76,9 @@ same-length-4 : tie.Need-same-length-4
 same-length-4 c = search needs
 
 returns-4 : tie.Need-returns-4
-returns-4 c = let a = c .before .before .before .before .before .before .before .before .before .before .before .before .before .before .before .before .before .before .before .before .before .args in head-done (a .layout) (a .part .now) (c .before .before .before .before .before .before .before .before .before .before .before .before .before .before .before .before .before .read-level .ensures) (c .before .before .before .before .before .before .before .before .before .before .before .before .before .before .before .first .given .1) (c .before .before .before .before .before .before .before .before .before .before .before .before .before .read-boundary .ensures) (c .before .before .before .before .before .before .before .before .before .before .before .second .given .1) (c .before .before .before .before .before .before .before .read-channels .ensures) (c .before .step .given .1)
+returns-4 c =
+    let a = c .before .before .before .before .before .before .before .before .before .before .before .before .before .before .before .before .before .before .before .before .before .args in
+    head-done (a .layout) (a .part .now) (c .before .before .before .before .before .before .before .before .before .before .before .before .before .before .before .before .before .read-level .ensures) (c .before .before .before .before .before .before .before .before .before .before .before .before .before .before .before .first .given .1) (c .before .before .before .before .before .before .before .before .before .before .before .before .before .read-boundary .ensures) (c .before .before .before .before .before .before .before .before .before .before .before .second .given .1) (c .before .before .before .before .before .before .before .read-channels .ensures) (c .before .step .given .1)
 
 pub read-header-spec : {M : Type 1} → statement M
 read-header-spec =

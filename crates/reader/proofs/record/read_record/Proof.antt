@@ -30,10 +30,14 @@ same-length-2 : tie.Need-same-length-2
 same-length-2 c = search needs
 
 returns : tie.Need-returns
-returns c = let a = c .before .before .before .before .before .before .before .before .before .before .before .before .before .before .args in header-cut (a .layout) (a .part .now) (head-cut (c .before .before .before .before .before .before .before .before .read-header .ensures) (c .before .before .enum-told .given .1) (c .before .head-fault .ensures)) (c .in-frame .ensures)
+returns c =
+    let a = c .before .before .before .before .before .before .before .before .before .before .before .before .before .before .args in
+    header-cut (a .layout) (a .part .now) (head-cut (c .before .before .before .before .before .before .before .before .read-header .ensures) (c .before .before .enum-told .given .1) (c .before .head-fault .ensures)) (c .in-frame .ensures)
 
 read-codes-requires : tie.Need-read-codes-requires
-read-codes-requires c κs = let h = headed-of (c .before .before .before .before .before .before .before .before .before .read-header .ensures) (c .before .before .before .head .given .1) in (search needs, ((omega (arith, h .holds .0), search needs, h .within), (search needs, search needs)))
+read-codes-requires c κs =
+    let h = headed-of (c .before .before .before .before .before .before .before .before .before .read-header .ensures) (c .before .before .before .head .given .1) in
+    (search needs, ((omega (arith, h .holds .0), search needs, h .within), (search needs, search needs)))
 
 enum-known-step : tie.Need-enum-known-step
 enum-known-step c = search needs

@@ -23,7 +23,9 @@ same-length-2 : tie.Need-same-length-2
 same-length-2 c = search needs
 
 returns : tie.Need-returns
-returns c = let a = c .before .before .before .before .before .before .before .before .before .before .before .args in resolved (a .layout) (a .part .now) (a .place .at) (c .before .before .before .before .before .before .frame-resolutions .ensures) (c .before .read-all-spectra .ensures)
+returns c =
+    let a = c .before .before .before .before .before .before .before .before .before .before .before .args in
+    resolved (a .layout) (a .part .now) (a .place .at) (c .before .before .before .before .before .before .frame-resolutions .ensures) (c .before .read-all-spectra .ensures)
 
 pub read-resolved-spec : {M : Type 1} → statement M
 read-resolved-spec =
