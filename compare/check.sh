@@ -1,0 +1,11 @@
+#!/bin/sh
+# All comparisons in their small form, under a minute: needs target/staticlib/libhca.a (or HCA_LIB_DIR).
+set -eu
+cd "$(dirname "$0")"
+sh import.sh
+cargo build --release --offline --locked
+cargo test --quiet --release --offline -p published
+target/release/vectors --check vec
+target/release/replay-vectors vec/stage.vec vec/records.vec
+target/release/compare-stage --small
+target/release/compare-records --small

@@ -1,0 +1,84 @@
+//! The library's frame stage against the published Rust, every buffer whole.
+use compare::{differ, differ_answer, run, Options, Outcome};
+use gen::stage::{call, kind_of, KINDS};
+use published::driver::{stage, Lent, Notes, StageCall};
+
+fn by_library(call: &StageCall, model: bool, b: &mut Lent) -> u32 {
+    let f = if model { hca_model::encode_frame } else { hca_frame::raw::encode_frame };
+    f(
+        &call.layout,
+        &call.kinds,
+        &call.spectra,
+        &call.intensities,
+        &mut b.scaled,
+        &mut b.codes,
+        &mut b.factors,
+        &mut b.side,
+        &mut b.frame,
+        &mut b.answer,
+    )
+}
+
+fn named(number: u32, notes: &Notes) -> Vec<String> {
+    let mut v = vec![if number == 0 { "delivered".into() } else { format!("refusal {number}") }];
+    if number == 0 {
+        let mut add = |yes: bool, what: &str| {
+            if yes {
+                v.push(format!("({what})"));
+            }
+        };
+        add(notes.pairs > 0, "pairs removed");
+        add(notes.corner_codes > 0, "codes past the range");
+        add(notes.zone_more > 0, "more bits than estimated");
+        add(notes.zone_less > 0, "fewer bits than estimated");
+        add(notes.boundary == 127, "boundary 127");
+        add(notes.level == 0, "level 0");
+    }
+    v
+}
+
+fn describe(call: &StageCall) -> String {
+    let loud = call.spectra.iter().filter(|v| v.to_bits() << 1 != 0).count();
+    format!(
+        "  layout (channels, base, stereo, total, frame) {:?}, kinds {:?}\n  {} spectra, {} not zero; intensities {:?}\n  lengths of scaled, codes, factors, side, frame, answer: {:?}\n",
+        call.layout,
+        call.kinds,
+        call.spectra.len(),
+        loud,
+        call.intensities,
+        call.lengths
+    )
+}
+
+/// All spectra that are not 0, as bits.
+fn list(spectra: &[f32]) -> String {
+    let shown = |(i, v): (usize, &f32)| (v.to_bits() != 0).then(|| format!("{i}:{:08X} ", v.to_bits()));
+    format!("  spectra (place: bits) {}\n", spectra.iter().enumerate().filter_map(shown).collect::<String>())
+}
+
+fn main() {
+    let o = Options::parse("compare-stage", 100_000, 3_000);
+    let good = run(&o, "compare-stage", |k| {
+        let call = call(o.seed, k);
+        let before = call.lent();
+        let (mut expected, mut got) = (before.clone(), before.clone());
+        let (number, notes) = stage(&call, &mut expected);
+        let answer = by_library(&call, o.model, &mut got);
+        let mut text = String::new();
+        if answer != number {
+            text.push_str(&format!("  refusal number (0: delivered): expected {number}, got {answer}\n"));
+        }
+        differ_answer(&before.answer, &expected.answer, &got.answer, &mut text);
+        differ("factors", &before.factors, &expected.factors, &got.factors, &mut text);
+        differ("side", &before.side, &expected.side, &got.side, &mut text);
+        differ("scaled", &before.scaled, &expected.scaled, &got.scaled, &mut text);
+        differ("codes", &before.codes, &expected.codes, &got.codes, &mut text);
+        differ("frame", &before.frame, &expected.frame, &got.frame, &mut text);
+        let difference = (!text.is_empty()).then(|| {
+            let spectra = if o.only.is_some() { list(&call.spectra) } else { String::new() };
+            format!("{}{spectra}{text}  the Rust's run: {notes:?} (--only lists the spectra)", describe(&call))
+        });
+        Outcome { kind: KINDS[kind_of(k).0].0, counted: named(number, &notes), difference }
+    });
+    std::process::exit(if good { 0 } else { 1 });
+}

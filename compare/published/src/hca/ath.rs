@@ -1,0 +1,4 @@
+//! Stand-in, never called.
+pub fn ath_init() {
+    unimplemented!()
+}

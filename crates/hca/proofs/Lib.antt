@@ -1,0 +1,3 @@
+pub mod Naming
+pub mod Tellings
+pub mod Bounds

@@ -1,0 +1,29 @@
+-- `hca::write_told` meets its contract. Assumes nothing.
+use mathlib.Core.Path.{sym, ap, subst}
+use borrow.Author.Needs.{needs}
+use Rattle.rules.specs.Stage.{FrameLeft}
+use Rattle.hca.specs.Interface.{Small}
+use Rattle.hca.proofs.Tellings.{write-tells}
+use Rattle.hca.proofs.Bounds.{written-small}
+use Rattle.hca.proofs.write_told.Statement.{statement}
+use Rattle.hca.proofs.write_told.Tie as tie
+
+write-record-requires : tie.Need-write-record-requires
+write-record-requires c κs = search needs
+
+tell-write-requires : tie.Need-tell-write-requires
+tell-write-requires c κs = subst Small (sym (ap (λ (x : FrameLeft). x .outcome) (c .before .before .before .write-record .ensures))) (written-small _ _)
+
+same-length : tie.Need-same-length
+same-length c = search needs
+
+same-length-2 : tie.Need-same-length-2
+same-length-2 c = search needs
+
+returns : tie.Need-returns
+returns c = write-tells _ _ _ _ _ _ (c .before .before .before .before .before .before .write-record .ensures) (c .before .before .tell-write .ensures)
+
+pub write-told-spec : {M : Type 1} → statement M
+write-told-spec =
+    tie.close
+    (tie.spec write-record-requires tell-write-requires same-length same-length-2 returns)

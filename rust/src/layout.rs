@@ -1,0 +1,173 @@
+//! The shape of a frame, checked once.
+use std::fmt;
+
+/// What a channel is to its neighbour.
+#[derive(Clone, Copy, Debug, PartialEq, Eq, Hash)]
+pub enum Kind {
+    Discrete,
+    StereoPrimary,
+    StereoSecondary,
+}
+
+impl Kind {
+    fn byte(self) -> u8 {
+        match self {
+            Kind::Discrete => 0,
+            Kind::StereoPrimary => 1,
+            Kind::StereoSecondary => 2,
+        }
+    }
+}
+
+/// A layout within the limits: 1 to 16 channels, 1 to 128 bands of which base
+/// and stereo are at most all, and a frame of 8 to 65,535 bytes.
+#[derive(Clone, Debug, PartialEq, Eq)]
+pub struct Layout {
+    kinds: Vec<Kind>,
+    kind_bytes: Vec<u8>,
+    numbers: [u32; 5],
+}
+
+impl Layout {
+    /// Starts a layout with no channel, no band and no frame.
+    pub fn builder() -> LayoutBuilder {
+        LayoutBuilder::default()
+    }
+
+    pub fn channels(&self) -> usize {
+        self.kinds.len()
+    }
+
+    pub fn kinds(&self) -> &[Kind] {
+        &self.kinds
+    }
+
+    pub fn base_bands(&self) -> usize {
+        self.numbers[1] as usize
+    }
+
+    pub fn stereo_bands(&self) -> usize {
+        self.numbers[2] as usize
+    }
+
+    pub fn total_bands(&self) -> usize {
+        self.numbers[3] as usize
+    }
+
+    /// Bytes of a frame.
+    pub fn frame_size(&self) -> usize {
+        self.numbers[4] as usize
+    }
+
+    /// The band where high-frequency reconstruction starts.
+    pub fn start(&self) -> usize {
+        self.base_bands() + self.stereo_bands()
+    }
+
+    pub fn bands_per_group(&self) -> usize {
+        (self.total_bands() - self.start()).div_ceil(8)
+    }
+
+    /// High-frequency groups of a channel that is not a secondary; at most 8.
+    pub fn groups(&self) -> usize {
+        match self.bands_per_group() {
+            0 => 0,
+            g => (self.total_bands() - self.start()).div_ceil(g),
+        }
+    }
+
+    /// Bands whose codes a channel writes.
+    pub fn coded_count(&self, channel: usize) -> usize {
+        match self.kinds[channel] {
+            Kind::StereoSecondary => self.base_bands(),
+            _ => self.start(),
+        }
+    }
+
+    /// The five numbers of the C interface.
+    pub fn numbers(&self) -> &[u32; 5] {
+        &self.numbers
+    }
+
+    /// The kinds of the C interface.
+    pub fn kind_bytes(&self) -> &[u8] {
+        &self.kind_bytes
+    }
+}
+
+/// Collects a [`Layout`]; [`build`](LayoutBuilder::build) judges it.
+#[derive(Clone, Debug, Default)]
+pub struct LayoutBuilder {
+    kinds: Vec<Kind>,
+    base: u32,
+    stereo: u32,
+    total: u32,
+    frame: u32,
+}
+
+impl LayoutBuilder {
+    /// One more channel.
+    pub fn channel(mut self, kind: Kind) -> Self {
+        self.kinds.push(kind);
+        self
+    }
+
+    /// All channels at once.
+    pub fn channels(mut self, kinds: &[Kind]) -> Self {
+        self.kinds = kinds.to_vec();
+        self
+    }
+
+    /// Bands coded in every channel, bands coded in all but secondaries, all bands.
+    pub fn bands(mut self, base: u32, stereo: u32, total: u32) -> Self {
+        (self.base, self.stereo, self.total) = (base, stereo, total);
+        self
+    }
+
+    pub fn frame_size(mut self, bytes: u32) -> Self {
+        self.frame = bytes;
+        self
+    }
+
+    pub fn build(self) -> Result<Layout, LayoutError> {
+        if self.kinds.is_empty() || self.kinds.len() > 16 {
+            return Err(LayoutError::Channels(self.kinds.len()));
+        }
+        if self.total < 1 || self.total > 128 {
+            return Err(LayoutError::Total(self.total));
+        }
+        if u64::from(self.base) + u64::from(self.stereo) > u64::from(self.total) {
+            return Err(LayoutError::Bands { base: self.base, stereo: self.stereo, total: self.total });
+        }
+        if self.frame < 8 || self.frame > 65_535 {
+            return Err(LayoutError::FrameSize(self.frame));
+        }
+        let numbers = [self.kinds.len() as u32, self.base, self.stereo, self.total, self.frame];
+        let kind_bytes = self.kinds.iter().map(|k| k.byte()).collect();
+        Ok(Layout { kinds: self.kinds, kind_bytes, numbers })
+    }
+}
+
+/// The limit that a layout broke.
+#[derive(Clone, Copy, Debug, PartialEq, Eq)]
+pub enum LayoutError {
+    Channels(usize),
+    Total(u32),
+    Bands { base: u32, stereo: u32, total: u32 },
+    FrameSize(u32),
+}
+
+impl fmt::Display for LayoutError {
+    fn fmt(&self, f: &mut fmt::Formatter<'_>) -> fmt::Result {
+        match *self {
+            LayoutError::Channels(n) => write!(f, "{n} channels; a layout has 1 to 16"),
+            LayoutError::Total(n) => write!(f, "{n} bands in total; a layout has 1 to 128"),
+            LayoutError::Bands { base, stereo, total } => {
+                write!(f, "{base} base and {stereo} stereo bands are more than the {total} in total")
+            }
+            LayoutError::FrameSize(n) => write!(f, "a frame of {n} bytes; a frame has 8 to 65,535"),
+        }
+    }
+}
+
+impl std::error::Error for LayoutError {}

@@ -1,0 +1,217 @@
+//! Safe Rust calls over the proved HCA frame library (`libhca.a`).
+//!
+//! An [`Encoder`] turns the spectra of one frame into the frame's bytes, and
+//! [`read_frame`] and [`write_record`] go from a frame to its record and back.
+//! The library refuses what it cannot do by number; see [`Refusal`].
+//!
+//! ```
+//! use hca_frame::{read_frame, write_record, Encoder, Kind, Layout};
+//!
+//! let layout = Layout::builder()
+//!     .channel(Kind::Discrete)
+//!     .bands(40, 0, 64)
+//!     .frame_size(120)
+//!     .build()?;
+//!
+//! // 8 subframes of 128 bands: a decaying spectrum.
+//! let spectra: Vec<f32> = (0..1024)
+//!     .map(|i| 0.5 * (-((i % 128) as f32) / 20.0).exp() * if i % 3 == 0 { -1.0 } else { 1.0 })
+//!     .collect();
+//!
+//! let mut encoder = Encoder::new(layout.clone());
+//! let done = encoder.encode_frame(&spectra, &[0; 8])?;
+//! assert!(done.bits as usize <= 8 * (layout.frame_size() - 2));
+//!
+//! // The strict reader hands back what the stage wrote ..
+//! let (record, bits) = read_frame(&layout, encoder.frame())?;
+//! assert_eq!((record.level, record.boundary, bits), (done.level, done.boundary, done.bits));
+//! assert_eq!(record.codes, encoder.codes());
+//!
+//! // .. and the record writer writes the same bytes again.
+//! let (frame, _) = write_record(&layout, &record)?;
+//! assert_eq!(frame, encoder.frame());
+//! # Ok::<(), Box<dyn std::error::Error>>(())
+//! ```
+//!
+//! Build `libhca.a` first (`rt staticlib hca`); the build script looks for it in
+//! `../target/staticlib`, or in the folder that `HCA_LIB_DIR` names.
+
+mod layout;
+pub mod raw;
+mod refusal;
+
+pub use layout::{Kind, Layout, LayoutBuilder, LayoutError};
+pub use refusal::Refusal;
+
+/// What the stage answers beside its buffers.
+#[derive(Clone, Copy, Debug, PartialEq, Eq)]
+pub struct Delivered {
+    /// Noise level, 0 to 254.
+    pub level: u32,
+    /// Bands below it are coded one level finer; 0 to 127.
+    pub boundary: u32,
+    /// Removal stages passed before a level was found.
+    pub pairs: u32,
+    /// Bits of all fields, before the fill.
+    pub bits: u32,
+}
+
+/// Encodes frames of one layout; owns the work buffers.
+#[derive(Clone, Debug)]
+pub struct Encoder {
+    layout: Layout,
+    scaled: Vec<f32>,
+    codes: Vec<i32>,
+    factors: Vec<u8>,
+    side: Vec<u8>,
+    frame: Vec<u8>,
+}
+
+impl Encoder {
+    pub fn new(layout: Layout) -> Self {
+        let n = layout.channels();
+        Encoder {
+            scaled: vec![0.0; n * 1024],
+            codes: vec![0; n * 1024],
+            factors: vec![0; n * 128],
+            side: vec![0; n * 8],
+            frame: vec![0; layout.frame_size()],
+            layout,
+        }
+    }
+
+    /// Encodes one frame. `spectra` has 1,024 values a channel (channel, subframe,
+    /// band), `intensities` 8 bytes a channel, looked at for secondaries only.
+    /// After a refusal 5 to 7 all buffers are zero; after an earlier one they are
+    /// those of the frame before.
+    pub fn encode_frame(&mut self, spectra: &[f32], intensities: &[u8]) -> Result<Delivered, Refusal> {
+        let mut answer = [0; 4];
+        let number = raw::encode_frame(
+            self.layout.numbers(),
+            self.layout.kind_bytes(),
+            spectra,
+            intensities,
+            &mut self.scaled,
+            &mut self.codes,
+            &mut self.factors,
+            &mut self.side,
+            &mut self.frame,
+            &mut answer,
+        );
+        let [level, boundary, pairs, bits] = delivered(number, answer)?;
+        Ok(Delivered { level, boundary, pairs, bits })
+    }
+
+    pub fn layout(&self) -> &Layout {
+        &self.layout
+    }
+
+    /// The frame's bytes.
+    pub fn frame(&self) -> &[u8] {
+        &self.frame
+    }
+
+    /// Codes by channel, subframe, band.
+    pub fn codes(&self) -> &[i32] {
+        &self.codes
+    }
+
+    /// Scale factors by channel, band.
+    pub fn factors(&self) -> &[u8] {
+        &self.factors
+    }
+
+    /// Per channel eight bytes: a secondary's intensities, else its HFR scales.
+    pub fn side(&self) -> &[u8] {
+        &self.side
+    }
+
+    /// Scaled spectra by channel, band, subframe.
+    pub fn scaled(&self) -> &[f32] {
+        &self.scaled
+    }
+
+    /// The last frame as a record; `done` is what its call delivered.
+    pub fn record(&self, done: &Delivered) -> Record {
+        Record {
+            level: done.level,
+            boundary: done.boundary,
+            factors: self.factors.clone(),
+            side: self.side.clone(),
+            codes: self.codes.clone(),
+        }
+    }
+}
+
+/// All that a frame says.
+#[derive(Clone, Debug, PartialEq, Eq)]
+pub struct Record {
+    pub level: u32,
+    pub boundary: u32,
+    /// 128 a channel.
+    pub factors: Vec<u8>,
+    /// 8 a channel.
+    pub side: Vec<u8>,
+    /// 1,024 a channel: channel, subframe, band.
+    pub codes: Vec<i32>,
+}
+
+impl Record {
+    /// The record of a silent frame.
+    pub fn silent(layout: &Layout) -> Self {
+        let n = layout.channels();
+        Record { level: 0, boundary: 0, factors: vec![0; n * 128], side: vec![0; n * 8], codes: vec![0; n * 1024] }
+    }
+}
+
+/// Reads a frame strictly: what it accepts, [`write_record`] writes to the same
+/// bytes. The second value is the bits of all fields, before the fill.
+pub fn read_frame(layout: &Layout, frame: &[u8]) -> Result<(Record, u32), Refusal> {
+    let mut record = Record::silent(layout);
+    let mut answer = [0; 4];
+    let number = raw::read_frame(
+        layout.numbers(),
+        layout.kind_bytes(),
+        frame,
+        &mut record.factors,
+        &mut record.side,
+        &mut record.codes,
+        &mut answer,
+    );
+    let [level, boundary, bits, _] = delivered(number, answer)?;
+    (record.level, record.boundary) = (level, boundary);
+    Ok((record, bits))
+}
+
+/// Writes a record's frame. The second value is the bits of all fields.
+pub fn write_record(layout: &Layout, record: &Record) -> Result<(Vec<u8>, u32), Refusal> {
+    let mut frame = vec![0; layout.frame_size()];
+    let mut answer = [0; 4];
+    let number = raw::write_record(
+        layout.numbers(),
+        layout.kind_bytes(),
+        &[record.level, record.boundary],
+        &record.factors,
+        &record.side,
+        &record.codes,
+        &mut frame,
+        &mut answer,
+    );
+    let [_, _, bits, _] = delivered(number, answer)?;
+    Ok((frame, bits))
+}
+
+/// The check of a run of bytes, as it stands in a frame's last two.
+pub fn checksum(bytes: &[u8]) -> u16 {
+    raw::checksum(bytes)
+}
+
+fn delivered(number: u32, answer: [u32; 4]) -> Result<[u32; 4], Refusal> {
+    match number {
+        0 => Ok(answer),
+        _ => Err(Refusal { number, place: answer[0] }),
+    }
+}
+
+#[cfg(test)]
+mod tests;

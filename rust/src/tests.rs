@@ -1,0 +1,134 @@
+use super::*;
+
+fn mono(bands: u32, total: u32, frame: u32) -> Layout {
+    Layout::builder().channel(Kind::Discrete).bands(bands, 0, total).frame_size(frame).build().unwrap()
+}
+
+#[test]
+fn a_builder_names_the_broken_limit() {
+    let b = || Layout::builder().channel(Kind::Discrete).bands(1, 0, 1).frame_size(8);
+    assert!(b().build().is_ok());
+    assert_eq!(b().channels(&[]).build(), Err(LayoutError::Channels(0)));
+    assert_eq!(b().channels(&[Kind::Discrete; 17]).build(), Err(LayoutError::Channels(17)));
+    assert_eq!(b().bands(0, 0, 0).build(), Err(LayoutError::Total(0)));
+    assert_eq!(b().bands(0, 0, 129).build(), Err(LayoutError::Total(129)));
+    let huge = LayoutError::Bands { base: u32::MAX, stereo: 1, total: 1 };
+    assert_eq!(b().bands(u32::MAX, 1, 1).build(), Err(huge));
+    assert_eq!(b().frame_size(7).build(), Err(LayoutError::FrameSize(7)));
+    assert_eq!(b().frame_size(65_536).build(), Err(LayoutError::FrameSize(65_536)));
+    assert!(huge.to_string().contains("4294967295 base and 1 stereo"));
+}
+
+#[test]
+fn groups_of_the_worked_layout() {
+    let l = mono(100, 117, 600);
+    assert_eq!((l.bands_per_group(), l.groups(), l.start()), (3, 6, 100));
+    assert_eq!(mono(117, 117, 600).groups(), 0);
+}
+
+#[test]
+fn coded_counts() {
+    let l = Layout::builder()
+        .channels(&[Kind::StereoPrimary, Kind::StereoSecondary, Kind::Discrete])
+        .bands(10, 20, 40)
+        .frame_size(300)
+        .build()
+        .unwrap();
+    assert_eq!([l.coded_count(0), l.coded_count(1), l.coded_count(2)], [30, 10, 30]);
+    assert_eq!(l.kind_bytes(), [1, 2, 0]);
+    assert_eq!(l.numbers(), &[3, 10, 20, 40, 300]);
+}
+
+#[test]
+fn silence_in_eight_bytes() {
+    let five = Layout::builder().channels(&[Kind::Discrete; 5]).bands(1, 0, 1).frame_size(8).build().unwrap();
+    let mut e = Encoder::new(five);
+    let done = e.encode_frame(&[0.0; 5 * 1024], &[0; 40]).unwrap();
+    assert_eq!(done, Delivered { level: 0, boundary: 0, pairs: 0, bits: 47 });
+    assert_eq!(&e.frame()[..6], &[0xFF, 0xFF, 0, 0, 0, 0]);
+    let six = Layout::builder().channels(&[Kind::Discrete; 6]).bands(1, 0, 1).frame_size(8).build().unwrap();
+    let no = Encoder::new(six).encode_frame(&[0.0; 6 * 1024], &[0; 48]);
+    assert_eq!(no, Err(Refusal { number: 5, place: 0 }));
+}
+
+#[test]
+fn refusals_name_their_place() {
+    let l =
+        Layout::builder().channels(&[Kind::StereoPrimary, Kind::StereoSecondary]).bands(4, 4, 8).frame_size(100).build().unwrap();
+    let mut e = Encoder::new(l);
+    let (mut spectra, mut intensities) = ([0.0; 2048], [0; 16]);
+    assert_eq!(e.encode_frame(&spectra[1..], &intensities), Err(Refusal { number: 2, place: 0 }));
+    spectra[1500] = f32::NAN;
+    assert_eq!(e.encode_frame(&spectra, &intensities), Err(Refusal { number: 4, place: 1500 }));
+    intensities[0] = 200; // a primary's are not looked at
+    intensities[9] = 16;
+    let no = e.encode_frame(&spectra, &intensities).unwrap_err();
+    assert_eq!(no, Refusal { number: 3, place: 9 });
+    assert_eq!(no.to_string(), "refusal 3: intensity 9 of a secondary channel is above 15");
+}
+
+#[test]
+fn a_found_level_can_end_in_refusal_7() {
+    let mut spectra = [0.0; 1024];
+    spectra[0] = f32::from_bits(0x342A8D26);
+    for s in 1..8 {
+        spectra[s * 128] = f32::from_bits(0x2E634C94);
+    }
+    let mut e = Encoder::new(mono(1, 1, 19));
+    assert_eq!(e.encode_frame(&spectra, &[0; 8]), Err(Refusal { number: 7, place: 0 }));
+    assert!(e.frame().iter().all(|&b| b == 0));
+    assert!(Encoder::new(mono(1, 1, 20)).encode_frame(&spectra, &[0; 8]).is_ok());
+}
+
+#[test]
+fn a_frame_and_its_record() {
+    let l = mono(30, 60, 90);
+    let mut e = Encoder::new(l.clone());
+    let spectra: Vec<f32> = (0..1024).map(|i| ((i * 37 % 101) as f32 - 50.0) / (8 + 8 * (i % 128)) as f32).collect();
+    let done = e.encode_frame(&spectra, &[0; 8]).unwrap();
+    let (record, bits) = read_frame(&l, e.frame()).unwrap();
+    assert_eq!(record, e.record(&done));
+    assert_eq!(bits, done.bits);
+    assert_eq!(write_record(&l, &record), Ok((e.frame().to_vec(), bits)));
+    assert_eq!(checksum(e.frame()), 0);
+}
+
+#[test]
+fn the_reader_is_strict() {
+    let l = mono(1, 1, 10);
+    let (good, bits) = write_record(&l, &Record::silent(&l)).unwrap();
+    assert_eq!(bits, 35);
+    let mut bad = good.clone();
+    bad[9] ^= 1;
+    assert_eq!(read_frame(&l, &bad), Err(Refusal { number: 8, place: 0 }));
+    let mut filled = good.clone();
+    filled[7] = 1;
+    let check = checksum(&filled[..8]);
+    filled[8..].copy_from_slice(&check.to_be_bytes());
+    assert_eq!(read_frame(&l, &filled), Err(Refusal { number: 14, place: 63 }));
+    assert_eq!(read_frame(&l, &good[..9]), Err(Refusal { number: 2, place: 0 }));
+}
+
+#[test]
+fn an_illegal_record_is_refused() {
+    let l = mono(1, 1, 10);
+    let mut r = Record::silent(&l);
+    r.codes[0] = i32::MIN;
+    assert_eq!(write_record(&l, &r), Err(Refusal { number: 15, place: 0 }));
+}
+
+#[test]
+fn the_check_of_a_known_text() {
+    // CRC-16 with polynomial 8005, start 0, not reflected
+    assert_eq!(checksum(b"123456789"), 0xFEE8);
+    assert_eq!(checksum(b""), 0);
+}
+
+#[test]
+fn every_number_has_a_text() {
+    for number in 1..=15 {
+        let text = Refusal { number, place: 3 }.to_string();
+        assert!(text.starts_with(&format!("refusal {number}: ")) && text.len() > 30, "{text}");
+    }
+    assert!(Refusal { number: 31, place: 3 }.to_string().contains("unknown"));
+}
