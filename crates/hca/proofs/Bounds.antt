@@ -26,40 +26,8 @@ use Rattle.rules.specs.declared.Layout.{Layout}
 use Rattle.rules.proofs.Layouts.{legal-sizes}
 use Rattle.rules.proofs.Frames.{sound}
 use Rattle.rules.proofs.Made.{made-pairs, made-boundary}
-use Rattle.hca.specs.Interface.{numbersOf, Small}
-
-small-refused : (number beside : ℕ) → beside < 4294967296 → Small (refused number beside)
-unfolding Small numbersOf
-small-refused number beside h zero = h
-small-refused number beside h (suc i) = omega arith
-
-small-four : (a b c d : ℕ) → a < 4294967296 → b < 4294967296 → c < 4294967296 → d < 4294967296 → Small (delivered (a ∷ b ∷ c ∷ d ∷ []))
-unfolding Small numbersOf
-small-four a b c d h k m n zero = h
-small-four a b c d h k m n (suc zero) = k
-small-four a b c d h k m n (suc (suc zero)) = m
-small-four a b c d h k m n (suc (suc (suc zero))) = n
-small-four a b c d h k m n (suc (suc (suc (suc i)))) = omega arith
-
-small-three : (a b c : ℕ) → a < 4294967296 → b < 4294967296 → c < 4294967296 → Small (delivered (a ∷ b ∷ c ∷ []))
-unfolding Small numbersOf
-small-three a b c h k m zero = h
-small-three a b c h k m (suc zero) = k
-small-three a b c h k m (suc (suc zero)) = m
-small-three a b c h k m (suc (suc (suc i))) = omega arith
-
--- what is taken out again
-pub of-refused : (number beside : ℕ) → Small (refused number beside) → beside < 4294967296
-unfolding Small numbersOf
-of-refused number beside h = h 0
-
-pub of-three : (a b c : ℕ) → Small (delivered (a ∷ b ∷ c ∷ [])) → (a < 4294967296) × (b < 4294967296) × (c < 4294967296)
-unfolding Small numbersOf
-of-three a b c h = (h 0, h 1, h 2)
-
-pub of-four : (a b c d : ℕ) → Small (delivered (a ∷ b ∷ c ∷ d ∷ [])) → (a < 4294967296) × (b < 4294967296) × (c < 4294967296) × (d < 4294967296)
-unfolding Small numbersOf
-of-four a b c d h = (h 0, h 1, h 2, h 3)
+use Rattle.interface.specs.Outcomes.{Small}
+use Rattle.interface.proofs.Fitting.{small-refused, small-three, small-four}
 
 -- ---- the stage
 

@@ -1,74 +1,15 @@
--- The C interface: how two slices name a layout, and what each call returns, answers and leaves in every lent buffer. One definition a call.
-use mathlib.Core.Path.{_≡_}
-use mathlib.Core.List.{List, [], _∷_}
-use mathlib.Core.Bool.{Bool, cond, not, _&&_}
-use Prim.Native.Nat.{ℕ, _<_}
-use lib.Dec.{leb, ltb, eqb}
+-- The C interface: what each call returns, answers and leaves in every lent buffer. One definition a call.
+use mathlib.Core.List.{List}
+use mathlib.Core.Bool.{cond, not}
+use Prim.Native.Nat.{ℕ}
+use lib.Dec.{ltb}
 use lib.IntN.{ℤ}
 use lib.Ieee.{Float}
 use lib.ListN.{length, getD}
-use Rattle.buffers.specs.Walk.{first, build}
-use Rattle.rules.specs.Layout.{legalLayout}
-use Rattle.rules.specs.Refusals.{Outcome, delivered, refused}
-use Rattle.rules.specs.Stage.{laid, Lent, Left, kept, stage, FrameLeft, recordLent, written, FrameLent, RecordLeft, untouched, read}
-use Rattle.rules.specs.declared.Channel.{Channel}
-use Rattle.rules.specs.declared.ChannelType.the-variants.{Discrete, StereoPrimary, StereoSecondary}
-use Rattle.rules.specs.declared.Layout.{Layout}
-
--- ---- a layout from its slices
-
--- 0 Discrete, 1 StereoPrimary, 2 StereoSecondary
-unfoldable pub channelOf : ℕ → Channel
-channelOf k = record { kind = cond (eqb k 2) StereoSecondary (cond (eqb k 1) StereoPrimary Discrete) }
-
--- kinds past the lent ones are Discrete
-abbrev pub channelAt : List ℕ → ℕ → Channel
-channelAt kinds c = channelOf (getD kinds c 0)
-
--- channels, base, stereo, total, frame size; later numbers are not looked at
-unfoldable pub layoutOf : List ℕ → List ℕ → Layout
-layoutOf numbers kinds = record {
-  channels = getD numbers 0 0;
-  kinds = build (channelAt kinds) 16;
-  base = getD numbers 1 0;
-  stereo = getD numbers 2 0;
-  total = getD numbers 3 0;
-  «frame_size» = getD numbers 4 0;
-}
-
-unfoldable pub badKind : List ℕ → ℕ → Bool
-badKind kinds c = ltb 2 (getD kinds c 0)
-
--- five numbers, a kind for each channel, none above 2, and a layout within the limits: else refusal 1
-unfoldable pub named : List ℕ → List ℕ → Bool
-named numbers kinds =
-    leb 5 (length numbers) && (leb (getD numbers 0 0) (length kinds) && (leb (getD numbers 0 0) (first (badKind kinds) (getD numbers 0 0))
-    && legalLayout (layoutOf numbers kinds)))
-
--- ---- what is told of an outcome
-
--- what is returned: 0 for a delivery
-unfoldable pub resultOf : Outcome → ℕ
-resultOf (delivered ns) = 0
-resultOf (refused number beside) = number
-
--- what stands at the front of the answer
-unfoldable pub numbersOf : Outcome → List ℕ
-numbersOf (delivered ns) = ns
-numbersOf (refused number beside) = beside ∷ []
-
--- the rest of the answer stays; one under four places stays whole
-unfoldable pub toldIn : Outcome → List ℕ → List ℕ
-toldIn o answer = cond (ltb (length answer) 4) answer (laid (numbersOf o) answer)
-
--- every number of an outcome fits the answer's places
-unfoldable pub Small : Outcome → Type 0
-Small o = (i : ℕ) → getD (numbersOf o) i 0 < 4294967296
-
--- result and answer tell this outcome
-pub record Told (o : Outcome) (result : ℕ) (before after : List ℕ) : Type 0 where
-  pub answered : result ≡ resultOf o
-  pub shown : after ≡ toldIn o before
+use Rattle.rules.specs.Refusals.{refused}
+use Rattle.rules.specs.Stage.{Lent, Left, kept, stage, FrameLeft, recordLent, written, FrameLent, RecordLeft, untouched, read}
+use Rattle.interface.specs.Layouts.{layoutOf, named}
+use Rattle.interface.specs.Outcomes.{resultOf, toldIn}
 
 -- ---- the stage
 

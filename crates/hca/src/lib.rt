@@ -5,17 +5,14 @@ ghost use lib.ListN.{length};
 ghost use Rattle.crc.specs.Check.{checksum};
 ghost use Rattle.rules.specs.Stage.{stageLent, stage, recordLent, written, frameLent, read};
 ghost use Rattle.hca.specs.Interface.{encodedAs, encodedTold, encoded, wroteAs, wroteTold, wrote, returnedAs, returnedTold, returned};
-use self::names::is_named;
-use self::names::layout_of;
-use self::names::wide;
-use self::told::refuse;
-use self::told::tell_read;
-use self::told::tell_stage;
-use self::told::tell_write;
+use interface::names::is_named;
+use interface::names::layout_of;
+use interface::names::wide;
+use interface::told::refuse;
+use interface::told::tell_read;
+use interface::told::tell_stage;
+use interface::told::tell_write;
 use rules::Layout;
-
-mod names;
-mod told;
 
 // The stage of a layout that is named, and its answer told.
 fn encode_told(

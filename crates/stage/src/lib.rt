@@ -3,16 +3,13 @@ ghost use mathlib.Core.Path.{_≡_};
 ghost use lib.ListN.{length, take};
 ghost use Rattle.rules.specs.Layout.{Sizes, spectrumLength, sideLength};
 ghost use Rattle.rules.specs.Stage.{stageLent, stageLeft, made, settled, stage};
-ghost use Rattle.stage.specs.Gate.{Enough, roomOf};
-use self::gate::Gate;
-use self::gate::Room;
-use self::gate::check;
-use self::run::run;
+ghost use Rattle.gate.specs.Gate.{Enough, roomOf};
+use gate::Gate;
+use gate::Room;
+use gate::check;
+use making::run;
 use rules::Layout;
 use rules::StageAnswer;
-
-mod gate;
-mod run;
 
 // Behind the gate: the parts of the stated lengths are lent, and the rest stays untouched.
 fn cut(

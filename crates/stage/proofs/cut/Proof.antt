@@ -1,7 +1,7 @@
 -- `stage::cut` meets its contract. Assumes nothing.
 use mathlib.Core.Path.{sym, _∙_}
 use lib.Seq.{length-take-le}
-use Rattle.stage.proofs.Ends.{opened}
+use Rattle.stage.proofs.Wholes.{opened}
 use borrow.Author.Needs.{needs}
 use Rattle.stage.proofs.cut.Statement.{statement}
 use Rattle.stage.proofs.cut.Tie as tie

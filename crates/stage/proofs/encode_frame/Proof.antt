@@ -1,8 +1,8 @@
 -- `stage::encode_frame` meets its contract: what the gate refuses is kept, and the rest is `cut`'s. Assumes nothing.
 use mathlib.Core.Path.{refl, sym, _∙_}
 use Rattle.rules.specs.Refusals.{stageNumber}
-use Rattle.stage.specs.Gate.{passed}
-use Rattle.stage.proofs.Rooms.{gate-open, passes}
+use Rattle.gate.specs.Gate.{passed}
+use Rattle.gate.proofs.Rooms.{gate-open, passes}
 use borrow.Author.Needs.{needs}
 use Rattle.stage.proofs.encode_frame.Statement.{statement}
 use Rattle.stage.proofs.encode_frame.Tie as tie
