@@ -4,8 +4,11 @@ use std::fmt;
 /// What a channel is to its neighbour.
 #[derive(Clone, Copy, Debug, PartialEq, Eq, Hash)]
 pub enum Kind {
+    /// Stands alone.
     Discrete,
+    /// Carries the stereo bands of a pair.
     StereoPrimary,
+    /// Codes the base bands only; intensities say the rest.
     StereoSecondary,
 }
 
@@ -34,22 +37,27 @@ impl Layout {
         LayoutBuilder::default()
     }
 
+    /// How many channels there are, 1 to 16.
     pub fn channels(&self) -> usize {
         self.kinds.len()
     }
 
+    /// What each channel is.
     pub fn kinds(&self) -> &[Kind] {
         &self.kinds
     }
 
+    /// Bands that every channel codes.
     pub fn base_bands(&self) -> usize {
         self.numbers[1] as usize
     }
 
+    /// Further bands that all but secondaries code.
     pub fn stereo_bands(&self) -> usize {
         self.numbers[2] as usize
     }
 
+    /// All bands; those from [`start`](Layout::start) on are reconstructed.
     pub fn total_bands(&self) -> usize {
         self.numbers[3] as usize
     }
@@ -64,6 +72,7 @@ impl Layout {
         self.base_bands() + self.stereo_bands()
     }
 
+    /// Bands of a high-frequency group; 0 where there are none.
     pub fn bands_per_group(&self) -> usize {
         (self.total_bands() - self.start()).div_ceil(8)
     }
@@ -76,7 +85,7 @@ impl Layout {
         }
     }
 
-    /// Bands whose codes a channel writes.
+    /// Bands whose codes a channel writes. Panics where there is no such channel.
     pub fn coded_count(&self, channel: usize) -> usize {
         match self.kinds[channel] {
             Kind::StereoSecondary => self.base_bands(),
@@ -124,11 +133,13 @@ impl LayoutBuilder {
         self
     }
 
+    /// Bytes of a frame, its check among them.
     pub fn frame_size(mut self, bytes: u32) -> Self {
         self.frame = bytes;
         self
     }
 
+    /// The layout, or the first limit that it breaks.
     pub fn build(self) -> Result<Layout, LayoutError> {
         if self.kinds.is_empty() || self.kinds.len() > 16 {
             return Err(LayoutError::Channels(self.kinds.len()));
@@ -151,9 +162,14 @@ impl LayoutBuilder {
 /// The limit that a layout broke.
 #[derive(Clone, Copy, Debug, PartialEq, Eq)]
 pub enum LayoutError {
+    /// So many channels; there may be 1 to 16.
     Channels(usize),
+    /// So many bands in total; there may be 1 to 128.
     Total(u32),
+    /// Base and stereo bands are more than the total.
+    #[allow(missing_docs)]
     Bands { base: u32, stereo: u32, total: u32 },
+    /// So many bytes of a frame; there may be 8 to 65,535.
     FrameSize(u32),
 }
 

@@ -36,7 +36,11 @@
 //! Build `libhca.a` first (`rt staticlib hca`); the build script looks for it in
 //! `../target/staticlib`, or in the folder that `HCA_LIB_DIR` names.
 
+#![warn(missing_docs)]
+#![deny(unsafe_code)]
+
 mod layout;
+#[allow(unsafe_code)]
 pub mod raw;
 mod refusal;
 
@@ -68,6 +72,7 @@ pub struct Encoder {
 }
 
 impl Encoder {
+    /// An encoder with its buffers zero.
     pub fn new(layout: Layout) -> Self {
         let n = layout.channels();
         Encoder {
@@ -102,6 +107,7 @@ impl Encoder {
         Ok(Delivered { level, boundary, pairs, bits })
     }
 
+    /// The layout of every frame.
     pub fn layout(&self) -> &Layout {
         &self.layout
     }
@@ -146,7 +152,9 @@ impl Encoder {
 /// All that a frame says.
 #[derive(Clone, Debug, PartialEq, Eq)]
 pub struct Record {
+    /// Noise level, 0 to 254.
     pub level: u32,
+    /// Bands below it are coded one level finer; 0 to 127, 0 at level 0.
     pub boundary: u32,
     /// 128 a channel.
     pub factors: Vec<u8>,

@@ -4,9 +4,45 @@ use std::fmt;
 /// A refusal: document 01's number and the number beside it.
 #[derive(Clone, Copy, Debug, PartialEq, Eq, Hash)]
 pub struct Refusal {
+    /// 1 to 15: see the constants.
     pub number: u32,
     /// An index, a bit, a level or a count of pairs, as the number has it; else 0.
     pub place: u32,
+}
+
+/// The numbers by name, as in `include/hca_frame.h`.
+#[rustfmt::skip]
+impl Refusal {
+    /// The layout is outside its limits. An [`Encoder`](crate::Encoder) never gives it: its layout was checked.
+    pub const BAD_LAYOUT: u32 = 1;
+    /// A buffer has too few elements for the layout.
+    pub const SHORT_BUFFER: u32 = 2;
+    /// A secondary's intensity is above 15; `place` is its index.
+    pub const BAD_INTENSITY: u32 = 3;
+    /// A spectrum value is NaN or infinite; `place` is its index.
+    pub const BAD_SPECTRUM: u32 = 4;
+    /// No noise level fits, even with bands removed; `place` is how many pairs were.
+    pub const NO_LEVEL: u32 = 5;
+    /// No boundary fits: proved never to come; `place` is the level.
+    pub const NO_BOUNDARY: u32 = 6;
+    /// The fields end past the payload.
+    pub const TOO_LONG: u32 = 7;
+    /// The frame's check is wrong.
+    pub const WRONG_CHECK: u32 = 8;
+    /// The frame does not begin with FFFF.
+    pub const WRONG_SYNC: u32 = 9;
+    /// Level or boundary is out of range; `place` is the field's bit, as in all that follow.
+    pub const BAD_LEVEL: u32 = 10;
+    /// A width is not the one that the writer chooses.
+    pub const BAD_WIDTH: u32 = 11;
+    /// An escape was needless, or a factor lies outside 0..63.
+    pub const BAD_FACTOR: u32 = 12;
+    /// A field would pass the payload's end.
+    pub const PAST_END: u32 = 13;
+    /// The fill holds a 1.
+    pub const FILL_NOT_ZERO: u32 = 14;
+    /// The record is not legal; `place` is 0.
+    pub const NOT_LEGAL: u32 = 15;
 }
 
 impl fmt::Display for Refusal {
@@ -14,21 +50,21 @@ impl fmt::Display for Refusal {
         let at = self.place;
         write!(f, "refusal {}: ", self.number)?;
         match self.number {
-            1 => write!(f, "the layout is outside the limits"),
-            2 => write!(f, "a lent buffer is too short for the layout"),
-            3 => write!(f, "intensity {at} of a secondary channel is above 15"),
-            4 => write!(f, "spectrum {at} is NaN or infinite"),
-            5 => write!(f, "no noise level fits, even with {at} pairs of bands removed; raise the frame size"),
-            6 => write!(f, "no boundary fits at level {at}"),
-            7 => write!(f, "the fields end past the payload; raise the frame size"),
-            8 => write!(f, "the frame's check is wrong: the bytes were damaged, or the frame size is another"),
-            9 => write!(f, "the frame does not begin with FFFF"),
-            10 => write!(f, "level or boundary at bit {at} is outside its range"),
-            11 => write!(f, "the width at bit {at} is not the one that the writer chooses"),
-            12 => write!(f, "the delta at bit {at} is a needless escape or leads outside 0..63"),
-            13 => write!(f, "the field at bit {at} would pass the payload's end"),
-            14 => write!(f, "the fill holds a 1 at bit {at}"),
-            15 => write!(f, "the record is not legal: a value is out of range, or not 0 where nothing is written"),
+            Self::BAD_LAYOUT => write!(f, "the layout is outside the limits"),
+            Self::SHORT_BUFFER => write!(f, "a lent buffer is too short for the layout"),
+            Self::BAD_INTENSITY => write!(f, "intensity {at} of a secondary channel is above 15"),
+            Self::BAD_SPECTRUM => write!(f, "spectrum {at} is NaN or infinite"),
+            Self::NO_LEVEL => write!(f, "no noise level fits, even with {at} pairs of bands removed; raise the frame size"),
+            Self::NO_BOUNDARY => write!(f, "no boundary fits at level {at}"),
+            Self::TOO_LONG => write!(f, "the fields end past the payload; raise the frame size"),
+            Self::WRONG_CHECK => write!(f, "the frame's check is wrong: the bytes were damaged, or the frame size is another"),
+            Self::WRONG_SYNC => write!(f, "the frame does not begin with FFFF"),
+            Self::BAD_LEVEL => write!(f, "level or boundary at bit {at} is outside its range"),
+            Self::BAD_WIDTH => write!(f, "the width at bit {at} is not the one that the writer chooses"),
+            Self::BAD_FACTOR => write!(f, "the delta at bit {at} is a needless escape or leads outside 0..63"),
+            Self::PAST_END => write!(f, "the field at bit {at} would pass the payload's end"),
+            Self::FILL_NOT_ZERO => write!(f, "the fill holds a 1 at bit {at}"),
+            Self::NOT_LEGAL => write!(f, "the record is not legal: a value is out of range, or not 0 where nothing is written"),
             _ => write!(f, "unknown to this crate, with {at} beside it"),
         }
     }

@@ -132,3 +132,34 @@ fn every_number_has_a_text() {
     }
     assert!(Refusal { number: 31, place: 3 }.to_string().contains("unknown"));
 }
+
+#[test]
+fn threads_do_not_meet() {
+    let l = mono(30, 60, 90);
+    let frame_of = |k: usize| {
+        let spectra: Vec<f32> = (0..1024).map(|i| ((i * (k + 3) % 101) as f32 - 50.0) / (8 + 8 * (i % 128)) as f32).collect();
+        let mut e = Encoder::new(l.clone());
+        e.encode_frame(&spectra, &[0; 8]).unwrap();
+        e.frame().to_vec()
+    };
+    let alone: Vec<Vec<u8>> = (0..8).map(frame_of).collect();
+    std::thread::scope(|s| {
+        let together: Vec<_> = (0..8).map(|k| s.spawn(move || frame_of(k))).collect();
+        for (one, other) in alone.iter().zip(together) {
+            assert_eq!(*one, other.join().unwrap());
+        }
+    });
+}
+
+#[test]
+fn an_earlier_frame_stays_after_refusal_4_and_goes_after_5() {
+    let mut e = Encoder::new(mono(1, 1, 9));
+    e.encode_frame(&[0.0; 1024], &[0; 8]).unwrap();
+    let before = e.frame().to_vec();
+    let no = e.encode_frame(&[f32::INFINITY; 1024], &[0; 8]).unwrap_err();
+    assert_eq!((no.number, no.place), (Refusal::BAD_SPECTRUM, 0));
+    assert_eq!(e.frame(), before);
+    let no = e.encode_frame(&[1.0; 1024], &[0; 8]).unwrap_err();
+    assert_eq!((no.number, no.place), (Refusal::NO_LEVEL, 0));
+    assert!(e.frame().iter().all(|&b| b == 0));
+}

@@ -55,7 +55,8 @@ pub fn frames(channels: usize, bitrate: u32, frames: usize) -> Vec<StageCall> {
         .collect()
 }
 
-fn call_of(e: &HcaEncoder, channels: usize) -> StageCall {
+/// The call of the stage that the Rust's state makes after its stereo step.
+pub fn call_of(e: &HcaEncoder, channels: usize) -> StageCall {
     let kinds: Vec<u8> = e.channel[..channels]
         .iter()
         .map(|ch| match ch.channel_type {

@@ -1,4 +1,6 @@
-//! What the comparing programs share: options, threads, counts, differences.
+//! What the comparing programs share: options, threads, counts, differences; and speech from a file.
+pub mod front;
+
 use std::collections::BTreeMap;
 use std::sync::atomic::{AtomicU64, Ordering};
 use std::sync::Mutex;

@@ -1,0 +1,15 @@
+/* Hostile calls of the C interface, each checked against document 01. */
+#ifndef HCA_FUZZ_CALLS_H
+#define HCA_FUZZ_CALLS_H
+
+#include "source.h"
+
+enum function { ENCODE, WRITE, READ, CHECKSUM, FUNCTIONS };
+
+/* Makes one call by the choices of the source, and the calls that check it. */
+void one_call(struct source *s);
+
+/* The program above tells these: a call and its answer; first where it is not one that checks another. */
+void saw(enum function f, uint32_t number, uint32_t beside, int first);
+
+#endif

@@ -1,0 +1,46 @@
+/* The calls themselves, each with every check that document 01 gives for it. */
+#ifndef HCA_FUZZ_CHECKED_H
+#define HCA_FUZZ_CHECKED_H
+
+#include "lend.h"
+#include "rules.h"
+
+/* The buffers of a call. */
+struct set {
+    struct lent layout, kinds, spectra, intensities, record, scaled, codes, factors, side, frame, answer;
+};
+
+/* A call and two calls that check it can be open at once. */
+extern struct set sets[3];
+
+static inline uint32_t *words(const struct lent *b) { return (uint32_t *)(void *)b->data; }
+static inline int32_t *codes_of(const struct lent *b) { return (int32_t *)(void *)b->data; }
+static inline float *floats(const struct lent *b) { return (float *)(void *)b->data; }
+
+/* What a call has to answer, where document 01 says it without the whole codec. */
+struct expected {
+    int known;
+    uint32_t number, beside;
+};
+
+static inline struct expected nothing_known(void) { return (struct expected){0, 0, 0}; }
+static inline struct expected just(uint32_t number, uint32_t beside) { return (struct expected){1, number, beside}; }
+
+/* Lends layout and kinds. */
+void lend_named(struct set *b, const uint32_t *layout, size_t layout_len, const uint8_t *kinds, size_t kinds_len, struct source *s);
+/* Whether two sets hold the same factors, side and codes. */
+int same_record(const struct shape *l, const struct set *a, const struct set *b);
+
+/* Each calls with the buffers of the set, checks and answers the refusal number. After call_encode the buffers are given
+   back; after the others the caller takes them back. */
+uint32_t call_encode(struct set *b, struct source *s);
+uint32_t call_write(struct set *b, int first);
+void take_back_write(struct set *b);
+uint32_t call_read(struct set *b, int first, struct expected e);
+void take_back_read(struct set *b);
+
+/* The same for a frame or a record that another call made, in exact lengths. */
+uint32_t read_again(struct set *b, const struct shape *l, const uint8_t *frame, struct expected e, struct source *s);
+uint32_t write_again(struct set *b, const struct shape *l, const struct set *from, const uint32_t *record, struct source *s);
+
+#endif

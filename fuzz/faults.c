@@ -1,0 +1,120 @@
+/* A library with one fault, to see that the fuzzer finds it: linked with --wrap for each of the four functions, and the
+   environment's HCA_FAULT names the fault. `run.sh faults` runs them all; each has to be found. */
+#include "../include/hca_frame.h"
+
+#include <stdlib.h>
+#include <string.h>
+
+uint32_t __real_hca_encode_frame(const uint32_t *, size_t, const uint8_t *, size_t, const float *, size_t, const uint8_t *, size_t,
+                                 float *, size_t, int32_t *, size_t, uint8_t *, size_t, uint8_t *, size_t, uint8_t *, size_t,
+                                 uint32_t *, size_t);
+uint32_t __real_hca_write_record(const uint32_t *, size_t, const uint8_t *, size_t, const uint32_t *, size_t, const uint8_t *, size_t,
+                                 const uint8_t *, size_t, const int32_t *, size_t, uint8_t *, size_t, uint32_t *, size_t);
+uint32_t __real_hca_read_frame(const uint32_t *, size_t, const uint8_t *, size_t, const uint8_t *, size_t, uint8_t *, size_t,
+                               uint8_t *, size_t, int32_t *, size_t, uint32_t *, size_t);
+uint16_t __real_hca_checksum(const uint8_t *, size_t);
+
+static int is_fault(const char *name)
+{
+    const char *wanted = getenv("HCA_FAULT");
+    return wanted != NULL && strcmp(wanted, name) == 0;
+}
+
+static volatile uint8_t sink;
+
+uint32_t __wrap_hca_encode_frame(const uint32_t *layout, size_t layout_len, const uint8_t *kinds, size_t kinds_len,
+                                 const float *spectra, size_t spectra_len, const uint8_t *intensities, size_t intensities_len,
+                                 float *scaled, size_t scaled_len, int32_t *codes, size_t codes_len, uint8_t *factors,
+                                 size_t factors_len, uint8_t *side, size_t side_len, uint8_t *frame, size_t frame_len,
+                                 uint32_t *answer, size_t answer_len)
+{
+    uint32_t number = __real_hca_encode_frame(layout, layout_len, kinds, kinds_len, spectra, spectra_len, intensities,
+                                              intensities_len, scaled, scaled_len, codes, codes_len, factors, factors_len, side,
+                                              side_len, frame, frame_len, answer, answer_len);
+    if (is_fault("stage-writes-past-the-frame") && number == 0 && frame_len > layout[4])
+        frame[layout[4]] ^= 1;
+    if (is_fault("stage-writes-past-the-buffer") && number == 0)
+        frame[frame_len] ^= 1;
+    if (is_fault("stage-writes-before-the-buffer") && number == 0)
+        side[-1] ^= 1;
+    if (is_fault("stage-reads-past-the-spectra") && number == 0)
+        sink = ((const uint8_t *)spectra)[4 * spectra_len];
+    if (is_fault("refusal-1-writes") && number == 1 && frame_len > 0)
+        frame[0] ^= 1;
+    if (is_fault("refusal-4-writes") && number == 4)
+        scaled[scaled_len - 1] = 0.5f;
+    if (is_fault("refusal-5-leaves-a-code") && number == 5)
+        codes[1023] = 1;
+    if (is_fault("refusal-5-made-up-pairs") && number == 5)
+        answer[0] += 1;
+    if (is_fault("refusal-4-for-3") && number == 3)
+        number = 4;
+    if (is_fault("spectra-changed") && number == 0)
+        ((float *)(uintptr_t)spectra)[7] += 1.0f;
+    if (is_fault("stage-bits-one-off") && number == 0)
+        answer[3] -= 1;
+    if (is_fault("stage-made-up-pairs") && number == 0)
+        answer[2] += 1;
+    if (is_fault("stage-other-code") && number == 0 && codes[0] != 0)
+        codes[0] = -codes[0];
+    if (is_fault("stage-refuses-all") && number == 0)
+        number = 6;
+    if (is_fault("stage-first-subframe-only") && number == 0)
+        memset(codes + 128, 0, 4 * 896);
+    return number;
+}
+
+uint32_t __wrap_hca_write_record(const uint32_t *layout, size_t layout_len, const uint8_t *kinds, size_t kinds_len,
+                                 const uint32_t *record, size_t record_len, const uint8_t *factors, size_t factors_len,
+                                 const uint8_t *side, size_t side_len, const int32_t *codes, size_t codes_len, uint8_t *frame,
+                                 size_t frame_len, uint32_t *answer, size_t answer_len)
+{
+    uint32_t number = __real_hca_write_record(layout, layout_len, kinds, kinds_len, record, record_len, factors, factors_len, side,
+                                              side_len, codes, codes_len, frame, frame_len, answer, answer_len);
+    if (is_fault("refusal-7-leaves-a-byte") && number == 7)
+        frame[0] = 0xFF;
+    if (is_fault("refusal-15-clears") && number == 15)
+        memset(frame, 0, layout[4]);
+    if (is_fault("writer-takes-all") && number == 15)
+        number = 0;
+    if (is_fault("writer-refuses-legal") && number == 0 && record[0] == 254)
+        number = 15;
+    if (is_fault("refusal-moves-the-answer") && number != 0 && answer_len > 1)
+        answer[1] = 0;
+    if (is_fault("short-answer-is-written") && number == 2 && answer_len > 0 && answer_len < 4)
+        answer[0] = 0;
+    if (is_fault("writer-fill-holds-a-1") && number == 0 && answer[2] < 8 * (layout[4] - 2))
+        frame[layout[4] - 3] |= 1;
+    return number;
+}
+
+uint32_t __wrap_hca_read_frame(const uint32_t *layout, size_t layout_len, const uint8_t *kinds, size_t kinds_len,
+                               const uint8_t *frame, size_t frame_len, uint8_t *factors, size_t factors_len, uint8_t *side,
+                               size_t side_len, int32_t *codes, size_t codes_len, uint32_t *answer, size_t answer_len)
+{
+    uint32_t number = __real_hca_read_frame(layout, layout_len, kinds, kinds_len, frame, frame_len, factors, factors_len, side,
+                                            side_len, codes, codes_len, answer, answer_len);
+    if (is_fault("reader-reads-past-the-frame") && number == 0)
+        sink = frame[frame_len];
+    if (is_fault("reader-moves-the-fourth-place") && number == 0)
+        answer[3] = 0;
+    if (is_fault("reader-other-factor") && number == 0 && factors[0] > 0)
+        factors[0] -= 1;
+    if (is_fault("reader-takes-any-fill") && number == 14)
+        number = 0;
+    if (is_fault("refusal-14-one-off") && number == 14)
+        answer[0] += 1;
+    if (is_fault("refusal-13-one-byte-off") && number == 13)
+        answer[0] += 8;
+    if (is_fault("refusal-11-leaves-factors") && number == 11)
+        factors[0] = 5;
+    if (is_fault("check-not-looked-at") && number == 8)
+        number = 9;
+    return number;
+}
+
+uint16_t __wrap_hca_checksum(const uint8_t *bytes, size_t bytes_len)
+{
+    uint16_t check = __real_hca_checksum(bytes, bytes_len);
+    return is_fault("check-of-one-byte-wrong") && bytes_len == 1 ? (uint16_t)(check ^ 1) : check;
+}

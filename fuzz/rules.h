@@ -1,0 +1,31 @@
+/* What document 01 says of layouts, records and checks, written down once more for the fuzzer alone. */
+#ifndef HCA_FUZZ_RULES_H
+#define HCA_FUZZ_RULES_H
+
+#include <stddef.h>
+#include <stdint.h>
+
+struct shape {
+    uint32_t channels, base, stereo, total, frame;
+    uint32_t start;  /* N */
+    uint32_t groups; /* G */
+    uint8_t kinds[16];
+};
+
+/* Fills the shape and says 1, or says 0: refusal 1. */
+int shape_of(struct shape *out, const uint32_t *layout, size_t layout_len, const uint8_t *kinds, size_t kinds_len);
+uint32_t coded_count(const struct shape *l, uint32_t channel);
+uint32_t resolution(uint32_t factor, uint32_t level, uint32_t boundary, uint32_t band);
+/* The largest magnitude of a legal code. */
+int32_t code_range(uint32_t resolution);
+
+enum verdict { LEGAL, CORNER, ILLEGAL };
+/* CORNER: legal but for codes one past the range at resolutions 2, 4 and 5, which the stage may deliver. */
+enum verdict record_verdict(const struct shape *l, uint32_t level, uint32_t boundary, const uint8_t *factors,
+                            const uint8_t *side, const int32_t *codes);
+/* The check by division. */
+uint16_t divided(const uint8_t *bytes, size_t count);
+uint32_t bits_at(const uint8_t *frame, size_t bit, unsigned count);
+void mend_check(uint8_t *frame, size_t size);
+
+#endif

@@ -1,0 +1,145 @@
+/* The HCA frame stage, its record writer and its strict reader, as C sees them (libhca.a).
+
+   hca_encode_frame   spectra of one frame                -> a frame, or a numbered refusal
+   hca_read_frame     a frame                             -> its record (level, boundary, factors, side, codes)
+   hca_write_record   a record                            -> its frame
+   hca_checksum       bytes                               -> their check
+
+   Arguments. Every buffer is a pointer and a number of ELEMENTS (not bytes). What is const is only read. No call has
+   a precondition on numbers: any layout, kinds, lengths and contents may be passed, and what cannot be used is refused.
+   The caller keeps these rules of C, which no call can test:
+     - a pointer is valid for its number of elements and aligned for their type;
+     - a null pointer goes with the length 0 only (and is then fine);
+     - a buffer that is written overlaps no other buffer of the call;
+     - nobody else reads or writes a written buffer, or writes a read one, while the call runs;
+     - floats round to nearest and small ones are not flushed to zero (C's default; some audio engines set FTZ or DAZ).
+   A buffer may be longer than is needed: the rest is not looked at and stays as it was.
+
+   Threads. There is no state, no heap, no lock, no file, no errno: any number of threads may call at once, each with
+   its own written buffers. A call needs less than 64 KiB of stack.
+
+   Result. 0 (HCA_OK) where the call delivered, else the number of the refusal: see enum hca_refusal. */
+#ifndef HCA_FRAME_H
+#define HCA_FRAME_H
+
+#include <stddef.h>
+#include <stdint.h>
+
+#ifdef __cplusplus
+extern "C" {
+#endif
+
+/* Elements per channel. */
+#define HCA_SPECTRA 1024    /* spectra, scaled, codes: 8 subframes x 128 bands */
+#define HCA_FACTORS 128     /* factors: one a band */
+#define HCA_SIDE 8          /* intensities, side */
+#define HCA_MAX_CHANNELS 16
+
+/* layout: five numbers in this order. Numbers after the fifth are not looked at, but a later version may: pass five. */
+enum hca_layout {
+    HCA_CHANNELS = 0,       /* C: 1 to 16 */
+    HCA_BASE = 1,           /* bands that every channel codes; may be 0 */
+    HCA_STEREO = 2,         /* further bands that all but secondaries code; may be 0; base + stereo is at most total */
+    HCA_TOTAL = 3,          /* bands in all: 1 to 128; those from base + stereo on are reconstructed (HFR) */
+    HCA_FRAME_SIZE = 4,     /* F, bytes of a frame with its check: 8 to 65,535 */
+    HCA_LAYOUT = 5          /* how many numbers a layout has */
+};
+
+/* kinds: one byte a channel, in any arrangement. Bytes after the first C are not looked at. */
+enum hca_kind {
+    HCA_DISCRETE = 0,
+    HCA_STEREO_PRIMARY = 1,
+    HCA_STEREO_SECONDARY = 2    /* codes the base bands only; its side values are intensities */
+};
+
+/* answer: at least four places.
+   Where a call delivered, the first places hold the numbers below, and the places after them stay as they were.
+   Where it refused, answer[0] holds the number beside the refusal, and the other places stay as they were.
+   An answer of under four places is refusal 2 (after 1) and stays as it was. */
+enum hca_answer {
+    HCA_LEVEL = 0,          /* all three calls: noise level, 0 to 254 */
+    HCA_BOUNDARY = 1,       /* all three calls: bands below it are coded one level finer; 0 to 127, 0 at level 0 */
+    HCA_BITS = 2,           /* hca_read_frame, hca_write_record: bits of all fields, those before the fill */
+    HCA_PAIRS = 2,          /* hca_encode_frame: pairs of bands removed before a level was found */
+    HCA_ENCODED_BITS = 3,   /* hca_encode_frame: bits of all fields, those before the fill */
+    HCA_ANSWER = 4          /* how many places an answer has */
+};
+
+/* Refusals. "Beside" is what answer[0] then holds. Bits are counted from the frame's first bit, which is 0.
+   After 1 to 4 and 15 every buffer but answer is as it was. After 5 to 14 the written buffers are zero over the
+   elements that the layout asks for (the stage's five, the reader's factors, side and codes, the writer's frame),
+   so no half of a frame can be taken for a whole one.
+   The stage refuses in the order 1 to 7, the writer 1, 2, 15, 7, the reader 1, 2, 8, 9, then the first fault in bit
+   order, 14 last. A later version may add numbers above 15. */
+enum hca_refusal {
+    HCA_OK = 0,             /* delivered */
+    HCA_BAD_LAYOUT = 1,     /* layout outside its limits, under five numbers, or a kind missing or above 2; beside: 0 */
+    HCA_SHORT_BUFFER = 2,   /* a buffer has too few elements for the layout; beside: 0 */
+    HCA_BAD_INTENSITY = 3,  /* a secondary's intensity is above 15; beside: index of the first in intensities */
+    HCA_BAD_SPECTRUM = 4,   /* a spectrum value is NaN or infinite, in any band; beside: index of the first in spectra */
+    HCA_NO_LEVEL = 5,       /* no level fits, even with bands removed: raise the frame size; beside: pairs removed */
+    HCA_NO_BOUNDARY = 6,    /* proved never to come; beside: level */
+    HCA_TOO_LONG = 7,       /* the fields end past bit 8(F - 2): raise the frame size; beside: 0 */
+    HCA_WRONG_CHECK = 8,    /* the check is wrong: damaged bytes, or another frame size; beside: 0 */
+    HCA_WRONG_SYNC = 9,     /* the frame does not begin with FF FF; beside: 0 */
+    HCA_BAD_LEVEL = 10,     /* level above 254, or boundary not 0 at level 0; beside: bit of the field */
+    HCA_BAD_WIDTH = 11,     /* width of the deltas is 7, or not the one that the writer chooses; beside: bit of the width */
+    HCA_BAD_FACTOR = 12,    /* an escape was needless, or a factor falls outside 0..63; beside: bit of the field */
+    HCA_PAST_END = 13,      /* a field would pass bit 8(F - 2); beside: the field's first bit */
+    HCA_FILL_NOT_ZERO = 14, /* the fill before the check holds a 1; beside: its bit */
+    HCA_NOT_LEGAL = 15      /* the record has a value out of range, or not 0 where nothing is written; beside: 0 */
+};
+
+/* The frame stage: encodes one frame. Refuses with 1, 2, 3, 4, 5 or 7.
+   hca_read_frame hands back the stage's record, but where a code is one past its range: at the upper clip and resolution
+   2, 4 or 5 a code can be 3, 5 or 6, which gets no bits, as in the published encoder. */
+uint32_t hca_encode_frame(
+    const uint32_t *layout, size_t layout_len,          /* read: 5 numbers, see enum hca_layout */
+    const uint8_t *kinds, size_t kinds_len,             /* read: C bytes, see enum hca_kind */
+    const float *spectra, size_t spectra_len,           /* read: C x 1,024 by channel, subframe, band; all finite */
+    const uint8_t *intensities, size_t intensities_len, /* read: C x 8 by channel, subframe; 0 to 15 for a secondary,
+                                                           not looked at for others */
+    float *scaled, size_t scaled_len,                   /* written: C x 1,024 by channel, BAND, subframe; magnitudes
+                                                           below 1, zero past a channel's coded bands */
+    int32_t *codes, size_t codes_len,                   /* written: C x 1,024 by channel, subframe, band */
+    uint8_t *factors, size_t factors_len,               /* written: C x 128 by channel, band; 0 to 63 */
+    uint8_t *side, size_t side_len,                     /* written: C x 8; a secondary's intensities, else the scales of
+                                                           the HFR groups (0 to 63), then zeros */
+    uint8_t *frame, size_t frame_len,                   /* written: F bytes */
+    uint32_t *answer, size_t answer_len);               /* written: level, boundary, pairs, bits */
+
+/* The record writer: writes the one frame of a legal record. Refuses with 1, 2, 15 or 7.
+   Legal: level 0..254; boundary 0..127, and 0 at level 0; factors and HFR scales 0..63; intensities 0..15; codes within
+   the range of their resolution; everything that a frame does not carry (past the coded bands, past the groups, codes
+   at resolution 0) is 0. */
+uint32_t hca_write_record(
+    const uint32_t *layout, size_t layout_len,          /* read: 5 numbers */
+    const uint8_t *kinds, size_t kinds_len,             /* read: C bytes */
+    const uint32_t *record, size_t record_len,          /* read: 2 numbers: level, boundary */
+    const uint8_t *factors, size_t factors_len,         /* read: C x 128 by channel, band */
+    const uint8_t *side, size_t side_len,               /* read: C x 8 */
+    const int32_t *codes, size_t codes_len,             /* read: C x 1,024 by channel, subframe, band */
+    uint8_t *frame, size_t frame_len,                   /* written: F bytes */
+    uint32_t *answer, size_t answer_len);               /* written: level, boundary, bits */
+
+/* The strict reader: accepts exactly the frames that hca_write_record writes, and hands their record back.
+   Frames are plain here: an encrypted one has to be decrypted, and its check mended, first.
+   Refuses with 1, 2 or 8 to 14. */
+uint32_t hca_read_frame(
+    const uint32_t *layout, size_t layout_len,          /* read: 5 numbers */
+    const uint8_t *kinds, size_t kinds_len,             /* read: C bytes */
+    const uint8_t *frame, size_t frame_len,             /* read: F bytes */
+    uint8_t *factors, size_t factors_len,               /* written: C x 128 by channel, band */
+    uint8_t *side, size_t side_len,                     /* written: C x 8 */
+    int32_t *codes, size_t codes_len,                   /* written: C x 1,024 by channel, subframe, band */
+    uint32_t *answer, size_t answer_len);               /* written: level, boundary, bits */
+
+/* The check of any run of bytes: CRC16, polynomial 8005, start 0, high bit first. Over a frame's first F - 2 bytes it
+   is what stands in the last two, high byte first; over a whole good frame it is 0. Never refuses; of no bytes it is 0. */
+uint16_t hca_checksum(const uint8_t *bytes, size_t bytes_len);
+
+#ifdef __cplusplus
+}
+#endif
+
+#endif
