@@ -12,13 +12,16 @@ use lib.Seq.{take-append-le, take-at, take-take, drop-drop, length-take-le}
 use lib.Pow.{shr-lt}
 use borrow.Author.Tests.{le-leb, lt-leb, leb-true, leb-false}
 use Rattle.bits.specs.Bits.{bits, bitsOf, value, zeros, over}
-use Rattle.bits.specs.Place.{fieldAt, lookAt}
+use Rattle.bits.specs.Place.{leftAt, fieldAt, lookAt}
 use Rattle.bits.specs.declared.Place.{Place}
 use Rattle.bits.specs.declared.Field.{Field}
 use Rattle.bits.specs.declared.Field.the-variants.{Of, Past}
 use Rattle.bits.proofs.Numbers.{length-bits, bits-value, bits-add, value-lt, value-back, length-bits-of}
 use Rattle.bits.proofs.Parts.{bits-drop}
 use Rattle.bits.proofs.Over.{over-read, over-before, over-after}
+
+pub length-left : (s : List ℕ) (p : ℕ) → length (leftAt s p) ≡ 8 * length s - p
+length-left s p = length-drop p (bitsOf s) ∙ ap (λ n. n - p) (length-bits-of s)
 
 module _ (s : List ℕ) (p n : ℕ) where
   -- a field that ends within s

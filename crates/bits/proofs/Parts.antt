@@ -6,7 +6,7 @@ use mathlib.Core.List.{List, [], _∷_, _++_, append-assoc}
 use Prim.Native.Nat.{ℕ, zero, suc, _+_, _-_, _*_, _≤_, _<_}
 use native.Mathlib.Omega.{arith}
 use lib.ListN.{length, getD, take, drop, replicate, length-append, length-drop, length-replicate, replicate-append-replicate}
-use lib.Seq.{take-nil, drop-nil, take-append-le, take-append-add, drop-append-le, drop-append-add, take-at}
+use lib.Seq.{take-nil, drop-nil, take-append-le, take-append-add, drop-append-le, drop-append-add}
 use Rattle.bits.specs.Bits.{bits, bitsOf, Bytes, zeros}
 use Rattle.bits.proofs.Numbers.{length-bits}
 
@@ -36,8 +36,10 @@ zeros-append m n = replicate-append-replicate m n false
 pub zeros-split : (m k : ℕ) → m ≤ k → zeros k ≡ zeros m ++ zeros (k - m)
 zeros-split m k h = let e : m + (k - m) ≡ k = omega arith in sym (zeros-append m (k - m) ∙ rw e)
 
-pub take-zeros : (m k : ℕ) → m ≤ k → take m (zeros k) ≡ zeros m
-take-zeros m k h = rw (zeros-split m k h) (take-at (zeros m) (zeros (k - m)) m (length-replicate m false))
+pub take-copies : {A : Type 0} (d : A) (m k : ℕ) → m ≤ k → take m (replicate k d) ≡ replicate m d
+take-copies d zero k h = refl
+take-copies d (suc m) zero h = absurd (omega arith)
+take-copies d (suc m) (suc k) h = ap (λ l. d ∷ l) (take-copies d m k (omega arith))
 
 -- n elements of a list filled up with zeros: how many zeros does not matter
 pub fill-take : (l : List Bool) (n k : ℕ) → n ≤ k → take n (l ++ zeros k) ≡ take n (l ++ zeros n)

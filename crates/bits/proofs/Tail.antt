@@ -2,6 +2,7 @@
 -- Assumes nothing.
 use mathlib.Core.Path.{_≡_, refl, sym, _∙_}
 use mathlib.Core.List.{List}
+use mathlib.Core.Bool.{false}
 use Prim.Native.Nat.{ℕ, _+_, _-_, _*_, _/_, _%_, _^_, _≤_, _<_}
 use native.Mathlib.Nat.{lt-of-lt-of-le, zero-mod, mod-eq-of-lt, mul-assoc, mul-mod-left, div-one}
 use native.Mathlib.Omega.{arith}
@@ -12,12 +13,12 @@ use lib.Bits.{bitOr, or-shifted}
 use Rattle.bits.specs.Bits.{bitsOf, Bytes, zeros, laidOver, wordAt, setWord}
 use Rattle.bits.specs.Place.{Added, lookAt}
 use Rattle.bits.proofs.Numbers.{value-zeros}
-use Rattle.bits.proofs.Parts.{zeros-append, take-zeros, bytes-at}
+use Rattle.bits.proofs.Parts.{zeros-append, take-copies, bytes-at}
 use Rattle.bits.proofs.Words.{look-at, put-at}
 
 -- zeros after a place: a look at them finds 0
 look-none : (s : List ℕ) (p n k : ℕ) → drop p (bitsOf s) ≡ zeros k → lookAt s p n ≡ 0
-look-none s p n k e = rw (e, zeros-append k n, take-zeros n (k + n) (omega arith)) (value-zeros n)
+look-none s p n k e = rw (e, zeros-append k n, take-copies false n (k + n) (omega arith)) (value-zeros n)
 
 -- and so the window there holds nothing after it
 tail-at : (s : List ℕ) (p k : ℕ) → Bytes s → drop p (bitsOf s) ≡ zeros k → wordAt s (p / 8) % 2 ^ (24 - p % 8) ≡ 0

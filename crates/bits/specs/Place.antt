@@ -34,10 +34,14 @@ pub record Writes (s : List ℕ) (p : ℕ) (w : List Bool) (s′ : List ℕ) (q 
   pub same : length s′ ≡ length s
   pub runs : (bs : List Bool) → Written s p bs → Written s′ q (bs ++ w)
 
+-- the bits left at bit p of s
+abbrev pub leftAt : List ℕ → ℕ → List Bool
+leftAt s p = drop p (bitsOf s)
+
 -- the n bits at bit p of s, or the place of a field that passes the end
 abbrev pub fieldAt : List ℕ → ℕ → ℕ → Field
-fieldAt s p n = cond (leb (p + n) (8 * length s)) (Of (value (take n (drop p (bitsOf s)))) (record { at = p + n })) (Past p)
+fieldAt s p n = cond (leb (p + n) (8 * length s)) (Of (value (take n (leftAt s p))) (record { at = p + n })) (Past p)
 
 -- the number of the n bits at bit p of s, zeros standing past the end
 abbrev pub lookAt : List ℕ → ℕ → ℕ → ℕ
-lookAt s p n = value (take n (drop p (bitsOf s) ++ zeros n))
+lookAt s p n = value (take n (leftAt s p ++ zeros n))

@@ -1,6 +1,6 @@
 -- A loop that fills a list element by element, from the front or from a place on. Assumes nothing.
 use mathlib.Core.Path.{_≡_, refl, ap, sym, _∙_}
-use mathlib.Core.List.{List, [], _∷_, _++_, append-assoc, append-nil}
+use mathlib.Core.List.{List, [], _∷_, _++_, map, append-assoc, append-nil, map-append}
 use Prim.Native.Nat.{ℕ, zero, suc, _+_, _-_, _≤_, _<_}
 use mathlib.Core.Logic.{⊎-elim}
 use native.Mathlib.Nat.{zero-add, suc-add, not-suc-le-zero, le-of-suc-le-suc, eq-or-lt-of-le}
@@ -57,6 +57,12 @@ build-at f (suc n) i d h =
 
 pub build-of : {A : Type 0} (f : ℕ → A) (n : ℕ) (d : A) (xs : List A) → length xs ≡ n → ((i : ℕ) → i < n → getD xs i d ≡ f i) → xs ≡ build f n
 build-of f n d xs e h = ext-getD d xs (build f n) (e ∙ sym (length-build f n)) (λ i lt. h i (rw e at lt) ∙ sym (build-at f n i d (rw e at lt)))
+
+-- each element mapped
+pub map-build : {A B : Type 0} (g : A → B) (f : ℕ → A) (n : ℕ) → map g (build f n) ≡ build (λ i. g (f i)) n
+unfolding build
+map-build g f zero = refl
+map-build g f (suc n) = map-append g (build f n) (f n ∷ []) ∙ ap (λ xs. xs ++ (g (f n) ∷ [])) (map-build g f n)
 
 -- one value throughout
 pub build-const : {A : Type 0} (x : A) (n : ℕ) → build (λ (i : ℕ). x) n ≡ replicate n x

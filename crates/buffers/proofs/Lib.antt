@@ -4,3 +4,4 @@ pub mod Scan
 pub mod Build
 pub mod Blocks
 pub mod Every
+pub mod Most

@@ -1,7 +1,8 @@
--- Walks over indices: the first index with a property, whether all have it, a sum, a list built from a function, a list of blocks. Definitions only.
+-- Walks over indices: the first index with a property, whether all have it, a sum, a list built from a function, a list of blocks; and a bound on a list's numbers. Definitions only.
 use mathlib.Core.List.{List, [], _∷_, _++_}
 use mathlib.Core.Bool.{Bool, true, cond, _&&_}
-use Prim.Native.Nat.{ℕ, zero, suc, _+_}
+use Prim.Native.Nat.{ℕ, zero, suc, _+_, _≤_}
+use lib.ListN.{getD}
 
 -- the first index from i on, among k, with p; else i + k
 unfoldable pub firstFrom : (ℕ → Bool) → ℕ → ℕ → ℕ
@@ -31,3 +32,7 @@ blocks g (suc n) = blocks g n ++ g n
 unfoldable pub every : (ℕ → Bool) → ℕ → Bool
 every p zero = true
 every p (suc n) = every p n && p n
+
+-- every number of a list is at most m
+abbrev pub AtMost : ℕ → List ℕ → Type 0
+AtMost m xs = (k : ℕ) → getD xs k 0 ≤ m

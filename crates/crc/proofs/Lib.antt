@@ -2,7 +2,6 @@ pub mod Sums
 pub mod Division
 pub mod Digits
 pub mod Laws
-pub mod Every
 pub mod Theorems
 pub mod Ends
 pub mod Sealed

@@ -3,17 +3,14 @@ use mathlib.Core.Path.{_≡_, refl, sym, ap, _∙_}
 use mathlib.Core.List.{List}
 use mathlib.Core.Bool.{Bool, true, false, cond}
 use Prim.Native.Nat.{ℕ, _+_, _*_}
-use native.Mathlib.Omega.{arith}
 use borrow.Author.Tests.{ne-eqb}
 use lib.Dec.{ltb}
 use lib.Ieee.{Float, nan, binary32, ofBits, neg, mul, div}
 use lib.ListN.{length, getD, replicate}
 use Rattle.buffers.specs.Walk.{build}
 use Rattle.buffers.proofs.Build.{build-const, length-build}
-use Rattle.buffers.proofs.Blocks.{length-blocks}
 use Rattle.floats.specs.Single.{heldF, zeroF}
-use Rattle.rules.specs.Factor.{channelFactors}
-use Rattle.rules.specs.Scaling.{clip, scaleOf, scaledValue, scaledBand, channelScaled}
+use Rattle.rules.specs.Scaling.{clip, scaleOf, scaledValue, scaledBand}
 use Rattle.factors.specs.Scaling.{IsScaling, codedFactor, bandScaled}
 
 -- factor 0
@@ -39,14 +36,6 @@ pub band-coded : (xs : List Float) (fs : List ℕ) (coded b : ℕ) → bandScale
 unfolding bandScaled codedFactor scaledBand
 band-coded xs fs coded b = sym (coded-or-not (getD fs b 0) (λ s. getD xs (s * 128 + b) nan) (ltb b coded))
 
-pub factors-size : (xs : List Float) (coded : ℕ) → length (channelFactors xs coded) ≡ 128
-unfolding channelFactors
-factors-size xs coded = length-build _ 128
-
 pub band-size : (xs : List Float) (fs : List ℕ) (coded b : ℕ) → length (scaledBand xs fs coded b) ≡ 8
 unfolding scaledBand
 band-size xs fs coded b = length-build _ 8
-
-pub scaled-size : (xs : List Float) (fs : List ℕ) (coded : ℕ) → length (channelScaled xs fs coded) ≡ 1024
-unfolding channelScaled
-scaled-size xs fs coded = length-blocks (scaledBand xs fs coded) 8 128 (λ b h. band-size xs fs coded b) 128 (omega arith)

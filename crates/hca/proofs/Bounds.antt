@@ -25,6 +25,7 @@ use Rattle.rules.specs.Stage.{Lent, Left, stageRoom, badIntensity, badSpectrum,
 use Rattle.rules.specs.declared.Layout.{Layout}
 use Rattle.rules.proofs.Layouts.{legal-sizes}
 use Rattle.rules.proofs.Frames.{sound}
+use Rattle.rules.proofs.Deliveries.{front-length}
 use Rattle.rules.proofs.Made.{made-pairs, made-boundary}
 use Rattle.interface.specs.Outcomes.{Small}
 use Rattle.interface.proofs.Fitting.{small-refused, small-three, small-four}
@@ -118,10 +119,6 @@ left-small : (l : Layout) (t : FrameLent) (x : Scanned) → SmallScan x → Smal
 unfolding readLeft
 left-small l t (accepted r n) h = small-three _ _ _ (h .0) (h .1) (h .2)
 left-small l t (faulty k p) h = small-refused k p h
-
-front-length : (l : Layout) (t : FrameLent) → readRoom l t ≡ true → length (take (frameSize l) (t .frame)) ≡ frameSize l
-unfolding readRoom
-front-length l t e = length-take-le _ _ (leb-true _ _ (and-fst (leb (frameSize l) (length (t .frame))) _ e))
 
 pub read-small : (l : Layout) (t : FrameLent) → Small (read l t .outcome)
 unfolding read

@@ -1,7 +1,6 @@
 // The C interface: numbers and slices only, no `requires`.
 ghost use mathlib.Core.Path.{_≡_};
-ghost use Prim.Native.Nat.{_≤_, _<_};
-ghost use lib.ListN.{length};
+ghost use Prim.Native.Nat.{_<_};
 ghost use Rattle.crc.specs.Check.{checksum};
 ghost use Rattle.rules.specs.Stage.{stageLent, stage, recordLent, written, frameLent, read};
 ghost use Rattle.hca.specs.Interface.{encodedAs, encodedTold, encoded, wroteAs, wroteTold, wrote, returnedAs, returnedTold, returned};

@@ -2,33 +2,34 @@
 -- Assumes nothing.
 use mathlib.Core.Path.{_≡_, refl, sym, _∙_, ap, ap₂, subst}
 use mathlib.Core.List.{List, [], _∷_, _++_, append-nil}
-use mathlib.Core.Bool.{Bool, true, false, not, _&&_, _||_}
+use mathlib.Core.Bool.{true, false, _&&_, _||_}
 use mathlib.Core.Logic.{⊎-elim}
-use Prim.Native.Nat.{ℕ, _+_, _-_, _*_, _≤_, _<_}
-use native.Mathlib.Nat.{suc-mul, mul-le-mul-right, eq-or-lt-of-le}
+use Prim.Native.Nat.{ℕ, _+_, _*_, _≤_, _<_}
+use native.Mathlib.Nat.{eq-or-lt-of-le}
 use native.Mathlib.Numerals.{add-one}
 use native.Mathlib.Omega.{arith}
 use lib.Dec.{leb, eqb}
-use lib.ListN.{length, take, drop, getD, length-append, length-drop, drop-of-length-le}
-use lib.Seq.{take-at, drop-at, drop-cons, length-take-le}
+use lib.ListN.{length, take, drop, getD, drop-of-length-le}
+use lib.Seq.{drop-cons}
+use Rattle.bits.specs.Place.{leftAt}
 use Rattle.bits.specs.declared.Place.{Place}
 use Rattle.buffers.specs.Walk.{build}
-use Rattle.buffers.proofs.Build.{back-width, build-none, build-more, length-build, build-at}
+use Rattle.buffers.proofs.Build.{build-none, build-more, length-build, build-at}
 use Rattle.rules.specs.Format.{Read, ok, check, stay, each, times, number}
 use Rattle.rules.specs.Layout.{kindAt, kindsOf, codedAt, sidesAt, sideWidth, factorLength, sideLength, part}
 use Rattle.rules.specs.Width.{width}
-use Rattle.rules.specs.Record.{Chan, Rec, chanOf, pad, noChan, storeFactors, storeSide}
+use Rattle.rules.specs.Record.{Chan, Rec, chanIn, chanOf, pad, noChan, storeFactors, storeSide}
 use Rattle.rules.specs.Reading.{readFactors, readWidth, readChannel}
 use Rattle.rules.specs.declared.Layout.{Layout}
-use Rattle.rules.proofs.Cuts.{build-same, blocks-same, part-of-front, parts-all}
+use Rattle.rules.proofs.Cuts.{build-same, blocks-same, parts-all, renewed, renewed-length, row-new, row-old}
+use Rattle.rules.proofs.Turns.{onto, onto-none, walk-turn, walk-stop}
 use Rattle.headers.specs.declared.Fault.{Fault}
 use Rattle.headers.specs.declared.Value.{Value}
 use Rattle.headers.specs.declared.Value.the-variants as value
 use Rattle.headers.specs.declared.Step.{Step}
 use Rattle.headers.specs.declared.Step.the-variants as step
-use Rattle.headers.specs.Answers.{leftAt, leftOver, Told, Row, Stored, stepOf, chanIn, StoredChannel, Rows, StoredChannels}
-use Rattle.headers.proofs.Answered.{Hands, told-of, left-over, check-cut, check-yes, check-no}
-use Rattle.headers.proofs.Walks.{onto, onto-nil, walk-turn, walk-stop}
+use Rattle.headers.specs.Answers.{Told, Row, Stored, stepOf, StoredChannel, Rows, StoredChannels}
+use Rattle.headers.proofs.Answered.{Hands, told-of, check-cut, check-yes, check-no}
 
 -- A REFUSAL ends what would be stored
 pub stored-cut : {s : List ℕ} {x : Read ℕ} {y : Read (List ℕ)} {m n k : ℕ} {xs : List ℕ} {r : Value} {f : Fault} {o : Step} → r ≡ value.Refused f → Told s x m r → Hands x y
@@ -36,14 +37,10 @@ pub stored-cut : {s : List ℕ} {x : Read ℕ} {y : Read (List ℕ)} {m n k : �
 stored-cut {s} {y} {n} {k} {xs} {f} e t h z =
     let w = told-of e t in
     subst (λ o. Stored s y n k xs o) (sym (z ∙ ap stepOf e))
-    (record { done = record { is = h (f .number) (leftOver s (f .at)) (w .is); within = w .within; numbered = w .small }; row = tt })
+    (record { done = record { is = h (f .number) (length (leftAt s (f .at))) (w .is); within = w .within; numbered = w .small }; row = tt })
 
 pub stored-of : {s : List ℕ} {x : Read (List ℕ)} {n k : ℕ} {xs : List ℕ} {r r′ : Step} → r ≡ r′ → Stored s x n k xs r → Stored s x n k xs r′
 stored-of {s} {x} {n} {k} {xs} e t = subst (λ z. Stored s x n k xs z) e t
-
-pub twice-not : (b : Bool) → not (not b) ≡ b
-twice-not true = refl
-twice-not false = refl
 
 -- THE WIDTH, then the factors, then whether it is the chosen one
 module _ (s : List ℕ) (at n : ℕ) where
@@ -52,12 +49,12 @@ module _ (s : List ℕ) (at n : ℕ) where
 
   module _ {w : ℕ} {q : Place} {m : ℕ} (h : at ≤ 8 * length s) (t : Told s (number 3 (leftAt s at)) m (value.Of w q)) where
     pub width-no : {xs : List ℕ} → (leb w 6 && (leb 1 n || eqb w 0)) ≡ false → Stored s (readWidth n (leftAt s at)) n 128 xs (step.Refused (record { number = 11; at = at }))
-    width-no e = record { done = record { is = rw (t .is, e, left-over s at) refl; within = h; numbered = (omega arith, omega arith) }; row = tt }
+    width-no e = record { done = record { is = rw (t .is, e) refl; within = h; numbered = (omega arith, omega arith) }; row = tt }
 
     module _ (e : (leb w 6 && (leb 1 n || eqb w 0)) ≡ true) where
       -- what is left to do
-      width-go : readWidth n (leftAt s at) ≡ check 11 (leftOver s at) (λ fs. eqb (width fs) w) (readFactors w n) (leftAt s (q .at))
-      width-go = rw (t .is, e, left-over s at) refl
+      width-go : readWidth n (leftAt s at) ≡ check 11 (length (leftAt s at)) (λ fs. eqb (width fs) w) (readFactors w n) (leftAt s (q .at))
+      width-go = rw (t .is, e) refl
 
       pub width-stop : {xs : List ℕ} {r : Step} {f : Fault} → r ≡ step.Refused f → Stored s (readFactors w n (leftAt s (q .at))) n 128 xs r → Stored s (readWidth n (leftAt s at)) n 128 xs r
       width-stop {r} {f} i u =
@@ -65,7 +62,7 @@ module _ (s : List ℕ) (at n : ℕ) where
           stored-of (sym i)
           (record {
             done = record {
-              is = width-go ∙ check-cut (readFactors w n) (leftAt s (q .at)) 11 (leftOver s at) (λ fs. eqb (width fs) w) (f .number) (leftOver s (f .at)) (v .done .is);
+              is = width-go ∙ check-cut (readFactors w n) (leftAt s (q .at)) 11 (length (leftAt s at)) (λ fs. eqb (width fs) w) (f .number) (length (leftAt s (f .at))) (v .done .is);
               within = v .done .within;
               numbered = v .done .numbered;
             };
@@ -75,7 +72,7 @@ module _ (s : List ℕ) (at n : ℕ) where
       pub width-wrong : {xs : List ℕ} {o : Place} → Stored s (readFactors w n (leftAt s (q .at))) n 128 xs (step.At o) → eqb (width (take n xs)) w ≡ false
           → Stored s (readWidth n (leftAt s at)) n 128 xs (step.Refused (record { number = 11; at = at }))
       width-wrong u i = record {
-        done = record { is = width-go ∙ check-no (readFactors w n) (leftAt s (q .at)) 11 (leftOver s at) (λ fs. eqb (width fs) w) (u .done .is) i; within = h; numbered = (omega arith, omega arith) };
+        done = record { is = width-go ∙ check-no (readFactors w n) (leftAt s (q .at)) 11 (length (leftAt s at)) (λ fs. eqb (width fs) w) (u .done .is) i; within = h; numbered = (omega arith, omega arith) };
         row = tt;
       }
 
@@ -83,7 +80,7 @@ module _ (s : List ℕ) (at n : ℕ) where
           → Stored s (readWidth n (leftAt s at)) n 128 xs (step.At o)
       width-right u i = record {
         done = record {
-          is = width-go ∙ check-yes (readFactors w n) (leftAt s (q .at)) 11 (leftOver s at) (λ fs. eqb (width fs) w) (u .done .is) i;
+          is = width-go ∙ check-yes (readFactors w n) (leftAt s (q .at)) 11 (length (leftAt s at)) (λ fs. eqb (width fs) w) (u .done .is) i;
           within = u .done .within;
           numbered = tt;
         };
@@ -92,7 +89,7 @@ module _ (s : List ℕ) (at n : ℕ) where
 
 -- A CHANNEL: n and k are its counts, and w is the width of its side values
 abbrev pub Whole : Layout → ℕ → List ℕ → ℕ → List ℕ → List ℕ → Step → Type 0
-Whole l c s at F S r = StoredChannel s (readChannel l (kindAt l c) (leftAt s at)) (codedAt l c) (sidesAt l c) F S r
+Whole l c s at F S r = StoredChannel l c s (readChannel l (kindAt l c) (leftAt s at)) F S r
 
 module _ (l : Layout) (c : ℕ) (s : List ℕ) (at : ℕ) {n : ℕ} (counts : n ≡ codedAt l c) {F : List ℕ} {o : Step} (t : Stored s (readWidth n (leftAt s at)) n 128 F o) where
   -- the factors, of the coded count itself
@@ -117,29 +114,6 @@ module _ (l : Layout) (c : ℕ) (s : List ℕ) (at : ℕ) {n : ℕ} (counts : n 
         sides r
         (subst (λ v. Stored s (each (λ _. number v) (times (sidesAt l c)) (leftAt s (q .at))) (sidesAt l c) 8 S r) j
         (subst (λ m. Stored s (each (λ _. number w) (times m) (leftAt s (q .at))) m 8 S r) i u))
-
--- A PART of a buffer of n rows of k, put back as ys
-abbrev back : ℕ → ℕ → List ℕ → List ℕ → List ℕ
-back k c xs ys = take (c * k) xs ++ (ys ++ drop (c * k + k - c * k) (drop (c * k) xs))
-
-module _ (k n c : ℕ) (xs ys : List ℕ) (l : length xs ≡ n * k) (h : c < n) (y : length ys ≡ k) where
-  row-ends : c * k + k ≤ n * k
-  row-ends = omega (arith, mul-le-mul-right k h, suc-mul c k)
-
-  front : length (take (c * k) xs) ≡ c * k
-  front = length-take-le (c * k) xs (omega (arith, row-ends))
-
-  pub back-length : length (back k c xs ys) ≡ n * k
-  back-length = rw (back-width (c * k) k) (simp (length-append, length-drop) (omega (arith, front, row-ends)))
-
-  back-new : part k (back k c xs ys) c ≡ ys
-  back-new = rw (drop-at (take (c * k) xs) (ys ++ drop (c * k + k - c * k) (drop (c * k) xs)) (c * k) front) (take-at ys (drop (c * k + k - c * k) (drop (c * k) xs)) k y)
-
-  back-old : (i : ℕ) → i < c → part k (back k c xs ys) i ≡ part k xs i
-  back-old i g =
-      sym (part-of-front k c i (back k c xs ys) g)
-      ∙ ap (λ z. part k z i) (take-at (take (c * k) xs) (ys ++ drop (c * k + k - c * k) (drop (c * k) xs)) (c * k) front)
-      ∙ part-of-front k c i xs g
 
 -- ALL CHANNELS: c of them are read, each in its part
 pub record Reading (l : Layout) (s : List ℕ) (x : Read (List Chan)) (c at : ℕ) (F S : List ℕ) : Type 0 where
@@ -171,7 +145,7 @@ module _ (l : Layout) (s : List ℕ) where
     factors-long = f;
     side-long = g;
     rows = λ c i. absurd (omega arith);
-    is = rw (build-none (chanOf l F S), onto-nil (each (readChannel l) (kindsOf l) (leftAt s at))) refl;
+    is = onto-none _ ∙ ap (λ d. onto d (each (readChannel l) (kindsOf l) (leftAt s at))) (sym (build-none (chanOf l F S)));
   }
 
   module _ {x : Read (List Chan)} {c at : ℕ} {F S : List ℕ} (w : Reading l s x c at F S) where
@@ -196,7 +170,7 @@ module _ (l : Layout) (s : List ℕ) where
           (record {
             done = record {
               is = w .is ∙ rw (kinds-next l c h)
-                  (walk-stop stay (λ _. readChannel l) (build (chanOf l F S) c) tt (kindAt l c) (drop (c + 1) (kindsOf l)) (leftAt s at) (f .number) (leftOver s (f .at)) (v .done .is));
+                  (walk-stop stay (λ _. readChannel l) (build (chanOf l F S) c) tt (kindAt l c) (drop (c + 1) (kindsOf l)) (leftAt s at) (f .number) (length (leftAt s (f .at))) (v .done .is));
               within = v .done .within;
               numbered = v .done .numbered;
             };
@@ -208,41 +182,48 @@ module _ (l : Layout) (s : List ℕ) where
         t : Whole l c s at ys zs (step.At q)
         t = subst (Whole l c s at ys zs) z told
 
-        new-f : part 128 (back 128 c F ys) c ≡ ys
-        new-f = back-new 128 (l .channels) c F ys (w .factors-long) h fl
+        -- the rows end within their buffers
+        ends-f : c * 128 + 128 ≤ length F
+        ends-f = omega (arith, w .factors-long)
 
-        new-s : part 8 (back 8 c S zs) c ≡ zs
-        new-s = back-new 8 (l .channels) c S zs (w .side-long) h sl
+        ends-s : c * 8 + 8 ≤ length S
+        ends-s = omega (arith, w .side-long)
 
-        old-f : (i : ℕ) → i < c → part 128 (back 128 c F ys) i ≡ part 128 F i
-        old-f i g = back-old 128 (l .channels) c F ys (w .factors-long) h fl i g
+        new-f : part 128 (renewed 128 c F ys) c ≡ ys
+        new-f = row-new 128 c F ys ends-f fl
 
-        old-s : (i : ℕ) → i < c → part 8 (back 8 c S zs) i ≡ part 8 S i
-        old-s i g = back-old 8 (l .channels) c S zs (w .side-long) h sl i g
+        new-s : part 8 (renewed 8 c S zs) c ≡ zs
+        new-s = row-new 8 c S zs ends-s sl
 
-        chans : build (chanOf l (back 128 c F ys) (back 8 c S zs)) (c + 1) ≡ build (chanOf l F S) c ++ (chanIn (codedAt l c) (sidesAt l c) ys zs ∷ [])
+        old-f : (i : ℕ) → i < c → part 128 (renewed 128 c F ys) i ≡ part 128 F i
+        old-f i g = row-old 128 c F ys ends-f fl i (λ e. omega arith)
+
+        old-s : (i : ℕ) → i < c → part 8 (renewed 8 c S zs) i ≡ part 8 S i
+        old-s i g = row-old 8 c S zs ends-s sl i (λ e. omega arith)
+
+        chans : build (chanOf l (renewed 128 c F ys) (renewed 8 c S zs)) (c + 1) ≡ build (chanOf l F S) c ++ (chanIn l c ys zs ∷ [])
         chans =
-            build-more (chanOf l (back 128 c F ys) (back 8 c S zs)) c
+            build-more (chanOf l (renewed 128 c F ys) (renewed 8 c S zs)) c
             ∙ ap₂ (λ xs x. xs ++ (x ∷ []))
-            (build-same (chanOf l (back 128 c F ys) (back 8 c S zs)) (chanOf l F S) c (λ i g. ap₂ (chanIn (codedAt l i) (sidesAt l i)) (old-f i g) (old-s i g)))
-            (ap₂ (chanIn (codedAt l c) (sidesAt l c)) new-f new-s)
+            (build-same (chanOf l (renewed 128 c F ys) (renewed 8 c S zs)) (chanOf l F S) c (λ i g. ap₂ (chanIn l i) (old-f i g) (old-s i g)))
+            (ap₂ (chanIn l c) new-f new-s)
 
-        rows′ : (i : ℕ) → i < c + 1 → Row (codedAt l i) 128 (part 128 (back 128 c F ys) i) × Row (sidesAt l i) 8 (part 8 (back 8 c S zs) i)
+        rows′ : (i : ℕ) → i < c + 1 → Row (codedAt l i) 128 (part 128 (renewed 128 c F ys) i) × Row (sidesAt l i) 8 (part 8 (renewed 8 c S zs) i)
         rows′ i g =
             ⊎-elim
             (λ (e : i ≡ c). rw (e, new-f, new-s) (t .rows))
             (λ (e : i < c). rw (old-f i e, old-s i e) (w .rows i e))
             (eq-or-lt-of-le (omega arith))
 
-        pub reading-more : Reading l s x (c + 1) (q .at) (back 128 c F ys) (back 8 c S zs)
+        pub reading-more : Reading l s x (c + 1) (q .at) (renewed 128 c F ys) (renewed 8 c S zs)
         reading-more = record {
           below = omega arith;
           within = t .done .within;
-          factors-long = back-length 128 (l .channels) c F ys (w .factors-long) h fl;
-          side-long = back-length 8 (l .channels) c S zs (w .side-long) h sl;
+          factors-long = renewed-length 128 c F ys ends-f fl ∙ w .factors-long;
+          side-long = renewed-length 8 c S zs ends-s sl ∙ w .side-long;
           rows = rows′;
           is = w .is ∙ rw (kinds-next l c h)
-              (walk-turn stay (λ _. readChannel l) (build (chanOf l F S) c) tt (kindAt l c) (drop (c + 1) (kindsOf l)) (leftAt s at) (chanIn (codedAt l c) (sidesAt l c) ys zs) (leftAt s (q .at)) (t .done .is)
+              (walk-turn stay (λ _. readChannel l) (build (chanOf l F S) c) tt (kindAt l c) (drop (c + 1) (kindsOf l)) (leftAt s at) (chanIn l c ys zs) (leftAt s (q .at)) (t .done .is)
               ∙ ap (λ d. onto d (each (readChannel l) (drop (c + 1) (kindsOf l)) (leftAt s (q .at)))) (sym chans));
         }
 

@@ -1,60 +1,30 @@
 -- A loop that reads values one after the other and stores them, as a walk of the rules. Assumes nothing.
 use mathlib.Core.Path.{_≡_, refl, sym, _∙_, ap, ap₂, subst}
-use mathlib.Core.List.{List, [], _∷_, _++_, append-nil}
-use mathlib.Core.Bool.{Bool, cond}
+use mathlib.Core.List.{List, append-nil}
+use mathlib.Core.Bool.{Bool}
 use mathlib.Core.Option.{none, some}
 use Prim.Native.Nat.{ℕ, zero, suc, _+_, _-_, _*_, _≤_, _<_}
 use native.Mathlib.Omega.{arith}
 use native.Mathlib.Numerals.{add-one}
 use lib.ListN.{length, take, drop, set, getD, replicate, length-set, length-replicate}
-use lib.Seq.{take-suc-set, drop-set-lt, append-snoc, getD-drop}
+use lib.Seq.{take-suc-set, drop-set-lt, getD-drop}
+use Rattle.bits.specs.Place.{leftAt}
 use Rattle.bits.specs.declared.Place.{Place}
-use Rattle.rules.specs.Format.{Read, ok, bad, Reader, pure, andThen, walk, times}
-use Rattle.rules.specs.Fields.{passed}
+use Rattle.bits.proofs.Parts.{take-copies}
+use Rattle.rules.specs.Format.{Read, ok, Reader, walk, times}
+use Rattle.rules.specs.Fields.{passed, before}
 use Rattle.rules.specs.Reading.{readFactor, readFactors}
-use Rattle.rules.proofs.Numbers.{eqb-case}
-use Rattle.rules.proofs.Cuts.{pad-back}
+use Rattle.rules.proofs.Turns.{onto, onto-none, walk-turn, walk-stop}
+use Rattle.rules.proofs.Cuts.{getD-copies, pad-back, set-keeps}
 use Rattle.headers.specs.declared.Fault.{Fault}
 use Rattle.headers.specs.declared.Value.{Value}
 use Rattle.headers.specs.declared.Value.the-variants as value
 use Rattle.headers.specs.declared.Step.{Step}
 use Rattle.headers.specs.declared.Step.the-variants as step
-use Rattle.headers.specs.Answers.{leftAt, leftOver, Told, Row, Stored, stepOf, before}
+use Rattle.headers.specs.Answers.{Told, Row, Stored, stepOf}
 use Rattle.headers.proofs.Answered.{told-of}
 
--- what the whole gives is what is read already, and then what the rest gives
-abbrev pub onto : {A : Type 0} → List A → Read (List A) → Read (List A)
-onto read (ok r t) = ok (read ++ r) t
-onto read (bad n l) = bad n l
-
-onto-cons : {A : Type 0} (read : List A) (a : A) (x : Read (List A)) → onto read (andThen x (λ r. pure (a ∷ r))) ≡ onto (read ++ (a ∷ [])) x
-onto-cons read a (ok r t) = ap (λ z. ok z t) (sym (append-snoc read a r))
-onto-cons read a (bad n l) = refl
-
-pub onto-nil : {A : Type 0} (x : Read (List A)) → onto [] x ≡ x
-onto-nil (ok r t) = refl
-onto-nil (bad n l) = refl
-
-module _ {S X A : Type 0} (next : S → A → S) (f : S → X → Reader A) (read : List A) (s : S) (x : X) (xs : List X) (b : List Bool) where
-  pub walk-turn : (a : A) (t : List Bool) → f s x b ≡ ok a t → onto read (walk next f s (x ∷ xs) b) ≡ onto (read ++ (a ∷ [])) (walk next f (next s a) xs t)
-  walk-turn a t e = rw e (onto-cons read a (walk next f (next s a) xs t))
-
-  pub walk-stop : (n l : ℕ) → f s x b ≡ bad n l → onto read (walk next f s (x ∷ xs) b) ≡ bad n l
-  walk-stop n l e = rw e refl
-
 -- THE VALUES, stored from the front on in a row of zeros
-set-small : (xs : List ℕ) (i v : ℕ) → v < 64 → ((j : ℕ) → getD xs j 0 < 64) → (j : ℕ) → getD (set xs i v) j 0 < 64
-set-small [] i v p h j = h j
-set-small (x ∷ xs) zero v p h zero = p
-set-small (x ∷ xs) zero v p h (suc j) = h (suc j)
-set-small (x ∷ xs) (suc i) v p h zero = h zero
-set-small (x ∷ xs) (suc i) v p h (suc j) = set-small xs i v p (λ m. h (suc m)) j
-
-zero-at : (k j : ℕ) → _≡_ {A = ℕ} (getD (replicate k 0) j 0) 0
-zero-at zero j = refl
-zero-at (suc k) zero = refl
-zero-at (suc k) (suc j) = zero-at k j
-
 -- i of n values are stored; `state` is what the next one depends on, and `at` its place
 pub record Going {S : Type 0} (next : S → ℕ → S) (f : S → Unit {0} → Reader ℕ) (s : List ℕ) (x : Read (List ℕ)) (n k i : ℕ) (state : S) (at : ℕ) (xs : List ℕ) : Type 0 where
   pub below : i ≤ n
@@ -71,7 +41,7 @@ row-of n k xs h l e p = record {
 }
   where
     zeroed : (j : ℕ) → n + (j - n) ≡ j → getD xs j 0 ≡ 0
-    zeroed j z = ap (λ m. getD xs m 0) (sym z) ∙ sym (getD-drop n xs (j - n) 0) ∙ ap (λ l. getD l (j - n) 0) e ∙ getD-drop n (replicate k 0) (j - n) 0 ∙ zero-at k (n + (j - n))
+    zeroed j z = ap (λ m. getD xs m 0) (sym z) ∙ sym (getD-drop n xs (j - n) 0) ∙ ap (λ l. getD l (j - n) 0) e ∙ getD-drop n (replicate k 0) (j - n) 0 ∙ getD-copies 0 k (n + (j - n))
 
 module _ {S : Type 0} {next : S → ℕ → S} {f : S → Unit {0} → Reader ℕ} {s : List ℕ} {x : Read (List ℕ)} where
   pub going-none : (n k at : ℕ) (state : S) → at ≤ 8 * length s → x ≡ walk next f state (times n) (leftAt s at) → (xs : List ℕ) (m : ℕ) → xs ≡ replicate m 0 → m ≡ k
@@ -81,8 +51,8 @@ module _ {S : Type 0} {next : S → ℕ → S} {f : S → Unit {0} → Reader �
     within = h;
     long = length-replicate k 0;
     blank = refl;
-    small = λ j. omega (arith, zero-at k j);
-    is = let z : n ≡ n - 0 = omega arith in rw onto-nil (e ∙ ap (λ m. walk next f state (times m) (leftAt s at)) z);
+    small = λ j. omega (arith, getD-copies {A = ℕ} 0 k j);
+    is = let z : n ≡ n - 0 = omega arith in e ∙ ap (λ m. walk next f state (times m) (leftAt s at)) z ∙ onto-none _;
   })
 
   module _ {n k i : ℕ} {state : S} {at : ℕ} {xs : List ℕ} (w : Going next f s x n k i state at xs) where
@@ -100,7 +70,7 @@ module _ {S : Type 0} {next : S → ℕ → S} {f : S → Unit {0} → Reader �
           within = t .within;
           long = length-set xs i v ∙ w .long;
           blank = drop-set-lt n xs i v h ∙ w .blank;
-          small = set-small xs i v (omega (arith, t .small)) (w .small);
+          small = λ j. set-keeps (λ n. n < 64) v (omega (arith, t .small)) xs i j (w .small j);
           is = w .is ∙ ap (λ m. onto (take i xs) (walk next f state (times m) b)) (one-more h)
               ∙ walk-turn next f (take i xs) state tt (times (n - (i + 1))) b v (leftAt s (q .at)) (t .is)
               ∙ ap₂ (λ d u. onto d (walk next f u (times (n - (i + 1))) (leftAt s (q .at)))) (sym (ap (λ m. take m (set xs i v)) (add-one i) ∙ take-suc-set xs i v l)) (sym y);
@@ -114,7 +84,7 @@ module _ {S : Type 0} {next : S → ℕ → S} {f : S → Unit {0} → Reader �
         (record {
           done = record {
             is = w .is ∙ ap (λ m. onto (take i xs) (walk next f state (times m) b)) (one-more h)
-                ∙ walk-stop next f (take i xs) state tt (times (n - (i + 1))) b (d .number) (leftOver s (d .at)) (u .is);
+                ∙ walk-stop next f (take i xs) state tt (times (n - (i + 1))) b (d .number) (length (leftAt s (d .at))) (u .is);
             within = u .within;
             numbered = u .small;
           };
@@ -137,7 +107,7 @@ module _ {S : Type 0} {next : S → ℕ → S} {f : S → Unit {0} → Reader �
 
 -- the factor before the next one
 pub before-more : (i v : ℕ) → before (i + 1) v ≡ some v
-before-more i v = eqb-case (λ b. cond b none (some v) ≡ some v) (i + 1) 0 (λ e. absurd (omega arith)) (λ _. refl)
+before-more i v = rw (add-one i) refl
 
 -- a channel's factors are such a walk at a width above 0, and zeros at width 0
 pub factors-start : (w n : ℕ) (b : List Bool) → 1 ≤ w → readFactors w n b ≡ walk passed (λ p _. readFactor w p) none (times n) b
@@ -149,11 +119,6 @@ pub factors-none : (s : List ℕ) (q : Place) → q .at ≤ 8 * length s → (w 
 factors-none s q h w n z g xs m c e =
     rw (z, c, e)
     (record {
-      done = record { is = ap (λ l. ok l (leftAt s (q .at))) (sym (take-zeros n 128 g)); within = h; numbered = tt };
-      row = row-of n 128 (replicate 128 0) g (length-replicate {A = ℕ} 128 0) refl (λ j. omega (arith, zero-at 128 j));
+      done = record { is = ap (λ l. ok l (leftAt s (q .at))) (sym (take-copies 0 n 128 g)); within = h; numbered = tt };
+      row = row-of n 128 (replicate 128 0) g (length-replicate {A = ℕ} 128 0) refl (λ j. omega (arith, getD-copies {A = ℕ} 0 128 j));
     })
-  where
-    take-zeros : (n k : ℕ) → n ≤ k → _≡_ {A = List ℕ} (take n (replicate k 0)) (replicate n 0)
-    take-zeros zero k h = refl
-    take-zeros (suc n) zero h = absurd (omega arith)
-    take-zeros (suc n) (suc k) h = ap (λ l. 0 ∷ l) (take-zeros n k (omega arith))

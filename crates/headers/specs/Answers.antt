@@ -1,19 +1,17 @@
 -- How an answer of this crate says what a reader of the rules gives. `part` are the bytes after the sync; a place counts its bits from the first.
 use mathlib.Core.Path.{_≡_}
 use mathlib.Core.List.{List}
-use mathlib.Core.Bool.{Bool, cond, _&&_}
-use mathlib.Core.Option.{Option, none, some}
-use Prim.Native.Nat.{ℕ, _-_, _*_, _≤_, _<_}
-use lib.Dec.{eqb}
+use mathlib.Core.Bool.{cond, _&&_}
+use Prim.Native.Nat.{ℕ, _*_, _≤_, _<_}
 use lib.IntN.{ℤ, pos, natAbs}
 use lib.Signed.{leZ}
-use lib.ListN.{length, take, drop, getD}
-use Rattle.bits.specs.Bits.{bitsOf}
+use lib.ListN.{length, take, getD}
+use Rattle.bits.specs.Place.{leftAt}
 use Rattle.bits.specs.declared.Place.{Place}
 use Rattle.buffers.specs.Walk.{build}
 use Rattle.rules.specs.Format.{Read, ok, bad}
 use Rattle.rules.specs.Layout.{codedAt, sidesAt, part}
-use Rattle.rules.specs.Record.{Chan, chanOf, pad}
+use Rattle.rules.specs.Record.{Chan, chanIn, chanOf, pad}
 use Rattle.rules.specs.declared.Layout.{Layout}
 use Rattle.headers.specs.declared.Fault.{Fault}
 use Rattle.headers.specs.declared.Value.{Value}
@@ -26,19 +24,12 @@ pub record Inside (s : List ℕ) (at : ℕ) : Type 0 where
   pub within : at ≤ 8 * length s
   pub short : length s ≤ 65535
 
--- the bits left at a place, and how many
-abbrev pub leftAt : List ℕ → ℕ → List Bool
-leftAt s at = drop at (bitsOf s)
-
-abbrev pub leftOver : List ℕ → ℕ → ℕ
-leftOver s at = length (bitsOf s) - at
-
 -- a refusal: one of 10 to 13, at the bit that it names
 abbrev pub Numbered : Fault → Type 0
 Numbered f = (10 ≤ f .number) × (f .number ≤ 13)
 
 abbrev pub refusal : {A : Type 0} → List ℕ → Fault → Read A
-refusal s f = bad (f .number) (leftOver s (f .at))
+refusal s f = bad (f .number) (length (leftAt s (f .at)))
 
 -- A VALUE, and what the reader gives; its place lies within the part, and the value below m
 abbrev pub valueRead : List ℕ → Value → Read ℕ
@@ -91,13 +82,10 @@ pub record Stored (s : List ℕ) (x : Read (List ℕ)) (n k : ℕ) (after : List
   pub done : Done s x (take n after) r
   pub row : ifDone r (Row n k after)
 
--- a channel's factors and side values
-abbrev pub chanIn : ℕ → ℕ → List ℕ → List ℕ → Chan
-chanIn coded sides factors side = record { factors = take coded factors; side = take sides side }
-
-pub record StoredChannel (s : List ℕ) (x : Read Chan) (coded sides : ℕ) (fs side : List ℕ) (r : Step) : Type 0 where
-  pub done : Done s x (chanIn coded sides fs side) r
-  pub rows : ifDone r (Row coded 128 fs × Row sides 8 side)
+-- channel c's factors and side values
+pub record StoredChannel (l : Layout) (c : ℕ) (s : List ℕ) (x : Read Chan) (fs side : List ℕ) (r : Step) : Type 0 where
+  pub done : Done s x (chanIn l c fs side) r
+  pub rows : ifDone r (Row (codedAt l c) 128 fs × Row (sidesAt l c) 8 side)
 
 -- every channel's, each in its part of the buffers
 abbrev pub Rows : Layout → List ℕ → List ℕ → ℕ → Type 0
@@ -115,7 +103,3 @@ stepOf (value.Refused f) = step.Refused f
 -- a factor that a delta names, or refusal 12 where it lies outside 0..63
 abbrev pub judged : ℤ → Place → ℕ → Value
 judged z next at = cond (leZ (pos 0) z && leZ z (pos 63)) (value.Of (natAbs z) next) (value.Refused (record { number = 12; at = at }))
-
--- the factor before the i-th
-abbrev pub before : ℕ → ℕ → Option ℕ
-before i previous = cond (eqb i 0) none (some previous)

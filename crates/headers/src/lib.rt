@@ -5,11 +5,13 @@ ghost use mathlib.Core.Bool.{_&&_, _||_, not};
 ghost use Prim.Native.Nat.{_+_, _-_, _*_, _^_, _≤_, _<_};
 ghost use lib.Dec.{leb, eqb};
 ghost use lib.ListN.{length};
-ghost use Rattle.rules.specs.Layout.{Sizes, kindAt, kindsOf, codedAt, sidesAt, sideWidth, factorLength, sideLength};
+ghost use Rattle.bits.specs.Place.{leftAt};
+ghost use Rattle.rules.specs.Layout.{Sizes, kindAt, kindsOf, factorLength, sideLength};
 ghost use Rattle.rules.specs.Format.{check, each, times, number};
 ghost use Rattle.rules.specs.Width.{near};
+ghost use Rattle.rules.specs.Fields.{before};
 ghost use Rattle.rules.specs.Reading.{deltaFactor, readDelta, readFactor, readFactors, readWidth, readChannel, readLevel, readBoundary};
-ghost use Rattle.headers.specs.Answers.{Inside, leftAt, leftOver, Told, stepOf, judged, before, Stored, StoredChannel, StoredChannels};
+ghost use Rattle.headers.specs.Answers.{Inside, Told, stepOf, judged, Stored, StoredChannel, StoredChannels};
 use bits::Field;
 use bits::Place;
 use rules::Layout;
@@ -107,7 +109,7 @@ pub fn read_boundary(part: &[u8], place: Place, level: u32) -> Value
 fn read_escaped(part: &[u8], place: Place, d: u32, previous: u8, at: usize) -> Value
     requires { ⌜ Inside (now part) (place .at) ⌝ }
     requires { ⌜ (1 ≤ d) × (d ≤ 5) × (at ≤ 8 * length (now part)) ⌝ }
-    ensures { λ r. ⌜ Told (now (part .entry)) (check 12 (leftOver (now (part .entry)) at) (λ f. not (near d previous f)) (number 6) (leftAt (now (part .entry)) (place .at))) 64 r ⌝ }
+    ensures { λ r. ⌜ Told (now (part .entry)) (check 12 (length (leftAt (now (part .entry)) at)) (λ f. not (near d previous f)) (number 6) (leftAt (now (part .entry)) (place .at))) 64 r ⌝ }
 {
     let field = read_number(part, place, 6);
     let Value::Of(factor, next) = field else {
@@ -260,18 +262,6 @@ pub fn read_side(part: &[u8], place: Place, count: usize, width: u32, side: &mut
     Step::At(at)
 }
 
-// An intensity has 4 bits, an HFR scale 6.
-fn side_width(layout: Layout, channel: usize) -> u32
-    requires { ⌜ channel < 16 ⌝ }
-    ensures { λ r. ⌜ (r ≡ sideWidth (kindAt layout channel)) × (r ≤ 6) ⌝ }
-{
-    if rules::is_secondary(layout, channel) {
-        4
-    } else {
-        6
-    }
-}
-
 // A channel's width, factors and side values, into its 128 factors and its 8 side values.
 pub fn read_channel(
     layout: Layout,
@@ -284,7 +274,7 @@ pub fn read_channel(
     requires { ⌜ Sizes layout ⌝ }
     requires { ⌜ Inside (now part) (place .at) ⌝ }
     requires { ⌜ (channel < 16) × (length (now factors) ≡ 128) × (length (now side) ≡ 8) ⌝ }
-    ensures { λ r. ⌜ StoredChannel (now (part .entry)) (readChannel layout (kindAt layout channel) (leftAt (now (part .entry)) (place .at))) (codedAt layout channel) (sidesAt layout channel) (now (factors .exit)) (now (side .exit)) r ⌝ }
+    ensures { λ r. ⌜ StoredChannel layout channel (now (part .entry)) (readChannel layout (kindAt layout channel) (leftAt (now (part .entry)) (place .at))) (now (factors .exit)) (now (side .exit)) r ⌝ }
 {
     let coded = rules::coded_count(layout, channel);
     let step = read_width(part, place, coded, factors);
@@ -292,7 +282,7 @@ pub fn read_channel(
         return step;
     };
     let count = rules::side_count(layout, channel);
-    let width = side_width(layout, channel);
+    let width = rules::side_width(layout, channel);
     read_side(part, next, count, width, side)
 }
 

@@ -5,9 +5,8 @@ use mathlib.Core.Bool.{Bool, true, false, cond}
 use Prim.Native.Nat.{ℕ}
 use lib.Dec.{ltb}
 use lib.Ieee.{Float}
-use lib.ListN.{length, getD}
+use lib.ListN.{getD}
 use Rattle.buffers.specs.Walk.{build}
-use Rattle.buffers.proofs.Build.{length-build}
 use Rattle.rules.specs.Layout.{secondaryAt, groupCount}
 use Rattle.rules.specs.Hfr.{hfrScale, channelSide}
 use Rattle.rules.specs.declared.Layout.{Layout}
@@ -25,7 +24,3 @@ module _ (l : Layout) (c : ℕ) (xs sc : List Float) (is : List ℕ) where
   pub of-other : secondaryAt l c ≡ false → channelSide l c xs sc is ≡ scaleSide l xs sc
   unfolding scaleSide
   of-other e = by-kind false e
-
-  pub side-size : length (channelSide l c xs sc is) ≡ 8
-  unfolding channelSide
-  side-size = length-build _ 8

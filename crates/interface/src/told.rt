@@ -1,5 +1,4 @@
 // What is told of an answer: the number that is returned, and the numbers that are stored. An answer under four places stays untouched.
-ghost use mathlib.Core.Path.{_≡_};
 ghost use mathlib.Core.List.{[], _∷_};
 ghost use Prim.Native.Nat.{_<_};
 ghost use Rattle.rules.specs.Refusals.{delivered, refused, stageNumber, writeNumber, readNumber};

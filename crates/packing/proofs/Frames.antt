@@ -8,7 +8,8 @@ use native.Mathlib.Omega.{arith}
 use lib.IntN.{ℤ}
 use lib.ListN.{length, getD, take, drop, replicate, length-append, length-drop, length-replicate, replicate-append-replicate}
 use lib.Seq.{take-at, length-take-le}
-use Rattle.buffers.specs.Walk.{build}
+use Rattle.buffers.specs.Walk.{build, AtMost}
+use Rattle.buffers.proofs.Most.{part-most}
 use Rattle.bits.specs.Bits.{bits}
 use Rattle.bits.specs.Place.{Written, Writes}
 use Rattle.bits.proofs.Parts.{bytes-all}
@@ -17,12 +18,11 @@ use Rattle.crc.specs.Sealed.{body, sealed}
 use Rattle.rules.specs.Format.{eachBits, times}
 use Rattle.rules.specs.Layout.{Sizes, frameSize, kindsOf}
 use Rattle.rules.specs.Resolution.{allResolutions}
-use Rattle.rules.specs.Record.{Rec, chanOf, codesIn, recOf}
+use Rattle.rules.specs.Record.{Rec, chanOf, resolutionsIn, codesIn, recOf}
 use Rattle.rules.specs.Fields.{channelFields, codeBits, fields}
 use Rattle.rules.specs.Frame.{payload, payloadBits, frameOf}
 use Rattle.rules.specs.declared.Layout.{Layout}
-use Rattle.packing.specs.Parts.{resolutionsIn}
-use Rattle.packing.proofs.Rows.{AtMost, part-most, resolutions-are}
+use Rattle.quantizer.proofs.Bands.{resolutions-are}
 
 regroup : (a b c d : List Bool) → a ++ (b ++ (c ++ d)) ≡ (a ++ (b ++ c)) ++ d
 regroup a b c d = simp append-assoc
@@ -37,7 +37,7 @@ fields-are l level boundary F S C R z e h =
     regroup (bits 16 0xFFFF) (bits 9 level) (bits 7 boundary) _
     ∙ ap (λ rs. (bits 16 0xFFFF ++ (bits 9 level ++ bits 7 boundary)) ++ (eachBits (channelFields l) (kindsOf l) (build (chanOf l F S) (l .channels))
     ++ eachBits (λ _. eachBits (eachBits codeBits) rs) (times 8) (build (λ s. build (codesIn l C s) (l .channels)) 8)))
-    (sym (resolutions-are level boundary l F S z e) ∙ ap (λ rs. build (resolutionsIn l rs) (l .channels)) (sym h))
+    (sym (resolutions-are l level boundary F S z e) ∙ ap (λ rs. build (resolutionsIn l rs) (l .channels)) (sym h))
 
 -- a cleared frame and its payload
 module _ (l : Layout) (z : Sizes l) {f : List ℕ} (clear : f ≡ replicate (frameSize l) 0) where

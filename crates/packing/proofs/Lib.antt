@@ -1,4 +1,3 @@
 pub mod Walks
 pub mod Codes
-pub mod Rows
 pub mod Frames

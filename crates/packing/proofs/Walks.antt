@@ -18,9 +18,8 @@ use Rattle.bits.specs.Bits.{bits}
 use Rattle.bits.specs.Place.{Writes}
 use Rattle.bits.proofs.Runs.{writes-none, writes-then}
 use Rattle.rules.specs.Format.{walkBits, eachBits, stay, times}
-use Rattle.rules.specs.Fields.{deltaBits, factorBits, passed, allFactorBits}
+use Rattle.rules.specs.Fields.{deltaBits, factorBits, passed, before, allFactorBits}
 use Rattle.rules.proofs.Cuts.{blocks-same}
-use Rattle.packing.specs.Parts.{before}
 
 -- one more value at the end
 walk-snoc : {S X A : Type 0} (next : S → A → S) (w : S → X → A → List Bool) (s : S) (xs : List X) (x : X) (ys : List A) (y : A) → length xs ≡ length ys →
@@ -63,12 +62,12 @@ pub side-blocks : (w : ℕ → List Bool) (ys : List ℕ) (n : ℕ) → n ≤ le
 side-blocks w ys n h = rw (front 0 ys n h) (times-blocks w (λ i. getD ys i 0) n)
 
 -- a channel's factors
-state-is : (fs : List ℕ) (i : ℕ) → foldl passed none (build (λ j. getD fs j 0) i) ≡ before fs i
+state-is : (fs : List ℕ) (i : ℕ) → foldl passed none (build (λ j. getD fs j 0) i) ≡ before i (getD fs (i - 1) 0)
 unfolding build
 state-is fs zero = refl
-state-is fs (suc i) = foldl-snoc passed none (build (λ j. getD fs j 0) i) (getD fs i 0)
+state-is fs (suc i) = let e : i ≡ suc i - 1 = omega arith in foldl-snoc passed none (build (λ j. getD fs j 0) i) (getD fs i 0) ∙ ap (λ k. some (getD fs k 0)) e
 
-pub factors-blocks : (w : ℕ) (fs : List ℕ) (n : ℕ) → 1 ≤ w → n ≤ length fs → allFactorBits w n (take n fs) ≡ blocks (λ i. factorBits w (before fs i) (getD fs i 0)) n
+pub factors-blocks : (w : ℕ) (fs : List ℕ) (n : ℕ) → 1 ≤ w → n ≤ length fs → allFactorBits w n (take n fs) ≡ blocks (λ i. factorBits w (before i (getD fs (i - 1) 0)) (getD fs i 0)) n
 factors-blocks zero fs n h k = absurd (omega arith)
 factors-blocks (suc w) fs n h k =
     rw (front 0 fs n k, ← build-const (tt {0}) n)
@@ -78,16 +77,16 @@ factors-blocks (suc w) fs n h k =
 pub no-factors : (w n : ℕ) (fs : List ℕ) → w ≡ 0 → allFactorBits w n fs ≡ []
 no-factors w n fs e = rw e
 
-pub first-factor : (w : ℕ) (fs : List ℕ) (i f : ℕ) → i ≡ 0 → factorBits w (before fs i) f ≡ bits 6 f
-first-factor w fs i f e = rw e
+pub first-factor : (w i p f : ℕ) → i ≡ 0 → factorBits w (before i p) f ≡ bits 6 f
+first-factor w i p f e = rw e
 
 pub six-factor : (w : ℕ) (p : Option ℕ) (f : ℕ) → w ≡ 6 → factorBits w p f ≡ bits 6 f
 six-factor w none f e = refl
 six-factor w (some p) f e = rw (eq-eqb w 6 e)
 
-pub later-factor : (w : ℕ) (fs : List ℕ) (i f : ℕ) → i ≢ 0 → w ≢ 6 → factorBits w (before fs i) f ≡ deltaBits w (getD fs (i - 1) 0) f
-later-factor w fs zero f h k = absurd (h refl)
-later-factor w fs (suc i) f h k = let e : suc i - 1 ≡ i = omega arith in rw (ne-eqb w 6 k, e)
+pub later-factor : (w i p f : ℕ) → i ≢ 0 → w ≢ 6 → factorBits w (before i p) f ≡ deltaBits w p f
+later-factor w zero p f h k = absurd (h refl)
+later-factor w (suc i) p f h k = rw (ne-eqb w 6 k)
 
 -- WHAT A LOOP KEEPS that writes block i in turn i, of at most m bits each
 pub record Wrote (g : ℕ → List Bool) (m : ℕ) (s₀ : List ℕ) (p₀ i : ℕ) (s : List ℕ) (p : ℕ) : Type 0 where

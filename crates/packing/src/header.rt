@@ -8,16 +8,15 @@ ghost use Rattle.buffers.specs.Walk.{build};
 ghost use Rattle.bits.specs.Bits.{bits};
 ghost use Rattle.bits.specs.Place.{Writes};
 ghost use Rattle.rules.specs.Format.{eachBits, times};
-ghost use Rattle.rules.specs.Layout.{Sizes, kindAt, kindsOf, sideWidth};
+ghost use Rattle.rules.specs.Layout.{Sizes, kindAt, kindsOf};
 ghost use Rattle.rules.specs.Width.{near, width};
-ghost use Rattle.rules.specs.Record.{chanOf};
-ghost use Rattle.rules.specs.Fields.{deltaSymbol, deltaBits, factorBits, allFactorBits, channelFields};
-ghost use Rattle.packing.specs.Parts.{before, chanIn};
+ghost use Rattle.rules.specs.Record.{chanIn, chanOf};
+ghost use Rattle.rules.specs.Fields.{deltaSymbol, deltaBits, factorBits, before, allFactorBits, channelFields};
 use bits::Place;
 use rules::Layout;
 use rules::coded_count;
-use rules::is_secondary;
 use rules::side_count;
+use rules::side_width;
 use widths::calculate_optimal_delta_length;
 use widths::delta;
 use widths::is_near;
@@ -75,7 +74,7 @@ pub fn write_delta(place: Place, payload: &mut [u8], d: usize, previous: u8, fac
 // Factor i at a width: the first, and each at width 6, in 6 bits.
 fn write_factor(place: Place, payload: &mut [u8], factors: &[u8], i: usize, width: usize) -> Place
     requires { ⌜ (1 ≤ width) × (width ≤ 6) × (place .at < 2 ^ 49) × (i < length (now factors)) ⌝ }
-    ensures { λ r. ⌜ Writes (now (payload .entry)) (place .at) (factorBits width (before (now (factors .entry)) i) (getD (now (factors .entry)) i 0)) (now (payload .exit)) (r .at) × (r .at ≤ place .at + 11) ⌝ }
+    ensures { λ r. ⌜ Writes (now (payload .entry)) (place .at) (factorBits width (before i (getD (now (factors .entry)) (i - 1) 0)) (getD (now (factors .entry)) i 0)) (now (payload .exit)) (r .at) × (r .at ≤ place .at + 11) ⌝ }
 {
     let factor = factors[i];
     if i == 0 {
@@ -132,13 +131,6 @@ pub fn write_side(place: Place, payload: &mut [u8], side: &[u8], count: usize, w
         i += 1;
     }
     at
-}
-
-fn side_width(layout: Layout, channel: usize) -> u32
-    requires { ⌜ channel < 16 ⌝ }
-    ensures { λ r. ⌜ (r ≡ sideWidth (kindAt layout channel)) × (r ≤ 6) ⌝ }
-{
-    if is_secondary(layout, channel) { 4 } else { 6 }
 }
 
 // A channel's width, factors and side values.

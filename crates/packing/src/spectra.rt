@@ -1,15 +1,14 @@
 // Document 01, **Frame**: the codes, subframe by subframe, channel by channel, band by band.
 ghost use mathlib.Core.Path.{_≡_};
-ghost use Prim.Native.Nat.{ℕ, _+_, _*_, _^_, _<_, _≤_};
+ghost use Prim.Native.Nat.{_+_, _*_, _^_, _<_, _≤_};
 ghost use lib.IntN.{natAbs};
-ghost use lib.ListN.{length, getD, take};
-ghost use Rattle.buffers.specs.Walk.{build};
+ghost use lib.ListN.{length, take};
+ghost use Rattle.buffers.specs.Walk.{build, AtMost};
 ghost use Rattle.bits.specs.Place.{Writes};
 ghost use Rattle.rules.specs.Format.{eachBits, times};
 ghost use Rattle.rules.specs.Layout.{Sizes};
-ghost use Rattle.rules.specs.Record.{codesIn};
+ghost use Rattle.rules.specs.Record.{resolutionsIn, codesIn};
 ghost use Rattle.rules.specs.Fields.{smallBits, signBits, codeBits};
-ghost use Rattle.packing.specs.Parts.{resolutionsIn};
 use super::header::write_low;
 use bits::Place;
 use quantizer::code_place;
@@ -81,7 +80,7 @@ pub fn write_spectra(
     coded: usize,
 ) -> Place
     requires { ⌜ (place .at < 2 ^ 48) × (length (now resolutions) ≡ 128) × (length (now codes) ≡ 128) × (coded ≤ 128) ⌝ }
-    requires { ⌜ ((k : ℕ) → getD (now resolutions) k 0 ≤ 15) ⌝ }
+    requires { ⌜ AtMost 15 (now resolutions) ⌝ }
     ensures { λ r. ⌜ Writes (now (payload .entry)) (place .at) (eachBits codeBits (take coded (now (resolutions .entry))) (take coded (now (codes .entry)))) (now (payload .exit)) (r .at) × (r .at ≤ place .at + 1536) ⌝ }
 {
     let mut at = place;
@@ -104,7 +103,7 @@ fn write_subframe(
 ) -> Place
     requires { ⌜ Sizes layout ⌝ }
     requires { ⌜ (place .at < 2 ^ 47) × (subframe < 8) × (length (now resolutions) ≡ layout .channels * 128) × (length (now codes) ≡ layout .channels * 1024) ⌝ }
-    requires { ⌜ ((k : ℕ) → getD (now resolutions) k 0 ≤ 15) ⌝ }
+    requires { ⌜ AtMost 15 (now resolutions) ⌝ }
     ensures { λ r. ⌜ Writes (now (payload .entry)) (place .at) (eachBits (eachBits codeBits) (build (resolutionsIn layout (now (resolutions .entry))) (layout .channels)) (build (codesIn layout (now (codes .entry)) subframe) (layout .channels))) (now (payload .exit)) (r .at) × (r .at ≤ place .at + 24576) ⌝ }
 {
     let channels = layout.channels;
@@ -136,7 +135,7 @@ pub fn write_codes(
 ) -> Place
     requires { ⌜ Sizes layout ⌝ }
     requires { ⌜ (place .at < 2 ^ 46) × (length (now resolutions) ≡ layout .channels * 128) × (length (now codes) ≡ layout .channels * 1024) ⌝ }
-    requires { ⌜ ((k : ℕ) → getD (now resolutions) k 0 ≤ 15) ⌝ }
+    requires { ⌜ AtMost 15 (now resolutions) ⌝ }
     ensures { λ r. ⌜ Writes (now (payload .entry)) (place .at) (eachBits (λ _. eachBits (eachBits codeBits) (build (resolutionsIn layout (now (resolutions .entry))) (layout .channels))) (times 8) (build (λ s. build (codesIn layout (now (codes .entry)) s) (layout .channels)) 8)) (now (payload .exit)) (r .at) × (r .at ≤ place .at + 196608) ⌝ }
 {
     let mut at = place;

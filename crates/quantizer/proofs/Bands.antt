@@ -1,28 +1,33 @@
--- Resolutions are at most 15, and a channel has 128. Assumes nothing.
-use mathlib.Core.Path.{_≡_}
-use mathlib.Core.Bool.{Bool, true, false, cond}
+-- Resolutions are at most 15, a channel has 128, and those of its coded bands are the record's. Assumes nothing.
+use mathlib.Core.Path.{_≡_, sym, _∙_, ap}
 use mathlib.Core.List.{List}
 use Prim.Native.Nat.{ℕ, _≤_, max, zero-le}
 use native.Mathlib.Nat.{min-le-right}
+use native.Mathlib.Omega.{arith}
+use borrow.Author.Tests.{lt-ltb}
 use lib.Dec.{eqb, ltb}
-use lib.ListN.{length, getD}
-use Rattle.buffers.proofs.Build.{length-build}
+use lib.ListN.{length, getD, take}
+use lib.Seq.{getD-take, length-take-le}
+use Rattle.buffers.specs.Walk.{build, AtMost}
+use Rattle.buffers.proofs.Tests.{cond-bound}
+use Rattle.buffers.proofs.Build.{length-build, build-at, build-of, map-build}
+use Rattle.buffers.proofs.Blocks.{length-blocks}
+use Rattle.buffers.proofs.Most.{build-most, blocks-most}
 use Rattle.rules.specs.Tables.{resolutionCurve}
-use Rattle.rules.specs.Layout.{codedAt, part}
-use Rattle.rules.specs.Resolution.{heldPosition, resolutionIn, resolution, resolutionAt, bandResolution, channelResolutions}
+use Rattle.rules.specs.Layout.{Sizes, codedAt, part, factorLength}
+use Rattle.rules.specs.Resolution.{heldPosition, noiseAt, resolutionIn, resolution, resolutionAt, resolutionsOf, bandResolution, channelResolutions, allResolutions}
+use Rattle.rules.specs.Record.{Chan, resolutions, chanOf, resolutionsIn}
 use Rattle.rules.specs.declared.Layout.{Layout}
-
-either : (t : Bool) (a b n : ℕ) → a ≤ n → b ≤ n → cond t a b ≤ n
-either true a b n p q = p
-either false a b n p q = q
+use Rattle.rules.proofs.Cuts.{build-same, block-part, length-part}
+use Rattle.rules.proofs.Stores.{coded-few}
 
 pub resolution-le : (noise factor : ℕ) → resolution noise factor ≤ 15
 unfolding resolution resolutionIn
-resolution-le noise factor = either (eqb factor 0) 0 _ 15 zero-le (min-le-right (max (getD resolutionCurve (heldPosition noise factor) 0) 1) 15)
+resolution-le noise factor = cond-bound (eqb factor 0) (λ _. zero-le) (λ _. min-le-right (max (getD resolutionCurve (heldPosition noise factor) 0) 1) 15)
 
 pub band-le : (level boundary : ℕ) (fs : List ℕ) (coded b : ℕ) → bandResolution level boundary fs coded b ≤ 15
 unfolding bandResolution resolutionAt
-band-le level boundary fs coded b = either (ltb b coded) _ 0 15 (resolution-le _ _) zero-le
+band-le level boundary fs coded b = cond-bound (ltb b coded) (λ _. resolution-le _ _) (λ _. zero-le)
 
 pub channel-size : (level boundary : ℕ) (fs : List ℕ) (coded : ℕ) → length (channelResolutions level boundary fs coded) ≡ 128
 unfolding channelResolutions
@@ -31,3 +36,35 @@ channel-size level boundary fs coded = length-build (bandResolution level bounda
 -- channel c's, in a frame
 abbrev pub resolutionsAt : Layout → ℕ → ℕ → List ℕ → ℕ → List ℕ
 resolutionsAt l level boundary factors c = channelResolutions level boundary (part 128 factors c) (codedAt l c)
+
+-- of a channel's 128 resolutions the coded ones are its coded factors'
+coded-resolutions : (level boundary : ℕ) (fs : List ℕ) (coded : ℕ) → length fs ≡ 128 → coded ≤ 128
+    → take coded (channelResolutions level boundary fs coded) ≡ resolutionsOf level boundary (take coded fs)
+unfolding channelResolutions resolutionsOf bandResolution resolutionAt
+coded-resolutions level boundary fs coded e h =
+    let n : length (take coded fs) ≡ coded = length-take-le coded fs (omega arith) in
+    let f : ℕ → ℕ = bandResolution level boundary fs coded in
+    rw n
+    (build-of (resolutionAt level boundary (take coded fs)) coded 0 (take coded (build f 128)) (length-take-le coded (build f 128) (omega (arith, length-build f 128)))
+    (λ i lt. getD-take coded (build f 128) i 0 lt ∙ build-at f 128 i 0 (omega arith) ∙ rw (lt-ltb i coded lt) (ap (resolution (noiseAt level boundary i)) (sym (getD-take coded fs i 0 lt)))))
+
+-- the resolutions of all bands
+module _ (l : Layout) (level boundary : ℕ) (factors : List ℕ) where
+  pub resolutions-most : AtMost 15 (allResolutions l level boundary factors)
+  unfolding allResolutions channelResolutions
+  resolutions-most =
+      blocks-most 15 (resolutionsAt l level boundary factors) (λ c. build-most 15 (bandResolution level boundary (part 128 factors c) (codedAt l c)) (band-le _ _ _ _) 128) (l .channels)
+
+  pub resolutions-long : length (allResolutions l level boundary factors) ≡ factorLength l
+  unfolding allResolutions
+  resolutions-long = length-blocks (resolutionsAt l level boundary factors) 128 (l .channels) (λ c _. channel-size _ _ _ _) (l .channels) (omega arith)
+
+  -- those of the coded bands are those of the record in the buffers
+  pub resolutions-are : (side : List ℕ) → Sizes l → length factors ≡ factorLength l
+      → build (resolutionsIn l (allResolutions l level boundary factors)) (l .channels) ≡ resolutions level boundary (build (chanOf l factors side) (l .channels))
+  unfolding allResolutions
+  resolutions-are side z e =
+      build-same _ (λ c. resolutionsOf level boundary (take (codedAt l c) (part 128 factors c))) (l .channels)
+      (λ c h. ap (take (codedAt l c)) (block-part (resolutionsAt l level boundary factors) 128 (l .channels) c (λ i _. channel-size _ _ _ _) h)
+      ∙ coded-resolutions level boundary (part 128 factors c) (codedAt l c) (length-part 128 (l .channels) c factors (omega arith) h) (coded-few l z c))
+      ∙ sym (map-build (λ (c : Chan). resolutionsOf level boundary (c .factors)) (chanOf l factors side) (l .channels))

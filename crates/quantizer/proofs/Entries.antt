@@ -17,7 +17,7 @@ use Rattle.buffers.proofs.Every.{every-at}
 use Rattle.buffers.proofs.Tests.{and-fst, and-snd}
 use Rattle.rules.specs.Tables.{resolutionCurve, stepTable, maxBitTable, spectrumBits, spectrumValue}
 use Rattle.rules.specs.Code.{stepOf, stepShift, magnitudeBits, codeLimit}
-use Rattle.quantizer.specs.Packed.{packed}
+use Rattle.quantizer.specs.Packed.{packed, entryOf}
 
 -- two functions that give the same list
 alike : {A : Type 0} (f g : ℕ → A) (n : ℕ) → build f n ≡ build g n → (i : ℕ) → i < n → f i ≡ g i
@@ -33,34 +33,30 @@ last-arm zero r h o = omega arith
 last-arm (suc n) r h o =
     ⊎-elim (λ (e : r ≡ suc n). e) (λ (l : r < suc n). absurd (o .1 (last-arm n r (omega arith) (o .0)))) (eq-or-lt-of-le h)
 
--- the entry at a place of a row
-abbrev pub digitOf : ℕ → ℕ → ℕ
-digitOf row place = row / 2 ^ (4 * place) % 16
-
 -- ---- SCALE_TO_RESOLUTION_CURVE
 abbrev pub curveRow : ℕ → ℕ
 curveRow i = packed (take 16 (drop (16 * i) resolutionCurve))
 
-curve-test : build (λ (i : ℕ). digitOf (curveRow (i / 16)) (i % 16)) 59 ≡ build (λ (i : ℕ). getD resolutionCurve i 0) 59
+curve-test : build (λ (i : ℕ). entryOf (curveRow (i / 16)) (i % 16)) 59 ≡ build (λ (i : ℕ). getD resolutionCurve i 0) 59
 unfolding build packed resolutionCurve
 curve-test = refl
 
-pub curve-entry : (i : ℕ) → i ≤ 58 → digitOf (curveRow (i / 16)) (i % 16) ≡ getD resolutionCurve i 0
+pub curve-entry : (i : ℕ) → i ≤ 58 → entryOf (curveRow (i / 16)) (i % 16) ≡ getD resolutionCurve i 0
 curve-entry i h = alike _ _ 59 curve-test i (omega arith)
 
 -- ---- the rows of the spectrum tables
 module _ (t : List (List ℕ)) where
-  row-entry : build (λ (r : ℕ). build (λ (p : ℕ). digitOf (packed (getD t r [])) p) 16) 8 ≡ build (λ (r : ℕ). getD t r []) 8
-      → (r p : ℕ) → r < 8 → p ≤ 15 → digitOf (packed (getD t r [])) p ≡ getD (getD t r []) p 0
+  row-entry : build (λ (r : ℕ). build (λ (p : ℕ). entryOf (packed (getD t r [])) p) 16) 8 ≡ build (λ (r : ℕ). getD t r []) 8
+      → (r p : ℕ) → r < 8 → p ≤ 15 → entryOf (packed (getD t r [])) p ≡ getD (getD t r []) p 0
   row-entry e r p h k =
-      sym (build-at (digitOf (packed (getD t r []))) 16 p 0 (omega arith))
-      ∙ ap (λ (l : List ℕ). getD l p 0) (alike (λ (i : ℕ). build (λ (j : ℕ). digitOf (packed (getD t i [])) j) 16) (λ (i : ℕ). getD t i []) 8 e r h)
+      sym (build-at (entryOf (packed (getD t r []))) 16 p 0 (omega arith))
+      ∙ ap (λ (l : List ℕ). getD l p 0) (alike (λ (i : ℕ). build (λ (j : ℕ). entryOf (packed (getD t i [])) j) 16) (λ (i : ℕ). getD t i []) 8 e r h)
 
-pub length-entry : (r p : ℕ) → r < 8 → p ≤ 15 → digitOf (packed (getD spectrumBits r [])) p ≡ getD (getD spectrumBits r []) p 0
+pub length-entry : (r p : ℕ) → r < 8 → p ≤ 15 → entryOf (packed (getD spectrumBits r [])) p ≡ getD (getD spectrumBits r []) p 0
 unfolding build packed spectrumBits
 length-entry = row-entry spectrumBits refl
 
-pub word-entry : (r p : ℕ) → r < 8 → p ≤ 15 → digitOf (packed (getD spectrumValue r [])) p ≡ getD (getD spectrumValue r []) p 0
+pub word-entry : (r p : ℕ) → r < 8 → p ≤ 15 → entryOf (packed (getD spectrumValue r [])) p ≡ getD (getD spectrumValue r []) p 0
 unfolding build packed spectrumValue
 word-entry = row-entry spectrumValue refl
 
@@ -85,9 +81,9 @@ unfolding small
 word-lt r p h k = ltb-true _ _ (and-snd (leb (getD (getD spectrumBits r []) p 0) 4) _ (is-small r p h k))
 
 -- ---- MAX_BIT_TABLE - 1, and the limit
-pub bits-entry : (r : ℕ) → r ≤ 15 → digitOf 0xBA98765433332210 r ≡ magnitudeBits r
+pub bits-entry : (r : ℕ) → r ≤ 15 → entryOf 0xBA98765433332210 r ≡ magnitudeBits r
 unfolding build magnitudeBits maxBitTable
-bits-entry r h = alike (digitOf 0xBA98765433332210) magnitudeBits 16 refl r (omega arith)
+bits-entry r h = alike (entryOf 0xBA98765433332210) magnitudeBits 16 refl r (omega arith)
 
 pub bits-le : (r : ℕ) → r ≤ 15 → magnitudeBits r ≤ 11
 unfolding every magnitudeBits maxBitTable

@@ -1,8 +1,12 @@
 -- A row of numbers below 16 as one number.
 use mathlib.Core.List.{List, [], _∷_}
-use Prim.Native.Nat.{ℕ, _+_, _*_}
+use Prim.Native.Nat.{ℕ, _+_, _*_, _/_, _%_, _^_}
 
 -- the first in the lowest four bits
 unfoldable pub packed : List ℕ → ℕ
 packed [] = 0
 packed (x ∷ xs) = x + 16 * packed xs
+
+-- the entry at a place
+abbrev pub entryOf : ℕ → ℕ → ℕ
+entryOf row place = row / 2 ^ (4 * place) % 16

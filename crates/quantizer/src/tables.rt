@@ -8,12 +8,12 @@ ghost use lib.Ieee.{nan};
 ghost use lib.ListN.{getD, take, drop};
 ghost use Rattle.rules.specs.Tables.{resolutionCurve, deadZoneTable, spectrumBits, spectrumValue};
 ghost use Rattle.rules.specs.Code.{stepOf, stepShift, magnitudeBits, codeLimit};
-ghost use Rattle.quantizer.specs.Packed.{packed};
+ghost use Rattle.quantizer.specs.Packed.{packed, entryOf};
 
 // The entry at a place of a row.
 pub fn digit(row: u64, place: usize) -> u32
     requires { ⌜ place ≤ 15 ⌝ }
-    ensures { λ r. ⌜ r ≡ row / 2 ^ (4 * place) % 16 ⌝ }
+    ensures { λ r. ⌜ r ≡ entryOf row place ⌝ }
 {
     ((row >> (4 * place)) % 16) as u32
 }

@@ -1,14 +1,10 @@
--- Room in the buffers, what a scan leaves in them, and the rest of a longer buffer. Assumes nothing.
-use mathlib.Core.Path.{_≡_, refl, sym, _∙_, ap, subst}
-use mathlib.Core.Bool.{Bool, true, false, not}
+-- What a scan leaves in the buffers, and the rest of a longer buffer. Assumes nothing.
+use mathlib.Core.Path.{_≡_, refl, sym, _∙_, subst}
 use mathlib.Core.List.{List, _++_}
 use Prim.Native.Nat.{ℕ}
-use borrow.Author.Tests.{le-leb, leb-true}
-use lib.Dec.{leb}
 use lib.IntN.{ℤ, pos}
 use lib.ListN.{length, drop, length-replicate}
-use Rattle.buffers.proofs.Tests.{and-fst, and-snd, and-true, not-true-false}
-use Rattle.rules.specs.Layout.{frameSize, factorLength, sideLength, spectrumLength}
+use Rattle.rules.specs.Layout.{factorLength, sideLength, spectrumLength}
 use Rattle.rules.specs.Record.{recOf}
 use Rattle.rules.specs.Reading.{Scanned, accepted, faulty}
 use Rattle.rules.specs.Refusals.{Outcome, refused, readNumber}
@@ -17,39 +13,10 @@ use Rattle.rules.specs.declared.Layout.{Layout}
 use Rattle.rules.specs.declared.ReadAnswer.{ReadAnswer}
 use Rattle.rules.specs.declared.ReadAnswer.the-variants as read
 use Rattle.rules.proofs.Stores.{length-factors, length-side, length-codes}
-use Rattle.headers.proofs.Channels.{twice-not}
 use Rattle.headers.specs.declared.Fault.{Fault}
-use Rattle.reader.specs.declared.Room.{Room}
 use Rattle.reader.specs.declared.record.Found.{Found}
 use Rattle.reader.specs.declared.record.Found.the-variants as found
-use Rattle.reader.specs.Answers.{Enough, roomFor, Scans, Settled, outcomeOf, factorsOf, sideOf, codesOf}
-
--- what a test that is turned round says of what it tests
-pub turned : {r x b : Bool} → r ≡ x → not r ≡ b → x ≡ not b
-turned {r} e t = sym e ∙ sym (twice-not r) ∙ ap not t
-
-abbrev Fits : Layout → Room → Type 0
-Fits l r = Enough l (r .frame) (r .factors) (r .side) (r .codes)
-
-module _ (l : Layout) (r : Room) where
-  pub room-true : Fits l r → roomFor l r ≡ true
-  unfolding roomFor
-  room-true h = and-true (le-leb _ _ (h .frame)) (and-true (le-leb _ _ (h .factors)) (and-true (le-leb _ _ (h .side)) (le-leb _ _ (h .codes))))
-
-  pub room-facts : roomFor l r ≡ true → Fits l r
-  unfolding roomFor
-  room-facts e₁ =
-      let e₂ = and-snd (leb (frameSize l) (r .frame)) _ e₁ in
-      let e₃ = and-snd (leb (factorLength l) (r .factors)) _ e₂ in
-      record {
-        frame = leb-true _ _ (and-fst (leb (frameSize l) (r .frame)) _ e₁);
-        factors = leb-true _ _ (and-fst (leb (factorLength l) (r .factors)) _ e₂);
-        side = leb-true _ _ (and-fst (leb (sideLength l) (r .side)) _ e₃);
-        codes = leb-true _ _ (and-snd (leb (sideLength l) (r .side)) _ e₃);
-      }
-
-  pub room-false : (Fits l r → ⊥) → roomFor l r ≡ false
-  room-false h = not-true-false (roomFor l r) (λ e. h (room-facts e))
+use Rattle.reader.specs.Answers.{Scans, Settled, outcomeOf, factorsOf, sideOf, codesOf}
 
 -- an answer of a known variant
 pub scans-of : {l : Layout} {x : Scanned} {F S : List ℕ} {C : List ℤ} {r o : Found} → r ≡ o → Scans l x F S C r → Scans l x F S C o

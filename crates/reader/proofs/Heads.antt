@@ -5,6 +5,7 @@ use Prim.Native.Nat.{ℕ}
 use native.Mathlib.Omega.{arith}
 use lib.IntN.{ℤ}
 use Rattle.bits.specs.Bits.{bitsOf}
+use Rattle.bits.specs.Place.{leftAt}
 use Rattle.bits.specs.declared.Place.{Place}
 use Rattle.buffers.specs.Walk.{build}
 use Rattle.rules.specs.Format.{Read, ok, bad, pure, andThen, each, times}
@@ -17,7 +18,7 @@ use Rattle.headers.specs.declared.Value.{Value}
 use Rattle.headers.specs.declared.Value.the-variants as value
 use Rattle.headers.specs.declared.Step.{Step}
 use Rattle.headers.specs.declared.Step.the-variants as step
-use Rattle.headers.specs.Answers.{leftAt, Told, StoredChannels}
+use Rattle.headers.specs.Answers.{Told, StoredChannels}
 use Rattle.headers.proofs.Answered.{told-of}
 use Rattle.reader.specs.declared.record.Head.{Head}
 use Rattle.reader.specs.declared.record.Head.the-variants as head

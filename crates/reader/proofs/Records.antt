@@ -7,8 +7,10 @@ use native.Mathlib.Omega.{arith}
 use lib.IntN.{ℤ}
 use lib.ListN.{length}
 use Rattle.bits.specs.Bits.{bitsOf}
+use Rattle.bits.specs.Place.{leftAt}
 use Rattle.bits.specs.declared.Place.{Place}
 use Rattle.bits.proofs.Numbers.{length-bits-of}
+use Rattle.bits.proofs.Fields.{length-left}
 use Rattle.buffers.specs.Walk.{build}
 use Rattle.rules.specs.Format.{Read, ok, pure, andThen, each, times}
 use Rattle.rules.specs.Layout.{Sizes, factorLength, sideLength}
@@ -22,9 +24,8 @@ use Rattle.spectra.specs.declared.Step.{Step}
 use Rattle.spectra.specs.declared.Step.the-variants as step
 use Rattle.spectra.specs.declared.Fill.{Fill}
 use Rattle.spectra.specs.declared.Fill.the-variants as fill
-use Rattle.spectra.specs.Told.{leftAt, stepRead, stepPlace, Filled}
+use Rattle.spectra.specs.Told.{stepRead, stepPlace, Filled}
 use Rattle.spectra.specs.Rows.{readSubframes, Subframes}
-use Rattle.spectra.proofs.Telling.{length-left}
 use Rattle.spectra.proofs.Resolved.{coded-rows, codes-stored}
 use Rattle.reader.specs.declared.record.Head.the-variants as head
 use Rattle.reader.specs.declared.record.Found.{Found}
@@ -32,11 +33,8 @@ use Rattle.reader.specs.declared.record.Found.the-variants as found
 use Rattle.reader.specs.Answers.{pastAt, later, Headed, FillIn, finished, scanPart, Refusal, Scans}
 
 -- a bit of the part, counted from the frame's first by the bits that are left there
-from-left : (s : List ℕ) (p : ℕ) → p ≤ 8 * length s → length (bitsOf s) + 16 - (length (bitsOf s) - p) ≡ p + 16
-from-left s p h = omega (arith, length-bits-of s)
-
-from-drop : (s : List ℕ) (p : ℕ) → p ≤ 8 * length s → length (bitsOf s) + 16 - length (leftAt s p) ≡ p + 16
-from-drop s p h = omega (arith, length-bits-of s, length-left s p)
+from-left : (s : List ℕ) (p : ℕ) → p ≤ 8 * length s → length (bitsOf s) + 16 - length (leftAt s p) ≡ p + 16
+from-left s p h = omega (arith, length-bits-of s, length-left s p)
 
 late : (f : Fault) → 10 ≤ f .number → f .number ≤ 14 → Refusal (later f)
 late f a b = record { low = omega arith; high = b; first = λ h. absurd (omega arith) }
@@ -76,7 +74,7 @@ module _ (l : Layout) (s : List ℕ) {F S : List ℕ} {C : List ℤ} where
     codes-cut {p} e y =
         subst (λ g. Scans l (scanPart l s) F S C (found.Refused g)) (sym (y ∙ ap (λ o. later (pastAt (stepPlace o))) e))
         (record {
-          is = ap (afterFields (length (bitsOf s) + 16)) (codes-read e) ∙ ap (faulty 13) (from-drop s p (codes-of e t .within));
+          is = ap (afterFields (length (bitsOf s) + 16)) (codes-read e) ∙ ap (faulty 13) (from-left s p (codes-of e t .within));
           holds = late (pastAt p) (omega arith) (omega arith);
         })
 
@@ -91,7 +89,7 @@ module _ (l : Layout) (s : List ℕ) {F S : List ℕ} {C : List ℤ} where
 
       filled : (w : Fill) → Filled s (firstOne (leftAt s (o .at))) w → Scans l (scanPart l s) F S C (finished v b (o .at) w)
       filled fill.Zero u = record {
-        is = ap (afterFields (length (bitsOf s) + 16)) record-read ∙ rw (u .is) (ap (accepted (recOf l v b F S C)) (from-drop s (o .at) (codes-of e t .within)));
+        is = ap (afterFields (length (bitsOf s) + 16)) record-read ∙ rw (u .is) (ap (accepted (recOf l v b F S C)) (from-left s (o .at) (codes-of e t .within)));
         holds = record {
           factors = holds-factors l F S (h .holds .1) (recOf l v b F S C) chans-are n;
           side = holds-side l F S (h .holds .1) (recOf l v b F S C) chans-are m;
@@ -99,7 +97,7 @@ module _ (l : Layout) (s : List ℕ) {F S : List ℕ} {C : List ℤ} where
         };
       }
       filled (fill.One p) u = record {
-        is = ap (afterFields (length (bitsOf s) + 16)) record-read ∙ rw (u .is) (ap (faulty 14) (from-drop s p (u .within)));
+        is = ap (afterFields (length (bitsOf s) + 16)) record-read ∙ rw (u .is) (ap (faulty 14) (from-left s p (u .within)));
         holds = late (record { number = 14; at = p }) (omega arith) (omega arith);
       }
 

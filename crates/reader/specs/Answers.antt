@@ -1,22 +1,21 @@
 -- Document 01, **Refusal numbers**: how the answers of this crate say what the strict reader of the rules finds. `s` is the part of a frame between its sync and its check.
 use mathlib.Core.Path.{_≡_}
 use mathlib.Core.List.{List, [], _∷_}
-use mathlib.Core.Bool.{Bool, _&&_}
 use Prim.Native.Nat.{ℕ, _+_, _*_, _≤_}
-use lib.Dec.{leb}
 use lib.IntN.{ℤ}
 use lib.ListN.{length}
 use Rattle.bits.specs.Bits.{bitsOf}
+use Rattle.bits.specs.Place.{leftAt}
 use Rattle.buffers.specs.Walk.{build}
 use Rattle.rules.specs.Format.{Read, Reader, pure, _>>=_, each, times}
-use Rattle.rules.specs.Layout.{frameSize, factorLength, sideLength, spectrumLength}
+use Rattle.rules.specs.Layout.{factorLength, sideLength, spectrumLength}
 use Rattle.rules.specs.Record.{Chan, Rec, resolutions, chanOf, recOf, storeFactors, storeSide, storeCodes}
 use Rattle.rules.specs.Reading.{readCode, readRecord, Scanned, accepted, faulty, afterFields}
 use Rattle.rules.specs.Refusals.{Outcome, delivered, refused, readNumber}
 use Rattle.rules.specs.Stage.{noFactors, noSide, noCodes}
 use Rattle.rules.specs.declared.Layout.{Layout}
 use Rattle.rules.specs.declared.ReadAnswer.{ReadAnswer}
-use Rattle.headers.specs.Answers.{leftAt, refusal, Numbered, Rows}
+use Rattle.headers.specs.Answers.{refusal, Numbered, Rows}
 use Rattle.headers.specs.declared.Fault.{Fault}
 use Rattle.headers.specs.declared.Value.{Value}
 use Rattle.headers.specs.declared.Value.the-variants as value
@@ -24,7 +23,6 @@ use Rattle.headers.specs.declared.Step.{Step}
 use Rattle.headers.specs.declared.Step.the-variants as step
 use Rattle.spectra.specs.declared.Fill.{Fill}
 use Rattle.spectra.specs.declared.Fill.the-variants as fill
-use Rattle.reader.specs.declared.Room.{Room}
 use Rattle.reader.specs.declared.record.Head.{Head}
 use Rattle.reader.specs.declared.record.Head.the-variants as head
 use Rattle.reader.specs.declared.record.Found.{Found}
@@ -111,20 +109,11 @@ pub record Scans (l : Layout) (x : Scanned) (F S : List ℕ) (C : List ℤ) (r :
   pub is : x ≡ foundScan l F S C r
   pub holds : FoundHolds l F S C r
 
--- THE BUFFERS' LENGTHS: just as stated, or enough
+-- THE BUFFERS' LENGTHS, just as stated
 pub record Exact (l : Layout) (f s n : ℕ) : Type 0 where
   pub factors : f ≡ factorLength l
   pub side : s ≡ sideLength l
   pub codes : n ≡ spectrumLength l
-
-pub record Enough (l : Layout) (size f s n : ℕ) : Type 0 where
-  pub frame : frameSize l ≤ size
-  pub factors : factorLength l ≤ f
-  pub side : sideLength l ≤ s
-  pub codes : spectrumLength l ≤ n
-
-unfoldable pub roomFor : Layout → Room → Bool
-roomFor l r = leb (frameSize l) (r .frame) && (leb (factorLength l) (r .factors) && (leb (sideLength l) (r .side) && leb (spectrumLength l) (r .codes)))
 
 -- WHAT IS SETTLED: the answer, and buffers that are zero after a refusal
 abbrev pub outcomeOf : Scanned → Outcome

@@ -1,11 +1,11 @@
 // The strict reader: a frame back to its record, or the first thing that is wrong with it.
 ghost use mathlib.Core.Path.{_≡_};
 ghost use lib.ListN.{length, take};
-ghost use Rattle.rules.specs.Layout.{Sizes, frameSize};
+ghost use Rattle.rules.specs.Layout.{Sizes, frameSize, roomOf, Enough};
 ghost use Rattle.rules.specs.Reading.{strict};
 ghost use Rattle.rules.specs.Refusals.{refused, readNumber};
 ghost use Rattle.rules.specs.Stage.{frameLent, recordLeft, readLeft, read};
-ghost use Rattle.reader.specs.Answers.{Exact, Enough, roomFor, Refusal, Scans, Settled};
+ghost use Rattle.reader.specs.Answers.{Exact, Refusal, Scans, Settled};
 use self::record::Found;
 use self::record::read_record;
 use bits::Place;
@@ -14,36 +14,9 @@ use buffers::clear_u8;
 use headers::Fault;
 use rules::Layout;
 use rules::ReadAnswer;
+use rules::Room;
 
 mod record;
-
-// The lengths of the lent buffers.
-struct Room {
-    frame: usize,
-    factors: usize,
-    side: usize,
-    codes: usize,
-}
-
-// Is each buffer as long as document 01 asks?
-fn enough(layout: Layout, room: Room) -> bool
-    requires { ⌜ Sizes layout ⌝ }
-    ensures { λ r. ⌜ r ≡ roomFor layout room ⌝ }
-{
-    if room.frame < layout.frame_size {
-        return false;
-    }
-    if room.factors < layout.channels * 128 {
-        return false;
-    }
-    if room.side < layout.channels * 8 {
-        return false;
-    }
-    if room.codes < layout.channels * 1024 {
-        return false;
-    }
-    true
-}
 
 // The check, the sync, and what stands between them.
 fn scan_frame(
@@ -119,7 +92,7 @@ fn cut(
     codes: &mut [i32],
 ) -> ReadAnswer
     requires { ⌜ Sizes layout ⌝ }
-    requires { ⌜ Enough layout (length (now frame)) (length (now factors)) (length (now side)) (length (now codes)) ⌝ }
+    requires { ⌜ Enough layout (roomOf (length (now factors)) (length (now side)) (length (now codes)) (length (now frame))) ⌝ }
     ensures { λ r. ⌜ recordLeft r (now (factors .exit)) (now (side .exit)) (now (codes .exit)) ≡ readLeft layout (frameLent (now (frame .entry)) (now (factors .entry)) (now (side .entry)) (now (codes .entry))) (strict layout (take (frameSize layout) (now (frame .entry)))) ⌝ }
 {
     let size = layout.frame_size;
@@ -149,12 +122,12 @@ pub fn read_frame(
         return ReadAnswer::BadLayout;
     }
     let room = Room {
-        frame: frame.len(),
         factors: factors.len(),
         side: side.len(),
         codes: codes.len(),
+        frame: frame.len(),
     };
-    if !enough(layout, room) {
+    if !rules::has_room(layout, room) {
         return ReadAnswer::ShortBuffer;
     }
     cut(layout, frame, factors, side, codes)

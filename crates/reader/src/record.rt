@@ -2,9 +2,10 @@
 ghost use mathlib.Core.Path.{_≡_};
 ghost use Prim.Native.Nat.{_*_, _≤_};
 ghost use lib.ListN.{length};
+ghost use Rattle.bits.specs.Place.{leftAt};
 ghost use Rattle.rules.specs.Layout.{Sizes, factorLength, sideLength, spectrumLength};
 ghost use Rattle.rules.specs.Resolution.{allResolutions};
-ghost use Rattle.spectra.specs.Told.{leftAt, stepPlace};
+ghost use Rattle.spectra.specs.Told.{stepPlace};
 ghost use Rattle.spectra.specs.Rows.{readSubframes, Subframes};
 ghost use Rattle.reader.specs.Answers.{valueFault, stepFault, headFault, later, FillIn, finished, scanPart, Exact, Headed, Scans};
 use bits::Place;

@@ -2,17 +2,13 @@
 use mathlib.Core.Path.{_≡_, refl, sym, ap, ap₂, _∙_}
 use mathlib.Core.List.{List}
 use mathlib.Core.Bool.{Bool, true, false, true≢false, cond, _&&_}
-use Prim.Native.Nat.{ℕ, suc, _^_, _≤_, _<_}
-use native.Mathlib.Nat.{zero-add}
+use Prim.Native.Nat.{ℕ, _^_, _≤_, _<_}
 use native.Mathlib.Omega.{arith}
-use borrow.Author.Tests.{le-ltb, ltb-true}
+use borrow.Author.Tests.{le-ltb}
 use lib.Dec.{leb, ltb}
-use lib.IntN.{ℤ, pos, negsuc, _-ℤ_, natAbs}
+use lib.IntN.{ℤ, pos, negsuc, natAbs}
 use lib.ListN.{List·getD-eq-default}
 use lib.Signed.{ltZ, leZ}
-use mir.Syntax.{w32, w64}
-use mir.Val.{SFits, toZ, ofZ}
-use mir.ValLaws.{toZ-ofZ}
 use Rattle.rules.specs.Tables.{maxBitTable}
 use Rattle.rules.specs.Code.{magnitudeBits, codeLimit}
 use Rattle.rules.specs.Record.{codeRange, legalHead, legalRow, legalCodes, legalChannel, legalRecord}
@@ -31,17 +27,7 @@ range-past r h =
     let l : 8 ≤ r = omega arith in
     rw (le-ltb r 8 l, List·getD-eq-default maxBitTable 0 {n = r} (omega arith))
 
--- ---- a code in 64 bits
-
-pub wider : (z : ℤ) → SFits w32 z → SFits w64 z
-wider z f = record { sfits = omega (arith, f .sfits) }
-
-pub widened : (z : ℤ) → SFits w32 z → toZ w64 (ofZ w64 (toZ w32 (ofZ w32 z))) ≡ z
-widened z f = ap (λ y. toZ w64 (ofZ w64 y)) (toZ-ofZ w32 z f) ∙ toZ-ofZ w64 z (wider z f)
-
-pub turned : (z : ℤ) → ltZ z (pos 0) ≡ true → pos 0 -ℤ z ≡ pos (natAbs z)
-turned (pos n) e = absurd (omega (arith, ltb-true n 0 e))
-turned (negsuc n) e = ap pos (zero-add (suc n))
+-- ---- against a signed number
 
 pub at-most : (z : ℤ) (m : ℕ) → ltZ z (pos 0) ≡ false → leZ z (pos m) ≡ leb (natAbs z) m
 at-most (pos n) m e = refl

@@ -1,7 +1,7 @@
 // Document 01, **Legal record**: is a record that lies in lent buffers legal?
 ghost use mathlib.Core.Path.{_≡_};
 ghost use mathlib.Core.Bool.{true, cond};
-ghost use Prim.Native.Nat.{_*_, _^_, _<_, _≤_};
+ghost use Prim.Native.Nat.{_*_, _^_, _<_};
 ghost use lib.Dec.{leb, ltb, eqb};
 ghost use lib.IntN.{pos, natAbs};
 ghost use lib.ListN.{length};

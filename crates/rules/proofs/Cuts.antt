@@ -1,16 +1,17 @@
 -- Rows of a fixed length in a buffer, and lists that are judged element by element. Assumes nothing.
 use mathlib.Core.Path.{_≡_, refl, sym, _∙_, ap, ap₂}
-use mathlib.Core.List.{List, [], _∷_, _++_, append-nil}
+use mathlib.Core.List.{List, [], _∷_, _++_, append-nil, append-assoc}
 use mathlib.Core.Bool.{Bool}
 use Prim.Native.Nat.{ℕ, zero, suc, _+_, _-_, _*_, _≤_, _<_}
 use native.Mathlib.Nat.{suc-mul, zero-mul, mul-le-mul-right}
 use native.Mathlib.Omega.{arith}
 use borrow.Author.Tests.{ltb-true, ltb-false}
 use lib.Dec.{ltb}
-use lib.ListN.{length, take, drop, getD, replicate, length-append, length-drop, length-replicate, List·getD-append}
-use lib.Seq.{take-take, take-at, take-all, take-add, length-take-le, getD-take, getD-append-add, ext-getD}
+use lib.ListN.{length, take, drop, getD, set, replicate, length-append, length-drop, length-replicate, List·getD-append}
+use lib.Seq.{take-take, take-at, take-all, take-add, drop-at, drop-drop, drop-append-add, length-take-le, getD-take, getD-append-add, ext-getD}
 use Rattle.buffers.specs.Walk.{build, blocks, every}
 use Rattle.buffers.proofs.Tests.{cond-both}
+use Rattle.buffers.proofs.Build.{back-width}
 use Rattle.buffers.proofs.Blocks.{blocks-at}
 use Rattle.rules.specs.Format.{Each, times}
 use Rattle.rules.specs.Layout.{part}
@@ -40,7 +41,7 @@ every-same p q (suc n) h = rw (every-same p q n (λ i lt. h i (omega arith)), h 
 -- ---- parts
 
 -- row c ends within n rows
-row-end : (k n c : ℕ) → c < n → c * k + k ≤ n * k
+pub row-end : (k n c : ℕ) → c < n → c * k + k ≤ n * k
 row-end k n c h = omega (arith, mul-le-mul-right k h, suc-mul c k)
 
 module _ {A : Type 0} where
@@ -70,7 +71,54 @@ module _ {A : Type 0} where
   pub block-part : (g : ℕ → List A) (k n c : ℕ) → ((i : ℕ) → i < n → length (g i) ≡ k) → c < n → part k (blocks g n) c ≡ g c
   block-part g k n c size h = ap (λ xs. part k xs c) (sym (append-nil (blocks g n))) ∙ blocks-at g k n size n c [] (omega arith) h
 
+-- subframe s of channel c, in one cut
+pub subframe-cut : {A : Type 0} (xs : List A) (c s : ℕ) → s < 8 → part 128 (part 1024 xs c) s ≡ take 128 (drop (c * 1024 + s * 128) xs)
+subframe-cut xs c s h = part-of-front 128 8 s (drop (c * 1024) xs) h ∙ ap (take 128) (drop-drop (s * 128) (c * 1024) xs)
+
+-- ---- row j of a buffer, lent and stored anew as ys
+
+abbrev pub renewed : {A : Type 0} → ℕ → ℕ → List A → List A → List A
+renewed k j xs ys = take (j * k) xs ++ (ys ++ drop (j * k + k - j * k) (drop (j * k) xs))
+
+module _ {A : Type 0} (k j : ℕ) (xs ys : List A) (h : j * k + k ≤ length xs) (e : length ys ≡ k) where
+  abbrev behind : List A
+  behind = drop (j * k + k - j * k) (drop (j * k) xs)
+
+  length-front : length (take (j * k) xs) ≡ j * k
+  length-front = length-take-le (j * k) xs (omega arith)
+
+  pub renewed-length : length (renewed k j xs ys) ≡ length xs
+  renewed-length = rw (back-width (j * k) k) (simp (length-append, length-drop) (omega (arith, length-front)))
+
+  pub row-new : part k (renewed k j xs ys) j ≡ ys
+  row-new = rw (drop-at (take (j * k) xs) (ys ++ behind) (j * k) length-front) (take-at ys behind k e)
+
+  drop-past : (m : ℕ) → drop (j * k + k + m) (renewed k j xs ys) ≡ drop (j * k + k + m) xs
+  drop-past m =
+      let w : length (take (j * k) xs ++ ys) ≡ j * k + k = length-append (take (j * k) xs) ys ∙ rw (length-front, e) in
+      ap₂ (λ n zs. drop (n + m) zs) (sym w) (sym (append-assoc (take (j * k) xs) ys behind))
+      ∙ drop-append-add (take (j * k) xs ++ ys) behind m
+      ∙ ap (λ n. drop m (drop n (drop (j * k) xs))) (back-width (j * k) k)
+      ∙ ap (drop m) (drop-drop k (j * k) xs) ∙ drop-drop m (j * k + k) xs
+
+  pub row-old : (i : ℕ) → (i ≡ j → ⊥) → part k (renewed k j xs ys) i ≡ part k xs i
+  row-old i n =
+      by-order i j
+      (λ l. sym (part-of-front k j i (renewed k j xs ys) l)
+      ∙ ap (λ zs. part k zs i) (take-at (take (j * k) xs) (ys ++ behind) (j * k) length-front) ∙ part-of-front k j i xs l)
+      (λ l.
+      let q : j * k + k + (i * k - (j * k + k)) ≡ i * k = omega (arith, row-end k i j (later i j l n)) in
+      ap (take k) (ap (λ m. drop m (renewed k j xs ys)) (sym q) ∙ drop-past (i * k - (j * k + k)) ∙ ap (λ m. drop m xs) q))
+    where
+      later : (i j : ℕ) → j ≤ i → (i ≡ j → ⊥) → j < i
+      later i j l n = omega arith
+
 -- ---- rows padded to a length
+
+pub getD-copies : {A : Type 0} (d : A) (n i : ℕ) → getD (replicate n d) i d ≡ d
+getD-copies d zero i = refl
+getD-copies d (suc n) zero = refl
+getD-copies d (suc n) (suc i) = getD-copies d n i
 
 module _ {A : Type 0} (d : A) (k : ℕ) where
   pub length-pad : (xs : List A) → length (pad d k xs) ≡ k
@@ -80,16 +128,11 @@ module _ {A : Type 0} (d : A) (k : ℕ) where
   pad-take n xs e h = take-take n k (xs ++ replicate k d) h ∙ take-at xs (replicate k d) n e
 
   -- past its end a padded row is blank
-  copies : (n i : ℕ) → getD (replicate n d) i d ≡ d
-  copies zero i = refl
-  copies (suc n) zero = refl
-  copies (suc n) (suc i) = copies n i
-
   pub pad-blank : (xs : List A) (i : ℕ) → length xs ≤ i → i < k → getD (pad d k xs) i d ≡ d
   pad-blank xs i h g =
       let e : length xs + (i - length xs) ≡ i = omega arith in
       getD-take k (xs ++ replicate k d) i d g
-      ∙ ap (λ j. getD (xs ++ replicate k d) j d) (sym e) ∙ getD-append-add xs (replicate k d) (i - length xs) d ∙ copies k (i - length xs)
+      ∙ ap (λ j. getD (xs ++ replicate k d) j d) (sym e) ∙ getD-append-add xs (replicate k d) (i - length xs) d ∙ getD-copies d k (i - length xs)
 
   pub pad-written : (xs : List A) (i : ℕ) → i < length xs → i < k → getD (pad d k xs) i d ≡ getD xs i d
   pad-written xs i h g = getD-take k (xs ++ replicate k d) i d g ∙ List·getD-append xs (replicate k d) d i h
@@ -105,6 +148,14 @@ module _ {A : Type 0} (d : A) (k : ℕ) where
       (λ q. pad-blank (take n xs) i (omega arith) z ∙ sym (f i q z)))
 
 -- ---- lists judged element by element
+
+-- a store keeps what holds of every number and of the new one
+pub set-keeps : (P : ℕ → Type 0) (v : ℕ) → P v → (xs : List ℕ) (j i : ℕ) → P (getD xs i 0) → P (getD (set xs j v) i 0)
+set-keeps P v p [] j i h = h
+set-keeps P v p (x ∷ xs) zero zero h = p
+set-keeps P v p (x ∷ xs) zero (suc i) h = h
+set-keeps P v p (x ∷ xs) (suc j) zero h = h
+set-keeps P v p (x ∷ xs) (suc j) (suc i) h = set-keeps P v p xs j i h
 
 module _ {X A : Type 0} (L : X → A → Type 0) where
   pub each-length : (xs : List X) (ys : List A) → Each L xs ys → length ys ≡ length xs

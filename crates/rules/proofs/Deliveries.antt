@@ -4,13 +4,13 @@ use mathlib.Core.List.{List, [], _∷_}
 use mathlib.Core.Bool.{true, not}
 use Prim.Native.Nat.{ℕ, _≤_}
 use native.Mathlib.Omega.{arith}
-use borrow.Author.Tests.{leb-true, ltb-false, le-ltb, not-false}
-use lib.Dec.{leb, ltb}
+use borrow.Author.Tests.{ltb-false, le-ltb, not-false}
+use lib.Dec.{ltb}
 use lib.ListN.{length, take, drop}
 use lib.Seq.{length-take-le, take-at}
 use Rattle.bits.specs.Bits.{Bytes}
-use Rattle.buffers.proofs.Tests.{and-fst, and-snd, cond-both}
-use Rattle.rules.specs.Layout.{legalLayout, Sizes, frameSize, spectrumLength, factorLength, sideLength}
+use Rattle.buffers.proofs.Tests.{cond-both}
+use Rattle.rules.specs.Layout.{legalLayout, Sizes, frameSize, spectrumLength, factorLength, sideLength, roomOf, Enough}
 use Rattle.rules.specs.Record.{Rec, Legal, recOf, legalRecord, storeFactors, storeSide, storeCodes}
 use Rattle.rules.specs.Fields.{fields}
 use Rattle.rules.specs.Frame.{payload, frameOf}
@@ -18,7 +18,7 @@ use Rattle.rules.specs.Reading.{Scanned, accepted, faulty, strict}
 use Rattle.rules.specs.Refusals.{delivered, refused}
 use Rattle.rules.specs.Stage.{laid, RecordLent, FrameLeft, writeRoom, lentRecord, written, FrameLent, RecordLeft, readRoom, readLeft, read}
 use Rattle.rules.specs.declared.Layout.{Layout}
-use Rattle.rules.proofs.Layouts.{legal-true, legal-sizes}
+use Rattle.rules.proofs.Layouts.{legal-true, legal-sizes, room-facts}
 use Rattle.rules.proofs.Demand3.{bytes-take, Framed, frame-length, strict-complete, strict-sound}
 use Rattle.rules.proofs.Stores.{stored, record-front, legal-front}
 use Rattle.rules.proofs.Legality.{record-legal, stored-legal, restored}
@@ -61,27 +61,10 @@ module _ (l : Layout) (t : RecordLent) where
   unfolding written
   writes-this w = rw (legal-true l (w .sizes), w .room, w .legal, le-ltb _ _ (w .fits))
 
--- the record's buffers have their stated lengths
-record Room (l : Layout) (t : RecordLent) : Type 0 where
-  factors : factorLength l ≤ length (t .factors)
-  side : sideLength l ≤ length (t .side)
-  codes : spectrumLength l ≤ length (t .codes)
-
-write-room : (l : Layout) (t : RecordLent) → writeRoom l t ≡ true → Room l t
-unfolding writeRoom
-write-room l t e₁ =
-    let e₂ = and-snd (leb (factorLength l) (length (t .factors))) _ e₁ in
-    let e₃ = and-snd (leb (sideLength l) (length (t .side))) _ e₂ in
-    record {
-      factors = leb-true _ _ (and-fst (leb (factorLength l) (length (t .factors))) _ e₁);
-      side = leb-true _ _ (and-fst (leb (sideLength l) (length (t .side))) _ e₂);
-      codes = leb-true _ _ (and-fst (leb (spectrumLength l) (length (t .codes))) _ e₃);
-    }
-
 -- its record is legal, the frame is the record's, and the buffers are what the record is stored as
 module _ (l : Layout) (t : RecordLent) (w : Writes l t) where
-  room : Room l t
-  room = write-room l t (w .room)
+  room : Enough l (roomOf (length (t .factors)) (length (t .side)) (length (t .codes)) (length (t .frame)))
+  room = room-facts l _ (w .room)
 
   pub writes-legal : Legal l (lentRecord l t)
   unfolding lentRecord
@@ -129,13 +112,12 @@ module _ (l : Layout) (u : FrameLent) where
         (λ b e. let (r, p, q, s) = scanned (strict l (take (frameSize l) (u .frame))) e in
         (r, p, q, record { sizes = legal-sizes l (not-false _ a); room = not-false _ b; scan = s })))
 
+  pub front-length : readRoom l u ≡ true → length (take (frameSize l) (u .frame)) ≡ frameSize l
+  front-length m = length-take-le _ _ (room-facts l _ m .frame)
+
   module _ (r : Rec) (n : ℕ) where
     pub framed-reads : legalLayout l ≡ true → readRoom l u ≡ true → Framed l r n (take (frameSize l) (u .frame)) → Reads l u r n
     framed-reads a m f = record { sizes = legal-sizes l a; room = m; scan = rw (f .bytes, f .ends) (strict-complete l r (f .legal) (f .fits)) }
-
-    front-length : readRoom l u ≡ true → length (take (frameSize l) (u .frame)) ≡ frameSize l
-    unfolding readRoom
-    front-length m = length-take-le _ _ (leb-true _ _ (and-fst (leb (frameSize l) (length (u .frame))) _ m))
 
     module _ (h : Reads l u r n) where
       pub reads-this : read l u ≡ record {

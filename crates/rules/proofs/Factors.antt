@@ -7,18 +7,19 @@ use mathlib.Core.Option.{Option, none, some}
 use Prim.Native.Nat.{ℕ, zero, suc, _+_, _-_, _^_, _≤_, _<_}
 use native.Mathlib.Omega.{arith}
 use lib.ListN.{replicate}
-use lib.Dec.{T, leb, ltb, eqb, eqb→eq, eqb-refl}
+use lib.Dec.{T, leb, eqb, eqb→eq, eqb-refl}
 use lib.Pow.{pow-pos}
 use lib.IntN.{natAbs}
 use borrow.Author.Tests.{le-leb}
 use Rattle.bits.specs.Bits.{bits}
 use Rattle.rules.specs.Format.{keep, check, stay, Each, times, number, Lawful}
-use Rattle.rules.specs.Width.{reachOf, near, allZero, cost, cheaper, width}
+use Rattle.rules.specs.Width.{reachOf, near, allZero, width}
 use Rattle.rules.specs.Fields.{deltaSymbol, deltaBits, factorBits, passed, allFactorBits}
 use Rattle.rules.specs.Reading.{deltaFactor, readDelta, readFactor, readFactors, readWidth}
 use Rattle.rules.proofs.Formats.{pure-fits, iff-fits, same-fits, here-fits, bind-fits, keep-fits, check-fits, walk-fits, walked-any}
 use Rattle.rules.proofs.Numbers.{bool-case, eqb-case, number-fits}
 use Rattle.rules.proofs.Prefix.{both}
+use Rattle.rules.proofs.Widths.{width-silent, width-le, width-zero}
 use Rattle.rules.proofs.Deltas.{near-is, near-yes, ones-are, symbol-is, within, factor-is, within-is, within-yes}
 
 module _ (e p : ℕ) where
@@ -100,29 +101,7 @@ factor-fits w (some p) =
     bool-case (λ b. Lawful (λ f. f < 64) (λ f. cond b (bits 6 f) (deltaBits (suc w) p f)) (cond b (number 6) (readDelta (suc w) p))) (eqb (suc w) 6)
     (λ _. number-fits 6) (λ _. delta-fits w p)
 
--- WHAT THE READER NEEDS TO KNOW OF THE WIDTH: it is at most 6, and 0 just where all factors are 0
-abbrev Real : ℕ → Type 0
-Real w = (1 ≤ w) × (w ≤ 6)
-
-cheaper-real : (fs : List ℕ) (b d : ℕ) → Real b → Real d → Real (cheaper fs b d)
-unfolding cheaper
-cheaper-real fs b d h g = bool-case (λ t. Real (cond t d b)) (ltb (cost fs d) (cost fs b)) (λ _. g) (λ _. h)
-
-width-real : (fs : List ℕ) → allZero fs ≡ false → Real (width fs)
-unfolding width
-width-real fs e =
-    rw e (cheaper-real fs _ 5 (cheaper-real fs _ 4 (cheaper-real fs _ 3 (cheaper-real fs _ 2 (cheaper-real fs 6 1 (omega arith) (omega arith)) (omega arith)) (omega arith)) (omega arith)) (omega arith))
-
-width-none : (fs : List ℕ) → allZero fs ≡ true → width fs ≡ 0
-unfolding width
-width-none fs e = rw e refl
-
-width-le : (fs : List ℕ) → width fs ≤ 6
-width-le fs = bool-case (λ b. allZero fs ≡ b → width fs ≤ 6) (allZero fs) (λ _ e. rw (width-none fs e) (omega arith)) (λ _ e. width-real fs e .1) refl
-
-width-zero : (fs : List ℕ) → width fs ≡ 0 → allZero fs ≡ true
-width-zero fs h = bool-case (λ b. allZero fs ≡ b → b ≡ true) (allZero fs) (λ _ e. refl) (λ _ e. absurd (omega (arith, width-real fs e))) refl
-
+-- a channel's factors, and its width before them
 abbrev Small : ℕ → List ℕ → Type 0
 Small n fs = Each (λ _ f. f < 64) (times n) fs
 
@@ -169,7 +148,7 @@ at-is (suc w) n fs = (
 
 width-at-once : (n : ℕ) (fs : List ℕ) → Small n fs → T (leb 1 n || eqb (width fs) 0)
 unfolding allZero
-width-at-once zero [] h = rw (width-none [] refl) tt
+width-at-once zero [] h = rw (width-silent [] refl .0) tt
 width-at-once zero (f ∷ fs) h = absurd h
 width-at-once (suc n) fs h = rw (le-leb 1 (suc n) (omega arith)) tt
 

@@ -7,8 +7,9 @@ use native.Mathlib.Omega.{arith}
 use borrow.Author.Tests.{le-leb, leb-true, eqb-false, ne-eqb}
 use lib.Dec.{leb, eqb}
 use Rattle.buffers.proofs.Tests.{and-fst, and-snd, not-true-false, cond-bound}
-use Rattle.rules.specs.Layout.{legalLayout, Sizes, frameSize, kindAt, isSecondary, startBand, hfrBands, ceilDiv, bandsPerGroup, groupCount, codedAt, sidesAt}
+use Rattle.rules.specs.Layout.{legalLayout, Sizes, frameSize, kindAt, isSecondary, startBand, hfrBands, ceilDiv, bandsPerGroup, groupCount, codedAt, sidesAt, spectrumLength, factorLength, sideLength, hasRoom, Enough}
 use Rattle.rules.specs.declared.Layout.{Layout}
+use Rattle.rules.specs.declared.Room.{Room}
 
 pub legal-true : (l : Layout) → Sizes l → legalLayout l ≡ true
 unfolding legalLayout
@@ -43,6 +44,27 @@ legal-sizes l e₁ =
 
 pub legal-false : (l : Layout) → (Sizes l → ⊥) → legalLayout l ≡ false
 legal-false l h = not-true-false (legalLayout l) (λ e. h (legal-sizes l e))
+
+-- room for a record and its frame
+module _ (l : Layout) (r : Room) where
+  pub room-true : Enough l r → hasRoom l r ≡ true
+  unfolding hasRoom
+  room-true h = rw (le-leb _ _ (h .factors), le-leb _ _ (h .side), le-leb _ _ (h .codes), le-leb _ _ (h .frame))
+
+  pub room-facts : hasRoom l r ≡ true → Enough l r
+  unfolding hasRoom
+  room-facts e₁ =
+      let e₂ = and-snd (leb (factorLength l) (r .factors)) _ e₁ in
+      let e₃ = and-snd (leb (sideLength l) (r .side)) _ e₂ in
+      record {
+        factors = leb-true _ _ (and-fst (leb (factorLength l) (r .factors)) _ e₁);
+        side = leb-true _ _ (and-fst (leb (sideLength l) (r .side)) _ e₂);
+        codes = leb-true _ _ (and-fst (leb (spectrumLength l) (r .codes)) _ e₃);
+        frame = leb-true _ _ (and-snd (leb (spectrumLength l) (r .codes)) _ e₃);
+      }
+
+  pub room-false : (Enough l r → ⊥) → hasRoom l r ≡ false
+  room-false h = not-true-false (hasRoom l r) (λ e. h (room-facts e))
 
 -- a coded count is at most N
 pub coded-le : (l : Layout) (c : ℕ) → codedAt l c ≤ startBand l

@@ -1,6 +1,7 @@
 -- laws that code and theorems cite
 pub mod Layouts
 pub mod Cuts
+pub mod Signs
 pub mod Levels
 pub mod Boundaries
 pub mod Searches
@@ -8,6 +9,7 @@ pub mod Widths
 -- demand 3 on bits and bytes
 pub mod Formats
 pub mod Numbers
+pub mod Turns
 pub mod Prefix
 pub mod Codes
 pub mod Deltas

@@ -13,7 +13,7 @@ use lib.Seq.{getD-take, getD-drop}
 use Rattle.buffers.specs.Walk.{firstFrom, first, build, blocks}
 use Rattle.buffers.proofs.Build.{length-build, build-at}
 use Rattle.buffers.proofs.Blocks.{length-blocks}
-use Rattle.buffers.proofs.Tests.{cond-both}
+use Rattle.buffers.proofs.Tests.{cond-both, cond-bound}
 use Rattle.rules.specs.Tables.{scalingTable}
 use Rattle.rules.specs.Layout.{Sizes, startBand, kindAt, isSecondary, secondaryAt, groupCount, codedAt, sideWidth, sidesAt, spectrumLength, factorLength, sideLength, part}
 use Rattle.rules.specs.Factor.{countLe, factorOf, peakOf, bandFactor, channelFactors, allFactors}
@@ -26,7 +26,7 @@ use Rattle.rules.specs.Record.{legalRecord, CodesInRange}
 use Rattle.rules.specs.Stage.{badIntensity, made}
 use Rattle.rules.specs.declared.Layout.{Layout}
 use Rattle.rules.proofs.Layouts.{sides-le}
-use Rattle.rules.proofs.Cuts.{by-order, length-part, part-of-front, block-part}
+use Rattle.rules.proofs.Cuts.{by-order, length-part, part-of-front, block-part, set-keeps}
 use Rattle.rules.proofs.Stores.{coded-few}
 use Rattle.rules.proofs.Legality.{Held, Blank, held-record, row-code}
 use Rattle.rules.proofs.Boundaries.{boundary-of-le}
@@ -61,36 +61,36 @@ factors-of l g size h o = record {
   blank = λ c i k q p. rw (block-part g 128 (l .channels) c size k) (o c i k q p);
 }
 
+pub factors-size : (xs : List Float) (coded : ℕ) → length (channelFactors xs coded) ≡ 128
+unfolding channelFactors
+factors-size xs coded = length-build _ 128
+
+pub band-held : (xs : List Float) (coded b : ℕ) → bandFactor xs coded b ≤ 63
+unfolding bandFactor
+band-held xs coded b = cond-bound (ltb b coded) (λ _. factor-le (peakOf xs b)) (λ _. omega arith)
+
 module _ (xs : List Float) (coded i : ℕ) (h : i < 128) where
   channel-factor : getD (channelFactors xs coded) i 0 ≡ bandFactor xs coded i
   unfolding channelFactors
   channel-factor = build-at (bandFactor xs coded) 128 i 0 h
 
   channel-held : getD (channelFactors xs coded) i 0 ≤ 63
-  unfolding bandFactor
-  channel-held = rw channel-factor (cond-both (λ n. n ≤ 63) (ltb i coded) (λ _. factor-le (peakOf xs i)) (λ _. omega arith))
+  channel-held = rw channel-factor (band-held xs coded i)
 
   channel-blank : coded ≤ i → getD (channelFactors xs coded) i 0 ≡ 0
   unfolding bandFactor
   channel-blank k = channel-factor ∙ rw (le-ltb i coded k)
 
 all-factors : (l : Layout) (spectra : List Float) → Factors l (allFactors l spectra)
-unfolding allFactors channelFactors
+unfolding allFactors
 all-factors l spectra =
-    factors-of l (λ c. channelFactors (part 1024 spectra c) (codedAt l c)) (λ c _. length-build _ 128)
+    factors-of l (λ c. channelFactors (part 1024 spectra c) (codedAt l c)) (λ c _. factors-size _ _)
     (λ c i _ h. channel-held (part 1024 spectra c) (codedAt l c) i h) (λ c i _ h k. channel-blank (part 1024 spectra c) (codedAt l c) i h k)
 
 -- clearing keeps what 0 has
-set-keeps : (P : ℕ → Type 0) → P 0 → (xs : List ℕ) (j i : ℕ) → P (getD xs i 0) → P (getD (set xs j 0) i 0)
-set-keeps P o [] j i h = h
-set-keeps P o (x ∷ xs) zero zero h = o
-set-keeps P o (x ∷ xs) zero (suc i) h = h
-set-keeps P o (x ∷ xs) (suc j) zero h = h
-set-keeps P o (x ∷ xs) (suc j) (suc i) h = set-keeps P o xs j i h
-
 clear-keeps : (P : ℕ → Type 0) → P 0 → (xs : List ℕ) (b i : ℕ) → P (getD xs i 0) → P (getD (clearTwo xs b) i 0)
 unfolding clearTwo
-clear-keeps P o xs b i h = set-keeps P o (set xs b 0) (b + 1) i (set-keeps P o xs b i h)
+clear-keeps P o xs b i h = set-keeps P 0 o (set xs b 0) (b + 1) i (set-keeps P 0 o xs b i h)
 
 length-clear : (xs : List ℕ) (b : ℕ) → length (clearTwo xs b) ≡ length xs
 unfolding clearTwo
@@ -153,22 +153,22 @@ side-blank : (t : Bool) (v w j g : ℕ) → j < 8 → cond t 8 g ≤ j → cond 
 side-blank true v w j g h k = absurd (omega arith)
 side-blank false v w j g h k = rw (le-ltb j g k)
 
+pub side-size : (l : Layout) (c : ℕ) (xs sc : List Float) (is : List ℕ) → length (channelSide l c xs sc is) ≡ 8
+unfolding channelSide
+side-size l c xs sc is = length-build _ 8
+
 module _ (l : Layout) (spectra scaled : List Float) (is : List ℕ) where
   abbrev sideIn : ℕ → List ℕ
   sideIn c = channelSide l c (part 1024 spectra c) (part 1024 scaled c) (part 8 is c)
 
-  side-size : (c : ℕ) → c < l .channels → length (sideIn c) ≡ 8
-  unfolding channelSide
-  side-size c _ = length-build _ 8
-
   side-long : length (allSide l spectra scaled is) ≡ sideLength l
   unfolding allSide
-  side-long = length-blocks sideIn 8 (l .channels) side-size (l .channels) (omega arith)
+  side-long = length-blocks sideIn 8 (l .channels) (λ c _. side-size l c _ _ _) (l .channels) (omega arith)
 
   side-at : (c j : ℕ) → c < l .channels → j < 8 → getD (part 8 (allSide l spectra scaled is) c) j 0
       ≡ cond (secondaryAt l c) (getD (part 8 is c) j 0) (cond (ltb j (groupCount l)) (hfrScale l (part 1024 spectra c) (part 1024 scaled c) j) 0)
   unfolding allSide channelSide
-  side-at c j h g = rw (block-part sideIn 8 (l .channels) c side-size h) (build-at _ 8 j 0 g)
+  side-at c j h g = rw (block-part sideIn 8 (l .channels) c (λ i _. side-size l i (part 1024 spectra i) (part 1024 scaled i) (part 8 is i)) h) (build-at _ 8 j 0 g)
 
   side-below : Intensities l is → (c j : ℕ) → c < l .channels → j < sidesAt l c → getD (part 8 (allSide l spectra scaled is) c) j 0 < 2 ^ sideWidth (kindAt l c)
   unfolding secondaryAt hfrScale
@@ -214,7 +214,7 @@ module _ (l : Layout) (level boundary : ℕ) (scaled : List Float) (F : List ℕ
   unfolding codeAt
   codes-zero c s b h g q k = code-at c s b h g k ∙ rw (le-ltb b (codedAt l c) q)
 
-scaled-size : (xs : List Float) (fs : List ℕ) (coded : ℕ) → length (channelScaled xs fs coded) ≡ 1024
+pub scaled-size : (xs : List Float) (fs : List ℕ) (coded : ℕ) → length (channelScaled xs fs coded) ≡ 1024
 unfolding channelScaled scaledBand
 scaled-size xs fs coded = length-blocks (scaledBand xs fs coded) 8 128 (λ b _. length-build _ 8) 128 (omega arith)
 

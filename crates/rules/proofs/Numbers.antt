@@ -1,16 +1,20 @@
 -- Tests by cases, and the laws of a number in k bits. Assumes nothing.
 use mathlib.Core.Path.{_≡_, refl, sym, _∙_, ap, subst}
-use mathlib.Core.List.{_++_}
+use mathlib.Core.List.{List, _++_}
 use mathlib.Core.Logic.{_≢_}
 use mathlib.Core.Bool.{Bool, true, false, cond}
-use Prim.Native.Nat.{ℕ, _^_, _≤_, _<_}
+use Prim.Native.Nat.{ℕ, _*_, _^_, _≤_, _<_}
 use native.Mathlib.Omega.{arith}
-use borrow.Author.Tests.{le-leb}
+use borrow.Author.Tests.{le-leb, lt-leb}
 use lib.ListN.{length, take, drop, length-append, take-append-drop}
 use lib.Seq.{take-at, drop-at, length-take-le}
 use lib.Dec.{T, leb, eqb, leb→le, nleb→lt, eqb→eq, eqb-refl}
 use Rattle.bits.specs.Bits.{bits, value}
+use Rattle.bits.specs.Place.{leftAt, fieldAt}
+use Rattle.bits.specs.declared.Place.{Place}
+use Rattle.bits.specs.declared.Field.the-variants.{Of, Past}
 use Rattle.bits.proofs.Numbers.{length-bits, value-back, value-lt, bits-value}
+use Rattle.bits.proofs.Fields.{length-left, got, past}
 use Rattle.rules.specs.Format.{ok, bad, number, Lawful}
 use Rattle.rules.proofs.Formats.{bad≢ok}
 
@@ -41,3 +45,12 @@ number-fits k = record {
       (subst (λ m. a < 2 ^ m) n (rw a-is at (value-lt (take k s))), sym (rw (← a-is, ← t-is, b-is) (take-append-drop k s))))
       (λ l e. absurd (bad≢ok e));
 }
+
+-- what a field read at a place of bytes says of the number there
+module _ (s : List ℕ) (p n : ℕ) where
+  pub number-got : {v : ℕ} {q : Place} → fieldAt s p n ≡ Of v q → number n (leftAt s p) ≡ ok v (leftAt s (q .at))
+  number-got {v} {q} e = let g = got s p n e in ap (number n) (g .stands) ∙ number-fits n .there v (leftAt s (q .at)) (g .small)
+
+  pub number-past : {b : ℕ} → p ≤ 8 * length s → fieldAt s p n ≡ Past b → number n (leftAt s p) ≡ bad 13 (length (leftAt s p))
+  unfolding number
+  number-past h e = let z : leb n (length (leftAt s p)) ≡ false = lt-leb n (length (leftAt s p)) (omega (arith, length-left s p, past s p n e .1)) in rw z

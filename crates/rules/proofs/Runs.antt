@@ -11,7 +11,7 @@ use lib.Dec.{ltb, eqb}
 use lib.IntN.{ℤ}
 use lib.Ieee.{Float, nan}
 use lib.Ieee.Scale.{finite}
-use lib.ListN.{length, getD, take, replicate, length-replicate}
+use lib.ListN.{length, getD, take, length-replicate}
 use lib.Seq.{take-all}
 use Rattle.buffers.specs.Walk.{firstFrom}
 use Rattle.buffers.proofs.Tests.{and-fst, and-snd}
@@ -28,6 +28,7 @@ use Rattle.rules.specs.Frame.{payload, frameOf}
 use Rattle.rules.specs.Refusals.{delivered, refused}
 use Rattle.rules.specs.Stage.{Lent, Made, noFloats, noCodes, noFactors, noSide, noFrame, laid, cleared, stageRoom, badIntensity, badSpectrum, foundOf, boundaryFor, made, madeRecord, finished, settled, stage}
 use Rattle.rules.specs.declared.Layout.{Layout}
+use Rattle.rules.proofs.Cuts.{getD-copies}
 
 -- ---- the searches, branch by branch
 
@@ -192,11 +193,6 @@ worked e =
 abbrev pub Right : Example → Type 0
 Right e = worked e ≡ stated e
 
-zero-at : (n i : ℕ) → _≡_ {A = ℕ} (getD (replicate n 0) i 0) 0
-zero-at zero i = refl
-zero-at (suc n) zero = refl
-zero-at (suc n) (suc i) = zero-at n i
-
 -- what the stage leaves, from what the rules make
 module _ (e : Example) (r : Right e) where
   pub run-made : made (e .layout) (e .spectra) (noSide (e .layout)) ≡ e .made
@@ -209,7 +205,7 @@ module _ (e : Example) (r : Right e) where
   run : stage (e .layout) (lent (e .layout) (e .spectra)) ≡ settled (e .layout) (lent (e .layout) (e .spectra)) (e .made)
   run =
       let exact : length (e .spectra) ≡ spectrumLength (e .layout) = ap (λ w. w .size) r in
-      stage-made (e .layout) (lent (e .layout) (e .spectra)) (ap (λ w. w .legal) r) (ap (λ w. w .room) r) exact (ap (λ w. w .whole) r) (λ i. omega (arith, zero-at (sideLength (e .layout)) i))
+      stage-made (e .layout) (lent (e .layout) (e .spectra)) (ap (λ w. w .legal) r) (ap (λ w. w .room) r) exact (ap (λ w. w .whole) r) (λ i. omega (arith, getD-copies {A = ℕ} 0 (sideLength (e .layout)) i))
       ∙ ap (settled (e .layout) (lent (e .layout) (e .spectra)))
       (rw (
         take-all (spectrumLength (e .layout)) (e .spectra) (omega arith),

@@ -11,7 +11,7 @@ use lib.IntN.{ℤ}
 use lib.Ieee.{Float}
 use lib.ListN.{length, take, drop, length-append}
 use Rattle.buffers.proofs.Tests.{and-true}
-use Rattle.rules.specs.Layout.{Sizes, frameSize, spectrumLength, factorLength, sideLength, part}
+use Rattle.rules.specs.Layout.{Sizes, frameSize, spectrumLength, factorLength, sideLength, hasRoom, part}
 use Rattle.rules.specs.Record.{Rec, recOf, legalRecord, CodesInRange}
 use Rattle.rules.specs.Frame.{payload, frameOf}
 use Rattle.rules.specs.Refusals.{delivered}
@@ -120,7 +120,7 @@ module _ (l : Layout) (t : Lent) (level boundary pairs n : ℕ) (e : stage l t .
   lent = record { level = level; boundary = boundary; factors = stage l t .factors; side = stage l t .side; codes = stage l t .codes; frame = stage l t .frame }
 
   lent-room : writeRoom l lent ≡ true
-  unfolding writeRoom finished
+  unfolding hasRoom finished
   lent-room =
       rw (done .left)
       (and-true (laid-room _ (madeBy l t .found .factors) (t .factors) factors-size)

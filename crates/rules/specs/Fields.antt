@@ -2,7 +2,7 @@
 use mathlib.Core.List.{List, [], _++_}
 use mathlib.Core.Bool.{Bool, cond}
 use mathlib.Core.Option.{Option, none, some}
-use Prim.Native.Nat.{ℕ, zero, suc, _+_, _-_, _^_}
+use Prim.Native.Nat.{ℕ, zero, suc, _-_, _^_}
 use lib.Dec.{eqb, ltb}
 use lib.IntN.{ℤ, pos, negsuc, _+ℤ_, natAbs}
 use lib.ListN.{getD}
@@ -31,6 +31,11 @@ factorBits w (some previous) factor = cond (eqb w 6) (bits 6 factor) (deltaBits 
 -- the factor just passed is the next one's previous
 abbrev pub passed : Option ℕ → ℕ → Option ℕ
 passed previous factor = some factor
+
+-- what stands before factor i: none before the first
+abbrev pub before : ℕ → ℕ → Option ℕ
+before zero previous = none
+before (suc i) previous = some previous
 
 -- width 0: none
 abbrev pub allFactorBits : ℕ → ℕ → List ℕ → List Bool

@@ -8,6 +8,7 @@ use Rattle.buffers.specs.Walk.{build}
 use Rattle.rules.specs.declared.ChannelType.{ChannelType}
 use Rattle.rules.specs.declared.ChannelType.the-variants.{Discrete, StereoPrimary, StereoSecondary}
 use Rattle.rules.specs.declared.Layout.{Layout}
+use Rattle.rules.specs.declared.Room.{Room}
 
 -- the frame's size F
 abbrev pub frameSize : Layout → ℕ
@@ -88,6 +89,20 @@ factorLength l = l .channels * 128
 
 abbrev pub sideLength : Layout → ℕ
 sideLength l = l .channels * 8
+
+-- whether the buffers of a record and of its frame are long enough
+abbrev pub roomOf : ℕ → ℕ → ℕ → ℕ → Room
+roomOf factors side codes frame = record { factors = factors; side = side; codes = codes; frame = frame }
+
+unfoldable pub hasRoom : Layout → Room → Bool
+hasRoom l r = leb (factorLength l) (r .factors) && (leb (sideLength l) (r .side) && (leb (spectrumLength l) (r .codes) && leb (frameSize l) (r .frame)))
+
+-- the same as facts
+pub record Enough (l : Layout) (r : Room) : Type 0 where
+  pub factors : factorLength l ≤ r .factors
+  pub side : sideLength l ≤ r .side
+  pub codes : spectrumLength l ≤ r .codes
+  pub frame : frameSize l ≤ r .frame
 
 -- channel c's part of a buffer with n values a channel
 abbrev pub part : {A : Type 0} → ℕ → List A → ℕ → List A

@@ -54,8 +54,16 @@ pub record Legal (l : Layout) (r : Rec) : Type 0 where
   pub codes : Each (λ _. Each (Each LegalCode) (resolutions (r .level) (r .boundary) (r .chans))) (times 8) (r .codes)
 
 -- THE RECORD THAT LIES IN BUFFERS of document 01's lengths: factors C x 128, side C x 8, codes C x 1,024 by channel, subframe, band
+-- channel c, of its own 128 factors and 8 side values, and of all channels'
+abbrev pub chanIn : Layout → ℕ → List ℕ → List ℕ → Chan
+chanIn l c fs ss = record { factors = take (codedAt l c) fs; side = take (sidesAt l c) ss }
+
 abbrev pub chanOf : Layout → List ℕ → List ℕ → ℕ → Chan
-chanOf l factors side c = record { factors = take (codedAt l c) (part 128 factors c); side = take (sidesAt l c) (part 8 side c) }
+chanOf l factors side c = chanIn l c (part 128 factors c) (part 8 side c)
+
+-- the resolutions of its coded bands, of all channels' C x 128; and its codes in subframe s
+abbrev pub resolutionsIn : Layout → List ℕ → ℕ → List ℕ
+resolutionsIn l rs c = take (codedAt l c) (part 128 rs c)
 
 abbrev pub codesIn : Layout → List ℤ → ℕ → ℕ → List ℤ
 codesIn l codes s c = take (codedAt l c) (part 128 (part 1024 codes c) s)

@@ -1,7 +1,7 @@
 -- Document 01, **Resolution**.
 use mathlib.Core.List.{List}
 use mathlib.Core.Bool.{cond}
-use Prim.Native.Nat.{ℕ, _+_, _-_, _*_, _/_, min, max}
+use Prim.Native.Nat.{ℕ, _-_, _*_, _/_, min, max}
 use lib.Dec.{eqb, ltb}
 use lib.IntN.{ℤ, pos, _+ℤ_, _-ℤ_, natAbs}
 use lib.ListN.{length, getD}

@@ -2,7 +2,7 @@
 -- `left ≡ stage layout lent` allows one outcome only.
 use mathlib.Core.List.{List, [], _∷_, _++_}
 use mathlib.Core.Bool.{Bool, cond, not, _&&_}
-use Prim.Native.Nat.{ℕ, _+_, _/_}
+use Prim.Native.Nat.{ℕ, _/_}
 use lib.Dec.{leb, ltb}
 use lib.IntN.{ℤ, pos}
 use lib.Ieee.{Float, nan}
@@ -10,7 +10,7 @@ use lib.Ieee.Scale.{finite}
 use lib.ListN.{length, getD, take, drop, replicate}
 use Rattle.buffers.specs.Walk.{first}
 use Rattle.floats.specs.Single.{zeroF}
-use Rattle.rules.specs.Layout.{legalLayout, frameSize, secondaryAt, spectrumLength, factorLength, sideLength}
+use Rattle.rules.specs.Layout.{legalLayout, frameSize, secondaryAt, spectrumLength, factorLength, sideLength, roomOf, hasRoom}
 use Rattle.rules.specs.Factor.{allFactors}
 use Rattle.rules.specs.Scaling.{allScaled}
 use Rattle.rules.specs.Hfr.{allSide}
@@ -207,10 +207,8 @@ recordLent level boundary factors side codes frame = record {
 abbrev pub frameLeft : WriteAnswer → List ℕ → FrameLeft
 frameLeft answer frame = record { outcome = writeNumber answer; frame = frame }
 
-unfoldable pub writeRoom : Layout → RecordLent → Bool
-writeRoom l t =
-    leb (factorLength l) (length (t .factors)) && (leb (sideLength l) (length (t .side)) && (leb (spectrumLength l) (length (t .codes))
-    && leb (frameSize l) (length (t .frame))))
+abbrev pub writeRoom : Layout → RecordLent → Bool
+writeRoom l t = hasRoom l (roomOf (length (t .factors)) (length (t .side)) (length (t .codes)) (length (t .frame)))
 
 unfoldable pub lentRecord : Layout → RecordLent → Rec
 lentRecord l t = recOf l (t .level) (t .boundary) (t .factors) (t .side) (t .codes)
@@ -244,10 +242,8 @@ frameLent frame factors side codes = record { frame = frame; factors = factors; 
 abbrev pub recordLeft : ReadAnswer → List ℕ → List ℕ → List ℤ → RecordLeft
 recordLeft answer factors side codes = record { outcome = readNumber answer; factors = factors; side = side; codes = codes }
 
-unfoldable pub readRoom : Layout → FrameLent → Bool
-readRoom l t =
-    leb (frameSize l) (length (t .frame)) && (leb (factorLength l) (length (t .factors)) && (leb (sideLength l) (length (t .side))
-    && leb (spectrumLength l) (length (t .codes))))
+abbrev pub readRoom : Layout → FrameLent → Bool
+readRoom l t = hasRoom l (roomOf (length (t .factors)) (length (t .side)) (length (t .codes)) (length (t .frame)))
 
 abbrev pub untouched : FrameLent → Outcome → RecordLeft
 untouched t o = record { outcome = o; factors = t .factors; side = t .side; codes = t .codes }

@@ -1,9 +1,8 @@
 // Document 01 as types and definitions: what every crate above works on, and what a reader must believe.
 ghost use mathlib.Core.Path.{_≡_};
-ghost use mathlib.Core.Bool.{Bool, true, false};
+ghost use mathlib.Core.Bool.{true, false};
 ghost use Prim.Native.Nat.{_+_, _-_, _≤_, _<_};
-ghost use lib.ListN.{length};
-ghost use Rattle.rules.specs.Layout.{legalLayout, Sizes, secondaryAt, codedAt, startBand, bandsPerGroup, groupCount, sidesAt};
+ghost use Rattle.rules.specs.Layout.{legalLayout, Sizes, secondaryAt, codedAt, startBand, bandsPerGroup, groupCount, kindAt, sidesAt, sideWidth, hasRoom};
 
 pub enum ChannelType {
     Discrete,
@@ -23,6 +22,14 @@ pub struct Layout {
     pub stereo: usize,
     pub total: usize,
     pub frame_size: usize,
+}
+
+// The lengths of the lent buffers of a record and of its frame.
+pub struct Room {
+    pub factors: usize,
+    pub side: usize,
+    pub codes: usize,
+    pub frame: usize,
 }
 
 // What the stage answers: level, boundary, pairs removed and bits written, or a refusal with the number beside it.
@@ -109,6 +116,26 @@ pub fn is_secondary(layout: Layout, channel: usize) -> bool
     }
 }
 
+// Is each buffer as long as document 01 asks?
+pub fn has_room(layout: Layout, room: Room) -> bool
+    requires { ⌜ Sizes layout ⌝ }
+    ensures { λ r. ⌜ r ≡ hasRoom layout room ⌝ }
+{
+    if room.factors < layout.channels * 128 {
+        return false;
+    }
+    if room.side < layout.channels * 8 {
+        return false;
+    }
+    if room.codes < layout.channels * 1024 {
+        return false;
+    }
+    if room.frame < layout.frame_size {
+        return false;
+    }
+    true
+}
+
 // Start N.
 pub fn start(layout: Layout) -> usize
     requires { ⌜ Sizes layout ⌝ }
@@ -160,4 +187,12 @@ pub fn side_count(layout: Layout, channel: usize) -> usize
     } else {
         groups(layout)
     }
+}
+
+// The bits of a side value: an intensity has 4, an HFR scale 6.
+pub fn side_width(layout: Layout, channel: usize) -> u32
+    requires { ⌜ channel < 16 ⌝ }
+    ensures { λ r. ⌜ (r ≡ sideWidth (kindAt layout channel)) × (r ≤ 6) ⌝ }
+{
+    if is_secondary(layout, channel) { 4 } else { 6 }
 }

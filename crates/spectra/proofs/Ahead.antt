@@ -27,7 +27,8 @@ use Rattle.rules.proofs.Formats.{ahead-yes, ahead-no}
 use Rattle.rules.proofs.Numbers.{leb-case}
 use Rattle.rules.proofs.Prefix.{taken, oneOf-full}
 use Rattle.rules.proofs.Codes.{tables-full, word-fits}
-use Rattle.spectra.specs.Seen.{wordBits, codeIn, codeSeen, lengthSeen, placeSeen, entryOf, IsRow}
+use Rattle.quantizer.specs.Packed.{entryOf}
+use Rattle.spectra.specs.Seen.{wordBits, codeIn, codeSeen, lengthSeen, placeSeen, IsRow}
 
 -- ---- MAX_BIT_TABLE, from resolution 1 up; at most 4 below resolution 8
 

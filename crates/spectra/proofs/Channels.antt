@@ -1,24 +1,25 @@
 -- The loop over the channels of a subframe: what it keeps from turn to turn. Assumes nothing.
 use mathlib.Core.Path.{_≡_, refl, sym, _∙_, ap, ap₂, subst}
 use mathlib.Core.List.{List, [], _∷_, _++_}
-use Prim.Native.Nat.{ℕ, _+_, _-_, _*_, _≤_, _<_}
+use Prim.Native.Nat.{ℕ, _+_, _*_, _≤_, _<_}
 use native.Mathlib.Omega.{arith}
 use lib.IntN.{ℤ}
 use lib.ListN.{length, getD, take, drop}
+use Rattle.bits.specs.Place.{leftAt}
 use Rattle.bits.specs.declared.Place.{Place}
 use Rattle.buffers.specs.Walk.{build}
 use Rattle.buffers.proofs.Build.{build-none, build-more, length-build, build-at}
 use Rattle.rules.specs.Format.{ok, each}
-use Rattle.rules.specs.Layout.{codedAt, part, spectrumLength}
+use Rattle.rules.specs.Layout.{codedAt, spectrumLength}
+use Rattle.rules.specs.Record.{resolutionsIn}
 use Rattle.rules.specs.Reading.{readCode}
 use Rattle.rules.specs.declared.Layout.{Layout}
-use Rattle.rules.proofs.Cuts.{by-order, build-same}
-use Rattle.spectra.specs.Told.{leftAt, Blank, Stored}
+use Rattle.rules.proofs.Cuts.{by-order, build-same, renewed, renewed-length, row-new, row-old}
+use Rattle.rules.proofs.Turns.{onto, onto-none, each-turn, each-stop, each-end}
+use Rattle.spectra.specs.Told.{Blank, Stored}
 use Rattle.spectra.specs.Rows.{codedRows, readSubframe, rowOf, Subframe}
 use Rattle.spectra.specs.declared.Step.{Step}
 use Rattle.spectra.specs.declared.Step.the-variants as step
-use Rattle.spectra.proofs.Padding.{renewed, renewed-length, row-new, row-old}
-use Rattle.spectra.proofs.Turns.{onto, onto-none, each-turn, each-stop, each-end}
 
 -- the rows of the first n channels
 abbrev upTo : Layout → ℕ → List ℤ → ℕ → List (List ℤ)
@@ -36,7 +37,7 @@ length-coded : (l : Layout) (rs : List ℕ) → length (codedRows l rs) ≡ l .c
 unfolding codedRows
 length-coded l rs = length-build _ (l .channels)
 
-coded-at : (l : Layout) (rs : List ℕ) (c : ℕ) → c < l .channels → getD (codedRows l rs) c [] ≡ take (codedAt l c) (part 128 rs c)
+coded-at : (l : Layout) (rs : List ℕ) (c : ℕ) → c < l .channels → getD (codedRows l rs) c [] ≡ resolutionsIn l rs c
 unfolding codedRows
 coded-at l rs c h = build-at _ (l .channels) c [] h
 
@@ -66,7 +67,7 @@ module _ (l : Layout) (s : ℕ) (frame rs : List ℕ) (codes₀ : List ℤ) (at�
 
     module _ (h : n < l .channels) where
       abbrev pub Row : List ℤ → Step → Type 0
-      Row ys r = Stored frame (each readCode (take (codedAt l n) (part 128 rs n)) (leftAt frame at)) (codedAt l n) ys r
+      Row ys r = Stored frame (each readCode (resolutionsIn l rs n) (leftAt frame at)) (codedAt l n) ys r
 
       -- a row that is cut
       pub upto-stop : (ys after : List ℤ) (b : ℕ) → Row ys (step.Past b) → Subframe l frame (readSubframe l rs (leftAt frame at₀)) s codes₀ after (step.Past b)
@@ -83,13 +84,13 @@ module _ (l : Layout) (s : ℕ) (frame rs : List ℕ) (codes₀ : List ℤ) (at�
         fits = omega (arith, w .same)
 
         abbrev pub next : List ℤ
-        next = renewed (n * 8 + s) codes ys
+        next = renewed 128 (n * 8 + s) codes ys
 
         new : rowOf next n s ≡ ys
-        new = row-new (n * 8 + s) codes ys fits e
+        new = row-new 128 (n * 8 + s) codes ys fits e
 
         old : (c u : ℕ) → (c * 8 + u ≡ n * 8 + s → ⊥) → rowOf next c u ≡ rowOf codes c u
-        old c u = row-old (n * 8 + s) codes ys fits e (c * 8 + u)
+        old c u = row-old 128 (n * 8 + s) codes ys fits e (c * 8 + u)
 
         done : upTo l s next (n + 1) ≡ upTo l s codes n ++ (take (codedAt l n) ys ∷ [])
         done =
@@ -102,7 +103,7 @@ module _ (l : Layout) (s : ℕ) (frame rs : List ℕ) (codes₀ : List ℤ) (at�
         upto-more = record {
           below = omega arith;
           within = t .within;
-          same = renewed-length (n * 8 + s) codes ys fits e ∙ w .same;
+          same = renewed-length 128 (n * 8 + s) codes ys fits e ∙ w .same;
           is = w .is
               ∙ each-turn (each readCode) (codedRows l rs) [] (upTo l s codes n) n (leftAt frame at) (take (codedAt l n) ys) (leftAt frame (q .at)) (omega (arith, length-coded l rs)) (rw (coded-at l rs n h) (t .is))
               ∙ ap (λ d. onto d (each (each readCode) (drop (n + 1) (codedRows l rs)) (leftAt frame (q .at)))) (sym done);

@@ -5,7 +5,7 @@ use Prim.Native.Nat.{ℕ, _+_, _*_, _≤_, _<_}
 use native.Mathlib.Omega.{arith}
 use lib.IntN.{ℤ, pos}
 use lib.ListN.{length, take, drop}
-use lib.Seq.{drop-drop}
+use Rattle.bits.specs.Place.{leftAt}
 use Rattle.bits.specs.declared.Place.{Place}
 use Rattle.buffers.specs.Walk.{build, blocks}
 use Rattle.buffers.proofs.Build.{build-none, build-more}
@@ -13,11 +13,11 @@ use Rattle.rules.specs.Format.{ok, each, times}
 use Rattle.rules.specs.Layout.{codedAt, part, spectrumLength}
 use Rattle.rules.specs.Record.{codesIn, pad}
 use Rattle.rules.specs.declared.Layout.{Layout}
-use Rattle.rules.proofs.Cuts.{by-order, build-same, blocks-same, part-of-front, length-part, parts-all}
-use Rattle.spectra.specs.Told.{leftAt, Blank}
+use Rattle.rules.proofs.Cuts.{by-order, build-same, blocks-same, length-part, parts-all, subframe-cut}
+use Rattle.rules.proofs.Turns.{onto, onto-none, each-turn, each-stop, each-end}
+use Rattle.spectra.specs.Told.{Blank}
 use Rattle.spectra.specs.Rows.{readSubframe, readSubframes, rowOf, subframeIn, Subframe, Subframes}
 use Rattle.spectra.specs.declared.Step.the-variants as step
-use Rattle.spectra.proofs.Turns.{onto, onto-none, each-turn, each-stop, each-end}
 
 times-long : length (times 8) ≡ 8
 times-long = refl
@@ -26,7 +26,7 @@ times-long = refl
 row-in : (codes : List ℤ) (c s : ℕ) → s < 8 → part 128 (part 1024 codes c) s ≡ rowOf codes c s
 row-in codes c s h =
     let e : c * 1024 + s * 128 ≡ (c * 8 + s) * 128 = omega arith in
-    part-of-front 128 8 s (drop (c * 1024) codes) h ∙ ap (take 128) (drop-drop (s * 128) (c * 1024) codes ∙ ap (λ n. drop n codes) e)
+    subframe-cut codes c s h ∙ ap (λ n. take 128 (drop n codes)) e
 
 module _ (l : Layout) (codes : List ℤ) where
   frame-codes : build (subframeIn l codes) 8 ≡ build (λ s. build (codesIn l codes s) (l .channels)) 8

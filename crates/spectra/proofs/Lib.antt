@@ -1,9 +1,7 @@
 pub mod Ahead
 pub mod Telling
 pub mod Zeros
-pub mod Turns
 pub mod Padding
-pub mod Small
 pub mod Channels
 pub mod Eight
 pub mod Resolved

@@ -1,16 +1,13 @@
--- Rows that are zero past their coded count, and rows of a buffer of which one is stored anew. Assumes nothing.
-use mathlib.Core.Path.{_≡_, sym, _∙_, ap, ap₂}
-use mathlib.Core.List.{List, [], _++_, append-nil, append-assoc}
-use Prim.Native.Nat.{ℕ, _+_, _-_, _*_, _≤_}
+-- Rows that are zero past their coded count, and how long a lent part is. Assumes nothing.
+use mathlib.Core.Path.{_≡_, sym, _∙_, ap}
+use mathlib.Core.List.{List, [], _++_, append-nil}
+use Prim.Native.Nat.{ℕ, _+_, _-_, _≤_}
 use native.Mathlib.Omega.{arith}
 use lib.IntN.{ℤ, pos}
-use lib.ListN.{length, take, drop, replicate, length-append, length-drop, length-replicate, drop-of-length-le, replicate-append-replicate}
-use lib.Seq.{take-at, drop-at, drop-drop, take-append-add, drop-append-add, length-take-le}
-use Rattle.bits.proofs.Parts.{part-left}
+use lib.ListN.{length, take, drop, replicate, length-drop, length-replicate, drop-of-length-le, replicate-append-replicate}
+use lib.Seq.{take-at, take-append-add, length-take-le}
 use Rattle.buffers.proofs.Build.{back-width}
-use Rattle.rules.specs.Layout.{part}
 use Rattle.rules.specs.Record.{pad}
-use Rattle.rules.proofs.Cuts.{by-order, part-of-front}
 use Rattle.spectra.specs.Told.{Blank}
 
 -- a list padded with copies of d
@@ -45,40 +42,3 @@ module _ (n : ℕ) (row ys : List ℤ) (e : length row ≡ 128) (h : n ≤ 128) 
 -- a part that is lent is as long as is asked
 pub lent-length : {A : Type 0} (a k : ℕ) (xs : List A) → a + k ≤ length xs → length (take (a + k - a) (drop a xs)) ≡ k
 lent-length a k xs h = rw (back-width a k) (length-take-le k (drop a xs) (omega (arith, length-drop a xs)))
-
--- ---- row j of a buffer lent and stored anew as ys
-
-abbrev pub renewed : ℕ → List ℤ → List ℤ → List ℤ
-renewed j xs ys = take (j * 128) xs ++ (ys ++ drop (j * 128 + 128 - j * 128) (drop (j * 128) xs))
-
-module _ (j : ℕ) (xs ys : List ℤ) (h : j * 128 + 128 ≤ length xs) (e : length ys ≡ 128) where
-  before : length (take (j * 128) xs) ≡ j * 128
-  before = length-take-le (j * 128) xs (omega arith)
-
-  pub renewed-length : length (renewed j xs ys) ≡ length xs
-  renewed-length =
-      let d : j * 128 + 128 - j * 128 ≡ 128 = omega arith in
-      rw (d, length-append (take (j * 128) xs) (ys ++ drop 128 (drop (j * 128) xs)), before, length-append ys (drop 128 (drop (j * 128) xs)), e, length-drop 128 (drop (j * 128) xs), length-drop (j * 128) xs)
-      (omega arith)
-
-  pub row-new : part 128 (renewed j xs ys) j ≡ ys
-  row-new = rw (drop-at (take (j * 128) xs) (ys ++ drop (j * 128 + 128 - j * 128) (drop (j * 128) xs)) (j * 128) before) (take-at ys _ 128 e)
-
-  pub row-old : (i : ℕ) → (i ≡ j → ⊥) → part 128 (renewed j xs ys) i ≡ part 128 xs i
-  row-old i n =
-      by-order i j
-      (λ l. part-left (take (j * 128) xs) (ys ++ drop (j * 128 + 128 - j * 128) (drop (j * 128) xs)) (i * 128) 128 (omega (arith, before)) ∙ part-of-front 128 j i xs l)
-      (λ l.
-      let k : ℕ = i * 128 - (j * 128 + 128) in
-      let w : length (take (j * 128) xs ++ ys) ≡ j * 128 + 128 = length-append (take (j * 128) xs) ys ∙ rw (before, e) in
-      let q : i * 128 ≡ length (take (j * 128) xs ++ ys) + k = omega (arith, later i j l n) in
-      let d : j * 128 + 128 - j * 128 ≡ 128 = omega arith in
-      let z : drop (i * 128) (renewed j xs ys) ≡ drop (i * 128) xs =
-      ap₂ (λ m zs. drop m zs) q (sym (append-assoc (take (j * 128) xs) ys (drop (j * 128 + 128 - j * 128) (drop (j * 128) xs))))
-      ∙ drop-append-add (take (j * 128) xs ++ ys) (drop (j * 128 + 128 - j * 128) (drop (j * 128) xs)) k
-      ∙ ap (λ m. drop k (drop m (drop (j * 128) xs))) d
-      ∙ ap (drop k) (drop-drop 128 (j * 128) xs) ∙ drop-drop k (j * 128 + 128) xs ∙ ap (λ m. drop m xs) (ap (λ m. m + k) (sym w) ∙ sym q) in
-      ap (take 128) z)
-    where
-      later : (i j : ℕ) → j ≤ i → (i ≡ j → ⊥) → j + 1 ≤ i
-      later i j l n = omega arith

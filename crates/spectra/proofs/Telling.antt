@@ -2,34 +2,29 @@
 use mathlib.Core.Path.{_≡_, refl, _∙_, ap, subst}
 use mathlib.Core.List.{List}
 use mathlib.Core.Bool.{Bool, true, false}
-use Prim.Native.Nat.{ℕ, zero, suc, _+_, _-_, _*_, _^_, _≤_, _<_}
+use Prim.Native.Nat.{ℕ, zero, suc, _+_, _*_, _^_, _≤_, _<_}
 use native.Mathlib.Nat.{lt-of-lt-of-le}
 use native.Mathlib.Omega.{arith}
 use borrow.Author.Tests.{le-leb, lt-leb}
 use lib.Dec.{leb}
 use lib.IntN.{ℤ, pos}
-use lib.ListN.{length, length-drop}
+use lib.ListN.{length}
 use lib.Pow.{pow-mono}
 use lib.Seq.{drop-drop}
 use Rattle.bits.specs.Bits.{bitsOf}
-use Rattle.bits.specs.Place.{fieldAt, lookAt}
+use Rattle.bits.specs.Place.{leftAt, fieldAt, lookAt}
 use Rattle.bits.specs.declared.Place.{Place}
 use Rattle.bits.specs.declared.Field.the-variants as field
-use Rattle.bits.proofs.Numbers.{length-bits-of}
-use Rattle.bits.proofs.Fields.{got, past}
+use Rattle.bits.proofs.Fields.{length-left, got}
 use Rattle.rules.specs.Format.{Read, ok, bad, number, oneOf, andThen}
 use Rattle.rules.specs.Code.{magnitudeBits}
 use Rattle.rules.specs.Fields.{smallBits}
 use Rattle.rules.specs.Reading.{codesTo, signed}
-use Rattle.rules.proofs.Numbers.{number-fits}
 use Rattle.spectra.specs.Seen.{wordBits, codeSeen, lengthSeen}
-use Rattle.spectra.specs.Told.{leftAt, signedOf, signedCode, Told}
+use Rattle.spectra.specs.Told.{signedOf, signedCode, Told}
 use Rattle.spectra.specs.declared.Code.{Code}
 use Rattle.spectra.specs.declared.Code.the-variants as code
 use Rattle.spectra.proofs.Ahead.{look-ahead}
-
-pub length-left : (part : List ℕ) (p : ℕ) → length (leftAt part p) ≡ 8 * length part - p
-length-left part p = length-drop p (bitsOf part) ∙ ap (λ n. n - p) (length-bits-of part)
 
 -- ---- a look
 
@@ -50,19 +45,10 @@ module _ (part : List ℕ) (p r v : ℕ) (h : r < 8) (e : v ≡ lookAt part p (w
 pub cut-code : (part : List ℕ) (p : ℕ) (x : Read ℤ) (r : Code) (b : ℕ) → Told part p x r → r ≡ code.Past b → x ≡ bad 13 (length (leftAt part p))
 cut-code part p x r b t e = let z = subst (Told part p x) e t in z .is ∙ ap (λ i. bad 13 (length (leftAt part i))) (z .ends)
 
--- ---- a field
+-- ---- a field of few bits is small
 
-module _ (part : List ℕ) (p n : ℕ) where
-  pub number-got : {v : ℕ} {q : Place} → fieldAt part p n ≡ field.Of v q → number n (leftAt part p) ≡ ok v (leftAt part (q .at))
-  number-got {v} {q} e = let g = got part p n e in ap (number n) (g .stands) ∙ number-fits n .there v (leftAt part (q .at)) (g .small)
-
-  pub number-past : {b : ℕ} → p ≤ 8 * length part → fieldAt part p n ≡ field.Past b → number n (leftAt part p) ≡ bad 13 (length (leftAt part p))
-  unfolding number
-  number-past l e = let z : leb n (length (leftAt part p)) ≡ false = lt-leb n (length (leftAt part p)) (omega (arith, length-left part p, past part p n e .1)) in rw z
-
-  -- a field of few bits is small
-  pub field-small : {v : ℕ} {q : Place} (m : ℕ) → n ≤ m → fieldAt part p n ≡ field.Of v q → v < 2 ^ m
-  field-small m h e = lt-of-lt-of-le (got part p n e .small) (pow-mono h)
+pub field-small : (part : List ℕ) (p n : ℕ) {v : ℕ} {q : Place} (m : ℕ) → n ≤ m → fieldAt part p n ≡ field.Of v q → v < 2 ^ m
+field-small part p n m h e = lt-of-lt-of-le (got part p n e .small) (pow-mono h)
 
 -- ---- a magnitude and its sign
 

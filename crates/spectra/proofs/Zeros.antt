@@ -8,12 +8,11 @@ use native.Mathlib.Omega.{arith}
 use lib.ListN.{length, getD, drop-of-length-le}
 use lib.Seq.{drop-cons}
 use Rattle.bits.specs.Bits.{bits, bitsOf}
-use Rattle.bits.specs.Place.{lookAt}
+use Rattle.bits.specs.Place.{leftAt, lookAt}
 use Rattle.bits.proofs.Numbers.{length-bits-of}
 use Rattle.bits.proofs.Parts.{bits-drop}
 use Rattle.bits.proofs.Fields.{look-lt, look-field, got}
 use Rattle.rules.specs.Reading.{firstOne}
-use Rattle.spectra.specs.Told.{leftAt}
 use Rattle.spectra.specs.Ones.{Passed}
 
 module _ (part : List ℕ) (p : ℕ) (h : p < 8 * length part) where

@@ -4,8 +4,8 @@ use mathlib.Core.List.{List}
 use mathlib.Core.Option.{some}
 use Prim.Native.Nat.{ℕ, _≤_, _<_}
 use lib.ListN.{length}
+use Rattle.bits.specs.Place.{leftAt}
 use Rattle.rules.specs.Reading.{firstOne}
-use Rattle.spectra.specs.Told.{leftAt}
 
 -- no 1 stands from bit p up to bit q
 abbrev pub Passed : List ℕ → ℕ → ℕ → Type 0

@@ -7,7 +7,7 @@ use lib.ListN.{length, take}
 use Rattle.buffers.specs.Walk.{build, blocks}
 use Rattle.rules.specs.Format.{Read, Reader, each, times}
 use Rattle.rules.specs.Layout.{codedAt, part}
-use Rattle.rules.specs.Record.{codesIn, pad}
+use Rattle.rules.specs.Record.{resolutionsIn, codesIn, pad}
 use Rattle.rules.specs.Reading.{readCode}
 use Rattle.rules.specs.declared.Layout.{Layout}
 use Rattle.spectra.specs.Told.{stepRead, stepPlace, Done, Blank}
@@ -15,7 +15,7 @@ use Rattle.spectra.specs.declared.Step.{Step}
 
 -- the resolutions of every channel's coded bands, from C x 128
 unfoldable pub codedRows : Layout → List ℕ → List (List ℕ)
-codedRows l rs = build (λ c. take (codedAt l c) (part 128 rs c)) (l .channels)
+codedRows l rs = build (resolutionsIn l rs) (l .channels)
 
 -- one subframe, channel by channel; and the eight
 abbrev pub readSubframe : Layout → List ℕ → Reader (List (List ℤ))

@@ -2,7 +2,7 @@
 -- and how many bits it has.
 use mathlib.Core.Path.{_≡_}
 use mathlib.Core.Bool.{true}
-use Prim.Native.Nat.{ℕ, _*_, _/_, _%_, _^_}
+use Prim.Native.Nat.{ℕ}
 use lib.Dec.{eqb}
 use lib.IntN.{ℤ, pos, _+ℤ_, natAbs}
 use lib.ListN.{length, getD}
@@ -12,6 +12,7 @@ use Rattle.rules.specs.Format.{Read, ok, bad, oneOf}
 use Rattle.rules.specs.Tables.{maxBitTable}
 use Rattle.rules.specs.Fields.{smallBits}
 use Rattle.rules.specs.Reading.{codesTo}
+use Rattle.quantizer.specs.Packed.{entryOf}
 
 -- how many bits are looked at: MAX_BIT_TABLE
 abbrev pub wordBits : ℕ → ℕ
@@ -31,10 +32,6 @@ lengthSeen r v = length (smallBits r (codeSeen r v))
 unfoldable pub placeSeen : ℕ → ℕ → ℕ
 placeSeen r v = natAbs (pos 8 +ℤ codeSeen r v)
 
--- entry i of a row of sixteen, four bits each
-abbrev pub entryOf : ℕ → ℕ → ℕ
-entryOf row i = row / 2 ^ (4 * i) % 16
-
--- a row whose entries are f's
+-- a row of sixteen whose entries are f's
 abbrev pub IsRow : (ℕ → ℕ) → ℕ → Type 0
 IsRow f row = every (λ i. eqb (entryOf row i) (f i)) 16 ≡ true

@@ -2,13 +2,13 @@
 -- the code that passes the end. A place is counted from the first bit of the part.
 use mathlib.Core.Path.{_≡_}
 use mathlib.Core.List.{List}
-use mathlib.Core.Bool.{Bool, cond}
+use mathlib.Core.Bool.{cond}
 use mathlib.Core.Option.{Option, none, some}
 use Prim.Native.Nat.{ℕ, _*_, _≤_}
 use lib.Dec.{eqb}
 use lib.IntN.{ℤ, pos, negℤ}
-use lib.ListN.{length, getD, take, drop}
-use Rattle.bits.specs.Bits.{bitsOf}
+use lib.ListN.{length, take}
+use Rattle.bits.specs.Place.{leftAt}
 use Rattle.rules.specs.Format.{Read, ok, bad, Reader, _>>=_, whole, number}
 use Rattle.rules.specs.Record.{pad}
 use Rattle.rules.specs.Code.{magnitudeBits}
@@ -19,10 +19,6 @@ use Rattle.spectra.specs.declared.Step.{Step}
 use Rattle.spectra.specs.declared.Step.the-variants as step
 use Rattle.spectra.specs.declared.Fill.{Fill}
 use Rattle.spectra.specs.declared.Fill.the-variants as fill
-
--- the bits that are left at bit p of the part
-abbrev pub leftAt : List ℕ → ℕ → List Bool
-leftAt part p = drop p (bitsOf part)
 
 -- a magnitude under its sign bit, 1 for negative
 abbrev pub signedOf : ℕ → ℕ → ℤ
@@ -59,10 +55,6 @@ stepPlace (step.Past b) = b
 abbrev pub Done : Step → Type 0 → Type 0
 Done (step.At q) P = P
 Done (step.Past b) P = Unit {0}
-
--- each is a resolution, 0 to 15
-abbrev pub AllSmall : List ℕ → Type 0
-AllSmall rs = (b : ℕ) → getD rs b 0 ≤ 15
 
 -- a row of 128 codes that is zero past its coded count
 abbrev pub Blank : ℕ → List ℤ → Type 0

@@ -2,11 +2,13 @@
 ghost use mathlib.Core.Path.{_≡_};
 ghost use Prim.Native.Nat.{_*_, _^_, _≤_, _<_};
 ghost use lib.ListN.{length, take};
+ghost use Rattle.bits.specs.Place.{leftAt};
+ghost use Rattle.buffers.specs.Walk.{AtMost};
 ghost use Rattle.rules.specs.Format.{oneOf, each};
 ghost use Rattle.rules.specs.Layout.{Sizes, spectrumLength, factorLength};
 ghost use Rattle.rules.specs.Fields.{smallBits};
 ghost use Rattle.rules.specs.Reading.{codesTo, readCode};
-ghost use Rattle.spectra.specs.Told.{leftAt, signedOf, signedCode, Told, AllSmall, Stored};
+ghost use Rattle.spectra.specs.Told.{signedOf, signedCode, Told, Stored};
 ghost use Rattle.spectra.specs.Rows.{readSubframe, readSubframes, Subframe, Subframes};
 use self::lookup::seen_code;
 use self::lookup::seen_length;
@@ -101,7 +103,7 @@ pub fn read_spectra(
     codes: &mut [i32],
 ) -> Step
     requires { ⌜ (length (now part) ≤ 65535) × (place .at ≤ 8 * length (now part)) ⌝ }
-    requires { ⌜ (coded ≤ 128) × (length (now resolutions) ≡ 128) × (length (now codes) ≡ 128) × AllSmall (now resolutions) ⌝ }
+    requires { ⌜ (coded ≤ 128) × (length (now resolutions) ≡ 128) × (length (now codes) ≡ 128) × AtMost 15 (now resolutions) ⌝ }
     ensures { λ r. ⌜ Stored (now (part .entry)) (each readCode (take coded (now (resolutions .entry))) (leftAt (now (part .entry)) (place .at))) coded (now (codes .exit)) r ⌝ }
 {
     let mut at = place.at;
@@ -130,7 +132,7 @@ fn read_subframe(
 ) -> Step
     requires { ⌜ Sizes layout ⌝ }
     requires { ⌜ (subframe < 8) × (length (now part) ≤ 65535) × (place .at ≤ 8 * length (now part)) ⌝ }
-    requires { ⌜ (length (now resolutions) ≡ factorLength layout) × (length (now codes) ≡ spectrumLength layout) × AllSmall (now resolutions) ⌝ }
+    requires { ⌜ (length (now resolutions) ≡ factorLength layout) × (length (now codes) ≡ spectrumLength layout) × AtMost 15 (now resolutions) ⌝ }
     ensures { λ r. ⌜ Subframe layout (now (part .entry)) (readSubframe layout (now (resolutions .entry)) (leftAt (now (part .entry)) (place .at))) subframe (now (codes .entry)) (now (codes .exit)) r ⌝ }
 {
     let channels = layout.channels;
@@ -167,7 +169,7 @@ pub fn read_all_spectra(
 ) -> Step
     requires { ⌜ Sizes layout ⌝ }
     requires { ⌜ (length (now part) ≤ 65535) × (place .at ≤ 8 * length (now part)) ⌝ }
-    requires { ⌜ (length (now resolutions) ≡ factorLength layout) × (length (now codes) ≡ spectrumLength layout) × AllSmall (now resolutions) ⌝ }
+    requires { ⌜ (length (now resolutions) ≡ factorLength layout) × (length (now codes) ≡ spectrumLength layout) × AtMost 15 (now resolutions) ⌝ }
     ensures { λ r. ⌜ Subframes layout (now (part .entry)) (readSubframes layout (now (resolutions .entry)) (leftAt (now (part .entry)) (place .at))) (now (codes .exit)) r ⌝ }
 {
     let mut at = place.at;

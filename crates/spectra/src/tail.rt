@@ -1,8 +1,9 @@
 // The fill after the last code: is there a 1 in it?
 ghost use Prim.Native.Nat.{_*_, _≤_};
 ghost use lib.ListN.{length};
+ghost use Rattle.bits.specs.Place.{leftAt};
 ghost use Rattle.rules.specs.Reading.{firstOne};
-ghost use Rattle.spectra.specs.Told.{leftAt, Filled};
+ghost use Rattle.spectra.specs.Told.{Filled};
 ghost use Rattle.spectra.specs.Ones.{Passed, Stopped};
 use super::Fill;
 use bits::Place;

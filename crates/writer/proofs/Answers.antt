@@ -4,47 +4,23 @@ use mathlib.Core.List.{List, _++_, append-nil}
 use mathlib.Core.Bool.{Bool, true, false, cond, not}
 use Prim.Native.Nat.{ℕ, _*_, _≤_, _<_}
 use native.Mathlib.Omega.{arith}
-use borrow.Author.Tests.{le-leb, leb-true, lt-ltb, le-ltb}
-use lib.Dec.{leb, ltb}
+use borrow.Author.Tests.{lt-ltb, le-ltb}
+use lib.Dec.{ltb}
 use lib.IntN.{ℤ}
 use lib.ListN.{length, take, drop, replicate, length-replicate, take-append-drop, drop-of-length-le}
 use lib.Seq.{length-take-le}
-use Rattle.buffers.proofs.Tests.{and-fst, and-snd, not-true-false}
-use Rattle.rules.specs.Layout.{Sizes, frameSize, spectrumLength, factorLength, sideLength, legalLayout}
+use Rattle.rules.specs.Layout.{Sizes, frameSize, spectrumLength, factorLength, sideLength, legalLayout, roomOf, hasRoom}
 use Rattle.rules.specs.Record.{Rec, recOf, legalRecord}
 use Rattle.rules.specs.Fields.{fields}
 use Rattle.rules.specs.Frame.{payload, frameOf}
 use Rattle.rules.specs.Refusals.{Outcome, writeNumber}
-use Rattle.rules.specs.Stage.{laid, noFrame, FrameLeft, recordLent, frameLeft, writeRoom, lentRecord, written}
+use Rattle.rules.specs.Stage.{laid, noFrame, FrameLeft, recordLent, frameLeft, lentRecord, written}
 use Rattle.rules.specs.declared.Layout.{Layout}
 use Rattle.rules.specs.declared.WriteAnswer.{WriteAnswer}
 use Rattle.rules.specs.declared.WriteAnswer.the-variants.{Delivered, BadLayout, ShortBuffer, NotLegal, TooLong}
 use Rattle.rules.proofs.Stores.{record-front, legal-front}
 use Rattle.rules.proofs.Demand3.{frame-length}
-use Rattle.writer.specs.declared.Room.{Room}
-use Rattle.writer.specs.Write.{roomFor, roomOf, Enough, opened}
-
--- ---- room
-
-module _ (l : Layout) (r : Room) where
-  pub room-true : Enough l r → roomFor l r ≡ true
-  unfolding roomFor
-  room-true h = rw (le-leb _ _ (h .factors), le-leb _ _ (h .side), le-leb _ _ (h .codes), le-leb _ _ (h .frame))
-
-  pub room-facts : roomFor l r ≡ true → Enough l r
-  unfolding roomFor
-  room-facts e₁ =
-      let e₂ = and-snd (leb (factorLength l) (r .factors)) _ e₁ in
-      let e₃ = and-snd (leb (sideLength l) (r .side)) _ e₂ in
-      record {
-        factors = leb-true _ _ (and-fst (leb (factorLength l) (r .factors)) _ e₁);
-        side = leb-true _ _ (and-fst (leb (sideLength l) (r .side)) _ e₂);
-        codes = leb-true _ _ (and-fst (leb (spectrumLength l) (r .codes)) _ e₃);
-        frame = leb-true _ _ (and-snd (leb (spectrumLength l) (r .codes)) _ e₃);
-      }
-
-  pub room-false : (Enough l r → ⊥) → roomFor l r ≡ false
-  room-false h = not-true-false (roomFor l r) (λ e. h (room-facts e))
+use Rattle.writer.specs.Write.{opened}
 
 -- ---- the gate
 
@@ -54,12 +30,12 @@ module _ (l : Layout) (level boundary : ℕ) (F S : List ℕ) (C : List ℤ) (fr
   gate-layout e = rw e
 
   module _ (e : legalLayout l ≡ true) where
-    pub gate-short : roomFor l (roomOf (length F) (length S) (length C) (length frame)) ≡ false → frameLeft ShortBuffer frame ≡ written l (recordLent level boundary F S C frame)
-    unfolding written writeNumber writeRoom roomFor
+    pub gate-short : hasRoom l (roomOf (length F) (length S) (length C) (length frame)) ≡ false → frameLeft ShortBuffer frame ≡ written l (recordLent level boundary F S C frame)
+    unfolding written writeNumber
     gate-short h = rw (e, h)
 
-    pub gate-open : roomFor l (roomOf (length F) (length S) (length C) (length frame)) ≡ true → opened l (recordLent level boundary F S C frame) ≡ written l (recordLent level boundary F S C frame)
-    unfolding written writeRoom roomFor opened
+    pub gate-open : hasRoom l (roomOf (length F) (length S) (length C) (length frame)) ≡ true → opened l (recordLent level boundary F S C frame) ≡ written l (recordLent level boundary F S C frame)
+    unfolding written opened
     gate-open h = rw (e, h)
 
 -- ---- the run, on a frame of the stated length

@@ -2,41 +2,16 @@
 ghost use mathlib.Core.Path.{_≡_};
 ghost use Prim.Native.Nat.{_*_};
 ghost use lib.ListN.{length};
-ghost use Rattle.rules.specs.Layout.{Sizes, frameSize};
+ghost use Rattle.rules.specs.Layout.{Sizes, frameSize, roomOf, Enough};
 ghost use Rattle.rules.specs.Stage.{recordLent, frameLeft, written};
-ghost use Rattle.writer.specs.Write.{roomFor, roomOf, Enough, opened};
+ghost use Rattle.writer.specs.Write.{opened};
 use packing::pack_frame;
 use records::is_legal;
 use rules::Layout;
+use rules::Room;
 use rules::WriteAnswer;
+use rules::has_room;
 use rules::legal;
-
-// The lengths of the lent buffers.
-struct Room {
-    factors: usize,
-    side: usize,
-    codes: usize,
-    frame: usize,
-}
-
-fn enough(layout: Layout, room: Room) -> bool
-    requires { ⌜ Sizes layout ⌝ }
-    ensures { λ r. ⌜ r ≡ roomFor layout room ⌝ }
-{
-    if room.factors < layout.channels * 128 {
-        return false;
-    }
-    if room.side < layout.channels * 8 {
-        return false;
-    }
-    if room.codes < layout.channels * 1024 {
-        return false;
-    }
-    if room.frame < layout.frame_size {
-        return false;
-    }
-    true
-}
 
 // On buffers of the stated lengths.
 fn run(
@@ -124,7 +99,7 @@ pub fn write_record(
     if !legal(layout) {
         return WriteAnswer::BadLayout;
     }
-    if !enough(layout, room) {
+    if !has_room(layout, room) {
         return WriteAnswer::ShortBuffer;
     }
     cut(layout, level, boundary, factors, side, codes, frame)

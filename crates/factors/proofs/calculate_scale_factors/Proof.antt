@@ -10,7 +10,7 @@ use Rattle.buffers.proofs.Blocks.{Blocked, blocked-none, blocked-more, blocked-
 use Rattle.rules.specs.Layout.{codedAt, part}
 use Rattle.rules.specs.Factor.{channelFactors, allFactors}
 use Rattle.rules.specs.declared.Layout.{Layout}
-use Rattle.factors.proofs.Scaled.{factors-size}
+use Rattle.rules.proofs.Made.{factors-size}
 use Rattle.factors.proofs.calculate_scale_factors.Statement.{statement}
 use Rattle.factors.proofs.calculate_scale_factors.Tie as tie
 

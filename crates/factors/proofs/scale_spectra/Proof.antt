@@ -11,7 +11,7 @@ use Rattle.rules.specs.Layout.{codedAt, part}
 use Rattle.rules.specs.Scaling.{channelScaled, allScaled}
 use Rattle.rules.specs.declared.Layout.{Layout}
 use Rattle.factors.proofs.Small.{part-small}
-use Rattle.factors.proofs.Scaled.{scaled-size}
+use Rattle.rules.proofs.Made.{scaled-size}
 use Rattle.factors.proofs.scale_spectra.Statement.{statement}
 use Rattle.factors.proofs.scale_spectra.Tie as tie
 

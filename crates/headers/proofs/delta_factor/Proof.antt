@@ -2,14 +2,13 @@
 use mathlib.Core.Path.{_≡_, sym, ap₂, ap, _∙_, subst}
 use native.Mathlib.Nat.{lt-of-le-of-lt}
 use native.Mathlib.Omega.{arith}
-use lib.IntN.{ℤ, pos, _+ℤ_, _-ℤ_}
+use lib.IntN.{ℤ, pos, _+ℤ_, _-ℤ_, +ℤ-comm}
 use mir.Syntax.{w32}
 use mir.Val.{SFits, toZ, ofZ}
 use mir.Facts.{toZ-pos}
 use mir.ValLaws.{toZ-ofZ}
 use borrow.Author.Needs.{needs}
-use Rattle.floats.proofs.SignedLaws.{mag-sub}
-use Rattle.headers.proofs.Answered.{sum-size}
+use Rattle.floats.proofs.SignedLaws.{mag-sub, mag-add}
 use Rattle.headers.proofs.delta_factor.Statement.{statement}
 use Rattle.headers.proofs.delta_factor.Tie as tie
 
@@ -42,11 +41,9 @@ sub-result c = less-fits c
 
 add-result : tie.Need-add-result
 add-result c =
-    subst (λ (z : ℤ). SFits w32 z) (sym (sum c))
-    (record {
-      sfits = lt-of-le-of-lt (sum-size (c .before .args .previous) (pos (c .before .args .v) -ℤ pos (c .reach .result)))
-          (omega (arith, mag-sub (pos (c .before .args .v)) (c .reach .result)));
-    })
+    let z : ℤ = pos (c .before .args .v) -ℤ pos (c .reach .result) in
+    subst (λ (y : ℤ). SFits w32 y) (+ℤ-comm z (pos (c .before .args .previous)) ∙ sym (sum c))
+    (record { sfits = lt-of-le-of-lt (mag-add z (c .before .args .previous)) (omega (arith, mag-sub (pos (c .before .args .v)) (c .reach .result))) })
 
 returns : tie.Need-returns
 returns c = toZ-ofZ w32 _ (add-result c) ∙ sum c ∙ ap (λ m. pos (c .before .args .previous) +ℤ (pos (c .before .args .v) -ℤ pos m)) (c .reach .ensures .0)

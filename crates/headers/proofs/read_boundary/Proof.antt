@@ -3,9 +3,7 @@ use mathlib.Core.Path.{sym, _∙_}
 use mathlib.Core.Bool.{_||_}
 use native.Mathlib.Omega.{arith}
 use lib.Dec.{leb, eqb}
-use lib.ListN.{length}
-use Rattle.headers.specs.Answers.{leftAt}
-use Rattle.headers.proofs.Answered.{left-over, told-of, judged-cut, judged-yes, judged-no}
+use Rattle.headers.proofs.Answered.{told-of, judged-cut, judged-yes, judged-no}
 use borrow.Author.Needs.{needs}
 use Rattle.headers.proofs.read_boundary.Statement.{statement}
 use Rattle.headers.proofs.read_boundary.Tie as tie
@@ -23,7 +21,7 @@ returns : tie.Need-returns
 returns c =
     let a = c .before .before .before .before .args in
     let s = a .part .now in
-    judged-cut s (a .place .at) 7 10 (a .place .at) (length (leftAt s (a .place .at))) (left-over s (a .place .at)) (λ v. leb 1 (a .level) || eqb v 0) (c .before .before .read-number .ensures) (c .enum-told .given .1)
+    judged-cut s (a .place .at) 7 10 (a .place .at) (λ v. leb 1 (a .level) || eqb v 0) (c .before .before .read-number .ensures) (c .enum-told .given .1)
 
 boundary-fits-requires : tie.Need-boundary-fits-requires
 boundary-fits-requires c κs = search needs
@@ -32,14 +30,14 @@ returns-2 : tie.Need-returns-2
 returns-2 c =
     let a = c .before .before .before .before .before .before .before .args in
     let s = a .part .now in
-    judged-yes s (a .place .at) 7 10 (a .place .at) (length (leftAt s (a .place .at))) (left-over s (a .place .at)) (λ v. leb 1 (a .level) || eqb v 0) (c .before .before .before .before .before .read-number .ensures) (c .before .before .before .field .given .1)
+    judged-yes s (a .place .at) 7 10 (a .place .at) (λ v. leb 1 (a .level) || eqb v 0) (c .before .before .before .before .before .read-number .ensures) (c .before .before .before .field .given .1)
     (sym (c .before .boundary-fits .ensures) ∙ c .if1 .taken) (told-of (c .before .before .before .field .given .1) (c .before .before .before .before .before .read-number .ensures) .small)
 
 returns-3 : tie.Need-returns-3
 returns-3 c =
     let a = c .before .before .before .before .before .before .before .args in
     let s = a .part .now in
-    judged-no s (a .place .at) 7 10 (a .place .at) (length (leftAt s (a .place .at))) (left-over s (a .place .at)) (λ v. leb 1 (a .level) || eqb v 0) (c .before .before .before .before .before .read-number .ensures) (c .before .before .before .field .given .1)
+    judged-no s (a .place .at) 7 10 (a .place .at) (λ v. leb 1 (a .level) || eqb v 0) (c .before .before .before .before .before .read-number .ensures) (c .before .before .before .field .given .1)
     (sym (c .before .boundary-fits .ensures) ∙ c .if1 .left) (omega arith) (omega arith) (omega arith)
 
 pub read-boundary-spec : {M : Type 1} → statement M

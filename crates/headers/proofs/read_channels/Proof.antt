@@ -4,10 +4,10 @@ use Prim.Native.Nat.{_-_}
 use native.Mathlib.Omega.{arith}
 use borrow.Author.Needs.{needs}
 use lib.ListN.{length}
+use Rattle.bits.specs.Place.{leftAt}
 use Rattle.rules.specs.Format.{each}
 use Rattle.rules.specs.Layout.{kindsOf}
 use Rattle.rules.specs.Reading.{readChannel}
-use Rattle.headers.specs.Answers.{leftAt}
 use Rattle.headers.proofs.Channels.{Reading, reading-none, reading-all, reading-stop, reading-more}
 use Rattle.headers.proofs.read_channels.Statement.{statement}
 use Rattle.headers.proofs.read_channels.Tie as tie

@@ -6,9 +6,10 @@ use lib.Pow.{pow-mono}
 use mir.Syntax.{w32}
 use mir.Val.{toZ, ofZ}
 use mir.ValLaws.{toZ-ofZ}
+use Rattle.bits.specs.Place.{leftAt}
 use Rattle.rules.specs.Reading.{deltaFactor}
 use Rattle.rules.proofs.Deltas.{delta-cut}
-use Rattle.headers.specs.Answers.{leftAt, judged}
+use Rattle.headers.specs.Answers.{judged}
 use Rattle.headers.proofs.Answered.{told-of, told-on, delta-escape, delta-named}
 use borrow.Author.Needs.{needs}
 use Rattle.headers.proofs.read_delta.Statement.{statement}

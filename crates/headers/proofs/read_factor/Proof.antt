@@ -1,7 +1,8 @@
 -- `read_factor` is `readFactor`. Assumes nothing.
 use mathlib.Core.Path.{sym, subst}
 use mathlib.Core.Logic.{inl, inr, ⊎-elim}
-use Rattle.headers.specs.Answers.{leftAt, Told}
+use Rattle.bits.specs.Place.{leftAt}
+use Rattle.headers.specs.Answers.{Told}
 use Rattle.headers.proofs.Answered.{factor-delta, factor-six}
 use borrow.Author.Needs.{needs}
 use Rattle.headers.proofs.read_factor.Statement.{statement}

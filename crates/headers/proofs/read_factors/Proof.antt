@@ -4,9 +4,9 @@ use Prim.Native.Nat.{_+_, _-_, _≤_}
 use native.Mathlib.Omega.{arith}
 use borrow.Author.Needs.{needs}
 use lib.ListN.{length}
-use Rattle.rules.specs.Fields.{passed}
+use Rattle.bits.specs.Place.{leftAt}
+use Rattle.rules.specs.Fields.{passed, before}
 use Rattle.rules.specs.Reading.{readFactor, readFactors}
-use Rattle.headers.specs.Answers.{leftAt, before}
 use Rattle.headers.proofs.Answered.{told-of}
 use Rattle.headers.proofs.Walks.{Going, going-none, going-more, going-stop, going-all, before-more, factors-start, factors-none}
 use Rattle.headers.proofs.read_factors.Statement.{statement}

@@ -2,9 +2,7 @@
 use native.Mathlib.Omega.{arith}
 use borrow.Author.Tests.{le-leb, lt-leb}
 use lib.Dec.{leb}
-use lib.ListN.{length}
-use Rattle.headers.specs.Answers.{leftAt}
-use Rattle.headers.proofs.Answered.{left-over, judged-cut, judged-yes, judged-no}
+use Rattle.headers.proofs.Answered.{judged-cut, judged-yes, judged-no}
 use borrow.Author.Needs.{needs}
 use Rattle.headers.proofs.read_level.Statement.{statement}
 use Rattle.headers.proofs.read_level.Tie as tie
@@ -22,20 +20,20 @@ returns : tie.Need-returns
 returns c =
     let a = c .before .before .before .before .args in
     let s = a .part .now in
-    judged-cut s (a .place .at) 9 10 (a .place .at) (length (leftAt s (a .place .at))) (left-over s (a .place .at)) (λ v. leb v 254) (c .before .before .read-number .ensures) (c .enum-told .given .1)
+    judged-cut s (a .place .at) 9 10 (a .place .at) (λ v. leb v 254) (c .before .before .read-number .ensures) (c .enum-told .given .1)
 
 returns-2 : tie.Need-returns-2
 returns-2 c =
     let a = c .before .before .before .before .before .before .args in
     let s = a .part .now in
-    judged-no s (a .place .at) 9 10 (a .place .at) (length (leftAt s (a .place .at))) (left-over s (a .place .at)) (λ v. leb v 254) (c .before .before .before .before .read-number .ensures) (c .before .before .field .given .1)
+    judged-no s (a .place .at) 9 10 (a .place .at) (λ v. leb v 254) (c .before .before .before .before .read-number .ensures) (c .before .before .field .given .1)
     (lt-leb (c .before .before .field .given .0 .0) 254 (omega arith)) (omega arith) (omega arith) (omega arith)
 
 returns-3 : tie.Need-returns-3
 returns-3 c =
     let a = c .before .before .before .before .before .before .args in
     let s = a .part .now in
-    judged-yes s (a .place .at) 9 10 (a .place .at) (length (leftAt s (a .place .at))) (left-over s (a .place .at)) (λ v. leb v 254) (c .before .before .before .before .read-number .ensures) (c .before .before .field .given .1)
+    judged-yes s (a .place .at) 9 10 (a .place .at) (λ v. leb v 254) (c .before .before .before .before .read-number .ensures) (c .before .before .field .given .1)
     (le-leb (c .before .before .field .given .0 .0) 254 (omega arith)) (omega arith)
 
 pub read-level-spec : {M : Type 1} → statement M

@@ -1,7 +1,7 @@
 -- `read_number` is `number`. Assumes nothing.
 use mathlib.Core.Path.{sym, _∙_}
 use native.Mathlib.Omega.{arith}
-use Rattle.headers.proofs.Answered.{number-read, number-past}
+use Rattle.headers.proofs.Answered.{number-read, number-cut}
 use borrow.Author.Needs.{needs}
 use Rattle.headers.proofs.read_number.Statement.{statement}
 use Rattle.headers.proofs.read_number.Tie as tie
@@ -18,7 +18,7 @@ enum-told c = search needs
 returns : tie.Need-returns
 returns c =
     let a = c .before .before .before .before .args in
-    number-past (a .part .now) (a .place .at) (a .bits) (omega arith) (sym (c .before .before .get .ensures) ∙ c .enum-told .given .1)
+    number-cut (a .part .now) (a .place .at) (a .bits) (omega arith) (sym (c .before .before .get .ensures) ∙ c .enum-told .given .1)
 
 returns-2 : tie.Need-returns-2
 returns-2 c =

@@ -5,8 +5,8 @@ use native.Mathlib.Omega.{arith}
 use borrow.Author.Needs.{needs}
 use lib.Pow.{pow-mono}
 use lib.ListN.{length}
+use Rattle.bits.specs.Place.{leftAt}
 use Rattle.rules.specs.Format.{stay, each, times, number}
-use Rattle.headers.specs.Answers.{leftAt}
 use Rattle.headers.proofs.Answered.{told-of}
 use Rattle.headers.proofs.Walks.{Going, going-none, going-more, going-stop, going-all}
 use Rattle.headers.proofs.read_side.Statement.{statement}

@@ -1,16 +1,17 @@
 -- `read_width` is `readWidth`: each return is one way through it. Assumes nothing.
-use mathlib.Core.Path.{_≡_, sym, _∙_, ap}
-use mathlib.Core.Bool.{true, not, _&&_, _||_}
+use mathlib.Core.Path.{_≡_, sym, _∙_}
+use mathlib.Core.Bool.{true, _&&_, _||_}
 use Prim.Native.Nat.{_≤_}
 use native.Mathlib.Omega.{arith}
-use borrow.Author.Tests.{eq-eqb, ne-eqb, leb-true}
+use borrow.Author.Tests.{eq-eqb, ne-eqb, leb-true, not-true, not-false}
 use lib.Dec.{leb, eqb}
+use Rattle.bits.specs.Place.{leftAt}
 use Rattle.buffers.proofs.Tests.{and-fst}
 use Rattle.rules.specs.Format.{number}
 use Rattle.headers.specs.declared.Value.the-variants as value
-use Rattle.headers.specs.Answers.{leftAt, Told}
+use Rattle.headers.specs.Answers.{Told}
 use Rattle.headers.proofs.Answered.{told-of}
-use Rattle.headers.proofs.Channels.{stored-cut, stored-of, twice-not, width-cut, width-no, width-stop, width-wrong, width-right}
+use Rattle.headers.proofs.Channels.{stored-cut, stored-of, width-cut, width-no, width-stop, width-wrong, width-right}
 use borrow.Author.Needs.{needs}
 use Rattle.headers.proofs.read_width.Statement.{statement}
 use Rattle.headers.proofs.read_width.Tie as tie
@@ -39,7 +40,7 @@ returns-2 : tie.Need-returns-2
 returns-2 c =
     let a = c .before .before .before .before .before .before .before .before .args in
     let t = told-of (c .before .before .before .field .given .1) (c .before .before .before .before .before .read-number .ensures) in
-    width-no (a .part .now) (a .place .at) (a .coded) (omega arith) t (sym (c .before .width-fits .ensures) ∙ sym (twice-not _) ∙ ap not (c .if1 .taken))
+    width-no (a .part .now) (a .place .at) (a .coded) (omega arith) t (sym (c .before .width-fits .ensures) ∙ not-true _ (c .if1 .taken))
 
 -- the width that was read, and that it is not refused at once
 width-read : (c : tie.Else1) → let a = c .before .before .before .before .before .before .before .before .args in
@@ -47,7 +48,7 @@ width-read : (c : tie.Else1) → let a = c .before .before .before .before .befo
 width-read c = told-of (c .before .before .before .field .given .1) (c .before .before .before .before .before .read-number .ensures)
 
 fits : (c : tie.Else1) → let w = c .before .before .before .field .given .0 .0 in (leb w 6 && (leb 1 (c .before .before .before .before .before .before .before .before .args .coded) || eqb w 0)) ≡ true
-fits c = sym (c .before .width-fits .ensures) ∙ sym (twice-not _) ∙ ap not (c .if1 .left)
+fits c = sym (c .before .width-fits .ensures) ∙ not-false _ (c .if1 .left)
 
 read-factors-requires : tie.Need-read-factors-requires
 read-factors-requires c κs =

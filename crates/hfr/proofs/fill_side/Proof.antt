@@ -9,7 +9,7 @@ use Rattle.buffers.proofs.Blocks.{Blocked, blocked-none, blocked-more, blocked-
 use Rattle.rules.specs.Layout.{part}
 use Rattle.rules.specs.Hfr.{channelSide, allSide}
 use Rattle.rules.specs.declared.Layout.{Layout}
-use Rattle.hfr.proofs.Side.{side-size}
+use Rattle.rules.proofs.Made.{side-size}
 use Rattle.hfr.proofs.fill_side.Statement.{statement}
 use Rattle.hfr.proofs.fill_side.Tie as tie
 

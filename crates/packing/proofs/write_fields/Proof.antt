@@ -3,7 +3,8 @@ use mathlib.Core.Path.{sym, ap, _∙_, subst}
 use native.Mathlib.Omega.{arith}
 use lib.ListN.{length}
 use Rattle.bits.proofs.Runs.{writes-then}
-use Rattle.packing.proofs.Rows.{AtMost, resolutions-most, length-resolutions}
+use Rattle.buffers.specs.Walk.{AtMost}
+use Rattle.quantizer.proofs.Bands.{resolutions-most, resolutions-long}
 use Rattle.packing.proofs.Frames.{fields-are}
 use borrow.Author.Needs.{needs}
 use Rattle.packing.proofs.write_fields.Statement.{statement}
@@ -24,8 +25,8 @@ write-codes-requires c κs =
     let next = c .before .before .before .write-channels .ensures in (
       s .pre .0,
       (
-        (omega (arith, head .1, next .1), ap length lent ∙ length-resolutions (a .level) (a .boundary) (a .layout) (a .factors .now), s .pre .1 .1 .0 .2),
-        subst (λ rs. AtMost 15 rs) (sym lent) (resolutions-most (a .level) (a .boundary) (a .layout) (a .factors .now)),
+        (omega (arith, head .1, next .1), ap length lent ∙ resolutions-long (a .layout) (a .level) (a .boundary) (a .factors .now), s .pre .1 .1 .0 .2),
+        subst (λ rs. AtMost 15 rs) (sym lent) (resolutions-most (a .layout) (a .level) (a .boundary) (a .factors .now)),
       ),
     )
 

@@ -1,13 +1,12 @@
 -- `read_frame` is `read`: refusals 1 and 2, and behind them `cut`. Assumes nothing.
 use mathlib.Core.Bool.{true, false}
-use mathlib.Core.Path.{_≡_, _∙_, refl}
+use mathlib.Core.Path.{_≡_, _∙_, refl, sym}
 use borrow.Author.Needs.{needs}
-use Rattle.rules.proofs.Layouts.{legal-sizes}
+use borrow.Author.Tests.{not-true, not-false}
+use Rattle.rules.proofs.Layouts.{legal-sizes, room-facts}
 use Rattle.rules.specs.Layout.{legalLayout}
 use Rattle.rules.specs.Refusals.{readNumber}
-use Rattle.rules.specs.Stage.{read, readRoom}
-use Rattle.reader.specs.Answers.{roomFor}
-use Rattle.reader.proofs.Calls.{turned, room-facts}
+use Rattle.rules.specs.Stage.{read}
 use Rattle.reader.proofs.read_frame.Statement.{statement}
 use Rattle.reader.proofs.read_frame.Tie as tie
 
@@ -17,21 +16,21 @@ legal-requires c κs = search needs
 returns : tie.Need-returns
 unfolding read readNumber
 returns c =
-    let e : legalLayout (c .before .before .before .before .before .args .layout) ≡ false = turned (c .before .legal .ensures) (c .if1 .taken) in
+    let e : legalLayout (c .before .before .before .before .before .args .layout) ≡ false = sym (c .before .legal .ensures) ∙ not-true _ (c .if1 .taken) in
     rw e refl
 
-enough-requires : tie.Need-enough-requires
-enough-requires c κs = legal-sizes _ (turned (c .before .legal .ensures) (c .if1 .left))
+has-room-requires : tie.Need-has-room-requires
+has-room-requires c κs = legal-sizes _ (sym (c .before .legal .ensures) ∙ not-false _ (c .if1 .left))
 
 returns-2 : tie.Need-returns-2
-unfolding read readNumber readRoom roomFor
+unfolding read readNumber
 returns-2 c =
-    let e : legalLayout (c .before .before .before .before .before .before .before .args .layout) ≡ true = turned (c .before .before .before .legal .ensures) (c .before .before .if1 .left) in
-    let r = turned (c .before .enough .ensures) (c .if2 .taken) in
+    let e : legalLayout (c .before .before .before .before .before .before .before .args .layout) ≡ true = sym (c .before .before .before .legal .ensures) ∙ not-false _ (c .before .before .if1 .left) in
+    let r = sym (c .before .has-room .ensures) ∙ not-true _ (c .if2 .taken) in
     rw (e, r) refl
 
 cut-requires : tie.Need-cut-requires
-cut-requires c κs = (legal-sizes _ (turned (c .before .before .before .before .before .before .legal .ensures) (c .before .before .before .before .before .if1 .left)), room-facts _ _ (turned (c .before .before .before .before .enough .ensures) (c .before .before .before .if2 .left)))
+cut-requires c κs = (legal-sizes _ (sym (c .before .before .before .before .before .before .legal .ensures) ∙ not-false _ (c .before .before .before .before .before .if1 .left)), room-facts _ _ (sym (c .before .before .before .before .has-room .ensures) ∙ not-false _ (c .before .before .before .if2 .left)))
 
 same-length : tie.Need-same-length
 same-length c = search needs
@@ -43,10 +42,10 @@ same-length-3 : tie.Need-same-length-3
 same-length-3 c = search needs
 
 returns-3 : tie.Need-returns-3
-unfolding read readRoom roomFor
+unfolding read
 returns-3 c =
-    let e : legalLayout (c .before .before .before .before .before .before .before .before .before .before .before .before .before .before .before .before .args .layout) ≡ true = turned (c .before .before .before .before .before .before .before .before .before .before .before .before .legal .ensures) (c .before .before .before .before .before .before .before .before .before .before .before .if1 .left) in
-    let r = turned (c .before .before .before .before .before .before .before .before .before .before .enough .ensures) (c .before .before .before .before .before .before .before .before .before .if2 .left) in
+    let e : legalLayout (c .before .before .before .before .before .before .before .before .before .before .before .before .before .before .before .before .args .layout) ≡ true = sym (c .before .before .before .before .before .before .before .before .before .before .before .before .legal .ensures) ∙ not-false _ (c .before .before .before .before .before .before .before .before .before .before .before .if1 .left) in
+    let r = sym (c .before .before .before .before .before .before .before .before .before .before .has-room .ensures) ∙ not-false _ (c .before .before .before .before .before .before .before .before .before .if2 .left) in
     c .before .before .before .before .before .cut .ensures ∙ rw (e, r) refl
 
 pub read-frame-spec : {M : Type 1} → statement M
@@ -55,7 +54,7 @@ read-frame-spec =
     (tie.spec
     legal-requires
     returns
-    enough-requires
+    has-room-requires
     returns-2
     cut-requires
     same-length

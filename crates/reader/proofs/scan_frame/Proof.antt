@@ -2,7 +2,7 @@
 use mathlib.Core.Path.{sym, _∙_}
 use native.Mathlib.Omega.{arith}
 use borrow.Author.Needs.{needs}
-use Rattle.reader.proofs.Calls.{turned}
+use borrow.Author.Tests.{not-true, not-false}
 use Rattle.reader.proofs.Frames.{unsealed, unsynced, synced}
 use Rattle.reader.proofs.scan_frame.Statement.{statement}
 use Rattle.reader.proofs.scan_frame.Tie as tie
@@ -13,7 +13,7 @@ is-sealed-requires c κs = search needs
 returns : tie.Need-returns
 returns c =
     let a = c .before .before .before .before .before .args in
-    unsealed (a .layout) (a .frame .now) (turned (c .before .is-sealed .ensures) (c .if1 .taken))
+    unsealed (a .layout) (a .frame .now) (sym (c .before .is-sealed .ensures) ∙ not-true _ (c .if1 .taken))
 
 look-requires : tie.Need-look-requires
 look-requires c κs = search needs
@@ -21,7 +21,7 @@ look-requires c κs = search needs
 returns-2 : tie.Need-returns-2
 returns-2 c =
     let a = c .before .before .before .before .before .before .before .args in
-    unsynced (a .layout) (a .frame .now) (omega arith) (turned (c .before .before .before .is-sealed .ensures) (c .before .before .if1 .left)) (λ e. c .if2 .taken (c .before .look .ensures .0 ∙ e))
+    unsynced (a .layout) (a .frame .now) (omega arith) (sym (c .before .before .before .is-sealed .ensures) ∙ not-false _ (c .before .before .if1 .left)) (λ e. c .if2 .taken (c .before .look .ensures .0 ∙ e))
 
 sub-end : tie.Need-sub-end
 sub-end c = search needs
@@ -50,7 +50,7 @@ same-length-3 c = search needs
 returns-3 : tie.Need-returns-3
 returns-3 c =
     let a = c .before .before .before .before .before .before .before .before .before .before .before .before .before .before .before .before .before .args in
-    synced (a .layout) (a .frame .now) (omega arith) (turned (c .before .before .before .before .before .before .before .before .before .before .before .before .before .is-sealed .ensures) (c .before .before .before .before .before .before .before .before .before .before .before .before .if1 .left)) (sym (c .before .before .before .before .before .before .before .before .before .before .before .look .ensures .0) ∙ c .before .before .before .before .before .before .before .before .before .before .if2 .left) (c .before .before .before .before .before .read-record .ensures)
+    synced (a .layout) (a .frame .now) (omega arith) (sym (c .before .before .before .before .before .before .before .before .before .before .before .before .before .is-sealed .ensures) ∙ not-false _ (c .before .before .before .before .before .before .before .before .before .before .before .before .if1 .left)) (sym (c .before .before .before .before .before .before .before .before .before .before .before .look .ensures .0) ∙ c .before .before .before .before .before .before .before .before .before .before .if2 .left) (c .before .before .before .before .before .read-record .ensures)
 
 pub scan-frame-spec : {M : Type 1} → statement M
 scan-frame-spec =

@@ -3,12 +3,13 @@ use mathlib.Core.Path.{_≡_, sym, ap, ap₂, _∙_, subst}
 use native.Mathlib.Omega.{arith}
 use borrow.Author.Needs.{needs}
 use lib.IntN.{pos, _-ℤ_, natAbs}
-use lib.Signed.{ltZ, leZ, natAbs-le}
+use lib.Signed.{ltZ, leZ}
 use mir.Syntax.{w32, w64}
 use mir.Val.{SFits, toZ, ofZ}
 use mir.ValLaws.{toZ-ofZ}
 use Rattle.rules.specs.Record.{codeRange}
-use Rattle.records.proofs.Ranges.{wider, widened, turned, at-most}
+use Rattle.rules.proofs.Signs.{wider, widened, magnitude-le, magnitude-below}
+use Rattle.records.proofs.Ranges.{at-most}
 use Rattle.records.proofs.legal_code.Statement.{statement}
 use Rattle.records.proofs.legal_code.Tie as tie
 
@@ -30,12 +31,12 @@ range-back c = toZ-ofZ w64 (c .code-range .result) (record { sfits = c .code-ran
 minus : (c : tie.Then1) → pos 0 -ℤ toZ w64 (ofZ w64 (toZ w32 (ofZ w32 (c .before .before .args .code)))) ≡ pos (natAbs (c .before .before .args .code))
 minus c =
     let s = c .before .before in
-    ap (λ z. pos 0 -ℤ z) (code-back s) ∙ turned (s .args .code) (sym (ap (λ z. ltZ z (pos 0)) (code-back s)) ∙ c .if1 .taken)
+    ap (λ z. pos 0 -ℤ z) (code-back s) ∙ magnitude-below (s .args .code) (sym (ap (λ z. ltZ z (pos 0)) (code-back s)) ∙ c .if1 .taken)
 
 sub-result : tie.Need-sub-result
 sub-result c =
     let s = c .before .before in
-    subst (λ z. SFits w64 z) (sym (minus c)) (record { sfits = omega (arith, natAbs-le (s .args .code) (s .fits .code .sfits)) })
+    subst (λ z. SFits w64 z) (sym (minus c)) (record { sfits = omega (arith, magnitude-le (s .args .code) (s .fits .code)) })
 
 returns : tie.Need-returns
 returns c = ap₂ leZ (toZ-ofZ w64 _ (sub-result c) ∙ minus c) (range-back (c .before))

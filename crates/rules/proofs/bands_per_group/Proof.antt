@@ -1,25 +1,19 @@
+-- `rules::bands_per_group` meets its contract. Assumes nothing.
 use native.Mathlib.Omega.{arith}
 use Rattle.rules.specs.Layout.{bandsPerGroup, ceilDiv}
 use borrow.Author.Needs.{needs}
 use Rattle.rules.proofs.bands_per_group.Statement.{statement}
 use Rattle.rules.proofs.bands_per_group.Tie as tie
-use Rattle.rules.proofs.bands_per_group.Reads as reads
-use Rattle.rules.proofs.bands_per_group.Lts as lts
-use Rattle.rules.proofs.start.Reads as start-reads
 
--- src/lib.rt:135:21
 start-requires : tie.Need-start-requires
 start-requires c κs = search needs
 
--- src/lib.rt:135:6
 sub-result : tie.Need-sub-result
 sub-result c = search needs
 
--- src/lib.rt:135:6
 add-result : tie.Need-add-result
 add-result c = search needs
 
--- src/lib.rt:131:1
 returns : tie.Need-returns
 unfolding bandsPerGroup ceilDiv
 returns c = (rw (c .before .start .ensures .0), omega arith)

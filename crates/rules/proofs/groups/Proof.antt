@@ -1,3 +1,4 @@
+-- `rules::groups` meets its contract. Assumes nothing.
 use native.Mathlib.Omega.{arith}
 use mathlib.Core.Path.{sym, _∙_}
 use borrow.Author.Tests.{eq-eqb}
@@ -6,41 +7,29 @@ use Rattle.rules.proofs.Layouts.{groups-are}
 use borrow.Author.Needs.{needs}
 use Rattle.rules.proofs.groups.Statement.{statement}
 use Rattle.rules.proofs.groups.Tie as tie
-use Rattle.rules.proofs.groups.Reads as reads
-use Rattle.rules.proofs.groups.Lts as lts
-use Rattle.rules.proofs.bands_per_group.Reads as bands-per-group-reads
-use Rattle.rules.proofs.start.Reads as start-reads
 
--- src/lib.rt:143:9
 bands-per-group-requires : tie.Need-bands-per-group-requires
 bands-per-group-requires c κs = search needs
 
--- src/lib.rt:145:9
 returns : tie.Need-returns
 unfolding groupCount ceilDiv
 returns c = (rw (eq-eqb _ _ (sym (c .before .bands-per-group .ensures .0) ∙ c .if1 .taken)), omega arith)
 
--- src/lib.rt:147:21
 start-requires : tie.Need-start-requires
 start-requires c κs = search needs
 
--- src/lib.rt:147:6
 sub-result : tie.Need-sub-result
 sub-result c = search needs
 
--- src/lib.rt:147:38
 sub-result-2 : tie.Need-sub-result-2
 sub-result-2 c = search needs
 
--- src/lib.rt:147:6
 add-result : tie.Need-add-result
 add-result c = search needs
 
--- src/lib.rt:147:5
 div-result : tie.Need-div-result
 div-result c = search needs
 
--- src/lib.rt:139:1
 returns-2 : tie.Need-returns-2
 returns-2 c = groups-are (c .before .before .before .before .args .layout) _ _ (c .before .before .before .bands-per-group .ensures .0) (c .before .start .ensures .0) (c .before .before .if1 .left)
 

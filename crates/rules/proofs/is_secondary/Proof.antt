@@ -1,37 +1,29 @@
+-- `rules::is_secondary` meets its contract. Assumes nothing.
 use Rattle.rules.specs.Layout.{secondaryAt, kindAt}
 use borrow.Author.Needs.{needs}
 use Rattle.rules.proofs.is_secondary.Statement.{statement}
 use Rattle.rules.proofs.is_secondary.Tie as tie
-use Rattle.rules.proofs.is_secondary.Reads as reads
-use Rattle.rules.proofs.is_secondary.Lts as lts
 
--- src/lib.rt:101:17
 element-copy-out-entry : tie.Need-element-copy-out-entry
 element-copy-out-entry c = search needs
 
--- src/lib.rt:104:41
 enum-told : tie.Need-enum-told
 enum-told c = search needs
 
--- src/lib.rt:105:39
 enum-told-2 : tie.Need-enum-told-2
 enum-told-2 c = search needs
 
--- src/lib.rt:106:34
 enum-told-3 : tie.Need-enum-told-3
 enum-told-3 c = search needs
 
--- src/lib.rt:97:1
 returns : tie.Need-returns
 unfolding secondaryAt kindAt
 returns c = rw (c .enum-told .given .1)
 
--- src/lib.rt:97:1
 returns-2 : tie.Need-returns-2
 unfolding secondaryAt kindAt
 returns-2 c = rw (c .enum-told2 .given .1)
 
--- src/lib.rt:97:1
 returns-3 : tie.Need-returns-3
 unfolding secondaryAt kindAt
 returns-3 c = rw (c .enum-told3 .given .1)

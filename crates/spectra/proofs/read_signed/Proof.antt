@@ -5,13 +5,13 @@ use lib.IntN.{ℤ}
 use mir.Syntax.{w32}
 use mir.ValLaws.{toZ-ofZ}
 use borrow.Author.Needs.{needs}
-use Rattle.bits.specs.Place.{fieldAt}
+use Rattle.bits.specs.Place.{leftAt, fieldAt}
 use Rattle.bits.specs.declared.Field.the-variants as field
 use Rattle.bits.proofs.Fields.{Got, got}
 use Rattle.rules.specs.Format.{ok, number}
 use Rattle.rules.specs.Code.{magnitudeBits}
-use Rattle.spectra.specs.Told.{leftAt}
-use Rattle.spectra.proofs.Telling.{number-got, number-past, field-small, signed-cut, signed-none, signed-past, signed-in}
+use Rattle.rules.proofs.Numbers.{number-got, number-past}
+use Rattle.spectra.proofs.Telling.{field-small, signed-cut, signed-none, signed-past, signed-in}
 use Rattle.spectra.proofs.read_signed.Statement.{statement}
 use Rattle.spectra.proofs.read_signed.Tie as tie
 

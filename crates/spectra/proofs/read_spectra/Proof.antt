@@ -12,11 +12,12 @@ use mir.ValLaws.{toZ-ofZ}
 use borrow.Rule.Slice.PartMut.{same-len-mid}
 use lib.ListN.{length, take, drop, getD, set, length-set}
 use lib.Seq.{getD-take, take-suc-set, length-take-le}
+use Rattle.bits.specs.Place.{leftAt}
 use Rattle.rules.specs.Format.{ok, each}
 use Rattle.rules.specs.Reading.{readCode}
-use Rattle.spectra.specs.Told.{leftAt, Told}
+use Rattle.spectra.specs.Told.{Told}
 use Rattle.spectra.proofs.Telling.{cut-code}
-use Rattle.spectra.proofs.Turns.{onto, onto-none, each-turn, each-stop, each-end}
+use Rattle.rules.proofs.Turns.{onto, onto-none, each-turn, each-stop, each-end}
 use Rattle.spectra.proofs.Padding.{cleared-front, cleared-blank}
 use Rattle.spectra.proofs.read_spectra.Statement.{statement}
 use Rattle.spectra.proofs.read_spectra.Tie as tie

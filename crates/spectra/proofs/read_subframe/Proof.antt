@@ -4,15 +4,17 @@ use Prim.Native.Nat.{_+_, _-_, _*_, _≤_}
 use native.Mathlib.Omega.{arith}
 use borrow.Author.Needs.{needs}
 use lib.ListN.{length, take}
+use Rattle.bits.specs.Place.{leftAt}
 use Rattle.buffers.proofs.Build.{back-width}
 use Rattle.rules.specs.Format.{each}
 use Rattle.rules.specs.Layout.{codedAt, part}
 use Rattle.rules.specs.Reading.{readCode}
-use Rattle.spectra.specs.Told.{leftAt, Stored}
+use Rattle.spectra.specs.Told.{Stored}
 use Rattle.spectra.specs.Rows.{Subframe}
 use Rattle.spectra.proofs.Channels.{Upto, upto-none, upto-all, upto-stop, upto-more}
-use Rattle.spectra.proofs.Padding.{lent-length, renewed-length}
-use Rattle.spectra.proofs.Small.{part-small}
+use Rattle.rules.proofs.Cuts.{renewed-length}
+use Rattle.buffers.proofs.Most.{part-most}
+use Rattle.spectra.proofs.Padding.{lent-length}
 use Rattle.spectra.proofs.read_subframe.Statement.{statement}
 use Rattle.spectra.proofs.read_subframe.Tie as tie
 
@@ -70,7 +72,8 @@ part-read-spectra-end-2 c = search needs
 read-spectra-requires : tie.Need-read-spectra-requires Inv-loop μ-loop
 read-spectra-requires c κs =
     let a = c .before .before .before .before .before .before .before in
-    ((search needs, search needs), (search needs, search needs, search needs, part-small (c .before .before .before .before .loop .c * 128 + 128 - c .before .before .before .before .loop .c * 128) (c .before .before .before .before .loop .c * 128) (a .args .resolutions .now) (a .pre .1 .1 .2)))
+    let at = c .before .before .before .before .loop .c * 128 in
+    ((search needs, search needs), (search needs, search needs, search needs, part-most 15 at (at + 128 - at) (a .args .resolutions .now) (a .pre .1 .1 .2)))
 
 -- the row's place in the buffer, its length, and what it told
 fits : (c : tie.After-read-spectra Inv-loop μ-loop) → let n = c .before .before .before .before .before .loop in let a = c .before .before .before .before .before .before .before .before .args in
@@ -98,7 +101,7 @@ same-length c =
     let r = c .before .before .before in
     let l = r .before .before .before .before .before .loop in
     let a = r .before .before .before .before .before .before .before .before .args in
-    renewed-length (l .c * 8 + a .subframe) (l .codes) (r .read-spectra .last .1 .1 .1 .1 .0) (fits r) (long r) ∙ l .inv .same
+    renewed-length 128 (l .c * 8 + a .subframe) (l .codes) (r .read-spectra .last .1 .1 .1 .1 .0) (fits r) (long r) ∙ l .inv .same
 
 returns : tie.Need-returns Inv-loop μ-loop
 returns c =

@@ -6,10 +6,9 @@ use lib.IntN.{ℤ}
 use mir.Syntax.{w32}
 use mir.ValLaws.{toZ-ofZ}
 use borrow.Author.Needs.{needs}
-use Rattle.bits.specs.Place.{lookAt}
+use Rattle.bits.specs.Place.{leftAt, lookAt}
 use Rattle.rules.specs.Format.{ok}
 use Rattle.spectra.specs.Seen.{wordBits}
-use Rattle.spectra.specs.Told.{leftAt}
 use Rattle.spectra.proofs.Ahead.{look-small}
 use Rattle.spectra.proofs.Telling.{word-in, word-past}
 use Rattle.spectra.proofs.read_word.Statement.{statement}

@@ -1,7 +1,8 @@
 -- `packing::header::write_factor` meets its contract: the first factor, width 6, and a delta. Assumes nothing.
+use Prim.Native.Nat.{_-_}
 use native.Mathlib.Omega.{arith}
 use lib.ListN.{getD}
-use Rattle.packing.specs.Parts.{before}
+use Rattle.rules.specs.Fields.{before}
 use Rattle.packing.proofs.Walks.{first-factor, six-factor, later-factor}
 use borrow.Author.Needs.{needs}
 use Rattle.packing.proofs.header.write_factor.Statement.{statement}
@@ -23,7 +24,7 @@ returns : tie.Need-returns
 returns c =
     let a = c .before .before .before .before .before .before .before .before .args in
     let w = c .before .before .write-low .ensures in
-    (rw (first-factor (a .width) (a .factors .now) (a .i) (getD (a .factors .now) (a .i) 0) (c .before .before .before .before .if1 .taken)) (w .0), omega arith)
+    (rw (first-factor (a .width) (a .i) (getD (a .factors .now) (a .i - 1) 0) (getD (a .factors .now) (a .i) 0) (c .before .before .before .before .if1 .taken)) (w .0), omega arith)
 
 cast-write-low-2 : tie.Need-cast-write-low-2
 cast-write-low-2 c = omega (arith, c .before .before .before .shared-slice-known2 .given (c .before .before .before .before .before .before .args .i))
@@ -38,7 +39,7 @@ returns-2 : tie.Need-returns-2
 returns-2 c =
     let a = c .before .before .before .before .before .before .before .before .before .args in
     let w = c .before .before .write-low2 .ensures in
-    (rw (six-factor (a .width) (before (a .factors .now) (a .i)) (getD (a .factors .now) (a .i) 0) (c .before .before .before .before .if2 .taken)) (w .0), omega arith)
+    (rw (six-factor (a .width) (before (a .i) (getD (a .factors .now) (a .i - 1) 0)) (getD (a .factors .now) (a .i) 0) (c .before .before .before .before .if2 .taken)) (w .0), omega arith)
 
 sub-write-delta : tie.Need-sub-write-delta
 sub-write-delta c = search needs
@@ -57,7 +58,7 @@ returns-3 c =
     let a = c .before .before .before .before .before .before .before .before .before .before .args in
     let w = c .before .before .write-delta .ensures in
     let later = c .before .before .before .before .before in
-    (rw (later-factor (a .width) (a .factors .now) (a .i) (getD (a .factors .now) (a .i) 0) (later .before .if1 .left) (later .if2 .left)) (w .0), omega arith)
+    (rw (later-factor (a .width) (a .i) (getD (a .factors .now) (a .i - 1) 0) (getD (a .factors .now) (a .i) 0) (later .before .if1 .left) (later .if2 .left)) (w .0), omega arith)
 
 pub write-factor-spec : {M : Type 1} → statement M
 write-factor-spec =

@@ -3,14 +3,13 @@ use Prim.Native.Nat.{_-_, _≤_}
 use native.Mathlib.Omega.{arith}
 use borrow.Author.Needs.{needs}
 use lib.ListN.{getD}
-use Rattle.rules.specs.Fields.{factorBits}
-use Rattle.packing.specs.Parts.{before}
+use Rattle.rules.specs.Fields.{factorBits, before}
 use Rattle.packing.proofs.Walks.{Wrote, wrote-none, wrote-more, wrote-all, factors-blocks}
 use Rattle.packing.proofs.header.write_factors.Statement.{statement}
 use Rattle.packing.proofs.header.write_factors.Tie as tie
 
 abbrev Inv-loop : tie.InvT-loop
-Inv-loop payload₀ factors coded width at₀ i₀ payload at i = (i ≤ coded) × Wrote (λ k. factorBits width (before factors k) (getD factors k 0)) 11 payload₀ (at₀ .at) i payload (at .at)
+Inv-loop payload₀ factors coded width at₀ i₀ payload at i = (i ≤ coded) × Wrote (λ k. factorBits width (before k (getD factors (k - 1) 0)) (getD factors k 0)) 11 payload₀ (at₀ .at) i payload (at .at)
 
 abbrev μ-loop : tie.MeasureT-loop
 μ-loop payload₀ factors coded width at₀ i₀ payload at i = coded - i

@@ -4,9 +4,8 @@ use native.Mathlib.Omega.{arith}
 use borrow.Author.Needs.{needs}
 use Rattle.buffers.specs.Walk.{build}
 use Rattle.rules.specs.Format.{eachBits}
-use Rattle.rules.specs.Record.{codesIn}
+use Rattle.rules.specs.Record.{resolutionsIn, codesIn}
 use Rattle.rules.specs.Fields.{codeBits}
-use Rattle.packing.specs.Parts.{resolutionsIn}
 use Rattle.packing.proofs.Walks.{Wrote, wrote-none, wrote-more, wrote-all, times-blocks}
 use Rattle.packing.proofs.spectra.write_codes.Statement.{statement}
 use Rattle.packing.proofs.spectra.write_codes.Tie as tie

@@ -6,7 +6,7 @@ use mir.Val.{SFits}
 use mir.ValLaws.{toZ-ofZ}
 use Rattle.rules.specs.Code.{codePlace}
 use Rattle.rules.specs.Fields.{smallBits}
-use Rattle.packing.proofs.Codes.{wider, widened}
+use Rattle.rules.proofs.Signs.{wider, widened}
 use borrow.Author.Needs.{needs}
 use Rattle.packing.proofs.spectra.write_small.Statement.{statement}
 use Rattle.packing.proofs.spectra.write_small.Tie as tie

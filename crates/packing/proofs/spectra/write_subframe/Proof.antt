@@ -3,12 +3,12 @@ use Prim.Native.Nat.{_+_, _-_, _*_, _≤_}
 use native.Mathlib.Omega.{arith}
 use borrow.Author.Needs.{needs}
 use Rattle.buffers.proofs.Build.{back-width}
+use Rattle.buffers.proofs.Most.{part-most}
 use Rattle.rules.specs.Format.{eachBits}
-use Rattle.rules.specs.Record.{codesIn}
+use Rattle.rules.specs.Record.{resolutionsIn, codesIn}
 use Rattle.rules.specs.Fields.{codeBits}
-use Rattle.packing.specs.Parts.{resolutionsIn}
+use Rattle.rules.proofs.Cuts.{subframe-cut}
 use Rattle.packing.proofs.Walks.{Wrote, wrote-none, wrote-more, wrote-all, each-blocks}
-use Rattle.packing.proofs.Rows.{subframe-cut, part-most}
 use Rattle.packing.proofs.spectra.write_subframe.Statement.{statement}
 use Rattle.packing.proofs.spectra.write_subframe.Tie as tie
 

@@ -5,7 +5,8 @@ use Prim.Native.Nat.{ℕ}
 use lib.ListN.{getD}
 use borrow.Author.Needs.{needs}
 use Rattle.rules.specs.Tables.{spectrumBits}
-use Rattle.quantizer.proofs.Entries.{digitOf, length-entry, length-le}
+use Rattle.quantizer.specs.Packed.{entryOf}
+use Rattle.quantizer.proofs.Entries.{length-entry, length-le}
 use Rattle.quantizer.proofs.tables.code_length.Statement.{statement}
 use Rattle.quantizer.proofs.tables.code_length.Tie as tie
 
@@ -20,7 +21,7 @@ returns c =
     let a = c .before .before .args in
     let p = c .before .before .pre in
     let is : c .digit .result ≡ getD (getD spectrumBits (a .r) []) (a .place) 0 =
-    c .digit .ensures ∙ ap (λ (n : ℕ). digitOf n (a .place)) (c .before .length-row .ensures) ∙ length-entry (a .r) (a .place) (p .0) (p .1) in
+    c .digit .ensures ∙ ap (λ (n : ℕ). entryOf n (a .place)) (c .before .length-row .ensures) ∙ length-entry (a .r) (a .place) (p .0) (p .1) in
     (is, rw is (length-le (a .r) (a .place) (p .0) (p .1)))
 
 pub code-length-spec : {M : Type 1} → statement M

@@ -5,7 +5,8 @@ use Prim.Native.Nat.{ℕ}
 use lib.ListN.{getD}
 use borrow.Author.Needs.{needs}
 use Rattle.rules.specs.Tables.{spectrumValue}
-use Rattle.quantizer.proofs.Entries.{digitOf, word-entry, word-lt}
+use Rattle.quantizer.specs.Packed.{entryOf}
+use Rattle.quantizer.proofs.Entries.{word-entry, word-lt}
 use Rattle.quantizer.proofs.tables.code_word.Statement.{statement}
 use Rattle.quantizer.proofs.tables.code_word.Tie as tie
 
@@ -20,7 +21,7 @@ returns c =
     let a = c .before .before .args in
     let p = c .before .before .pre in
     let is : c .digit .result ≡ getD (getD spectrumValue (a .r) []) (a .place) 0 =
-    c .digit .ensures ∙ ap (λ (n : ℕ). digitOf n (a .place)) (c .before .word-row .ensures) ∙ word-entry (a .r) (a .place) (p .0) (p .1) in
+    c .digit .ensures ∙ ap (λ (n : ℕ). entryOf n (a .place)) (c .before .word-row .ensures) ∙ word-entry (a .r) (a .place) (p .0) (p .1) in
     (is, rw is (word-lt (a .r) (a .place) (p .0) (p .1)))
 
 pub code-word-spec : {M : Type 1} → statement M

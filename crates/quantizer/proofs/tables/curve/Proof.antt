@@ -3,7 +3,8 @@ use mathlib.Core.Path.{_∙_, ap}
 use Prim.Native.Nat.{ℕ, _%_}
 use native.Mathlib.Omega.{arith}
 use borrow.Author.Needs.{needs}
-use Rattle.quantizer.proofs.Entries.{digitOf, curve-entry}
+use Rattle.quantizer.specs.Packed.{entryOf}
+use Rattle.quantizer.proofs.Entries.{curve-entry}
 use Rattle.quantizer.proofs.tables.curve.Statement.{statement}
 use Rattle.quantizer.proofs.tables.curve.Tie as tie
 
@@ -19,7 +20,7 @@ cast-result c = search needs
 returns : tie.Need-returns
 returns c =
     let at = c .before .before .args .at in
-    (c .digit .ensures ∙ ap (λ (n : ℕ). digitOf n (at % 16)) (c .before .curve-row .ensures) ∙ curve-entry at (c .before .before .pre), omega arith)
+    (c .digit .ensures ∙ ap (λ (n : ℕ). entryOf n (at % 16)) (c .before .curve-row .ensures) ∙ curve-entry at (c .before .before .pre), omega arith)
 
 pub curve-spec : {M : Type 1} → statement M
 curve-spec = tie.close (tie.spec curve-row-requires digit-requires cast-result returns)

@@ -1,8 +1,8 @@
 -- `read_resolved` reads the codes by the resolutions that it laid. Assumes nothing.
 use mathlib.Core.Path.{sym, _∙_, subst}
 use borrow.Author.Needs.{needs}
-use Rattle.spectra.proofs.Small.{all-small}
-use Rattle.spectra.specs.Told.{AllSmall}
+use Rattle.buffers.specs.Walk.{AtMost}
+use Rattle.quantizer.proofs.Bands.{resolutions-most}
 use Rattle.reader.proofs.Records.{resolved}
 use Rattle.reader.proofs.record.read_resolved.Statement.{statement}
 use Rattle.reader.proofs.record.read_resolved.Tie as tie
@@ -14,7 +14,7 @@ read-all-spectra-requires : tie.Need-read-all-spectra-requires
 read-all-spectra-requires c κs =
     let p = c .before .before .before .before .before .before .before .before .before .pre in
     let r = c .before .before .before .before .frame-resolutions in
-    (p .0, ((p .1 .0 .1, p .1 .0 .2), (r .kept .1 .1 .1 .1 .0 ∙ p .1 .1 .1, p .1 .1 .2, subst AllSmall (sym (r .ensures)) (all-small _ _ _ _))))
+    (p .0, ((p .1 .0 .1, p .1 .0 .2), (r .kept .1 .1 .1 .1 .0 ∙ p .1 .1 .1, p .1 .1 .2, subst (AtMost 15) (sym (r .ensures)) (resolutions-most _ _ _ _))))
 
 same-length : tie.Need-same-length
 same-length c = search needs

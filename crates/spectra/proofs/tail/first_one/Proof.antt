@@ -3,8 +3,8 @@ use mathlib.Core.Path.{_≡_, ap, _∙_}
 use Prim.Native.Nat.{ℕ, _+_, _*_, _/_}
 use native.Mathlib.Omega.{arith}
 use borrow.Author.Needs.{needs}
+use Rattle.bits.specs.Place.{leftAt}
 use Rattle.rules.specs.Reading.{firstOne}
-use Rattle.spectra.specs.Told.{leftAt}
 use Rattle.spectra.specs.Ones.{Passed}
 use Rattle.spectra.proofs.Zeros.{end-zero}
 use Rattle.spectra.proofs.tail.first_one.Statement.{statement}

@@ -1,10 +1,10 @@
--- `packing::header::side_width` meets its contract. Assumes nothing.
+-- `rules::side_width` meets its contract. Assumes nothing.
 use mathlib.Core.Path.{sym, _∙_}
 use native.Mathlib.Omega.{arith}
 use Rattle.rules.specs.Layout.{secondaryAt}
 use borrow.Author.Needs.{needs}
-use Rattle.packing.proofs.header.side_width.Statement.{statement}
-use Rattle.packing.proofs.header.side_width.Tie as tie
+use Rattle.rules.proofs.side_width.Statement.{statement}
+use Rattle.rules.proofs.side_width.Tie as tie
 
 is-secondary-requires : tie.Need-is-secondary-requires
 is-secondary-requires c κs = search needs

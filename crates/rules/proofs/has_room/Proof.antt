@@ -1,10 +1,10 @@
--- `writer::enough` meets its contract. Assumes nothing.
+-- `rules::has_room` meets its contract. Assumes nothing.
 use mathlib.Core.Path.{sym}
 use native.Mathlib.Omega.{arith}
 use borrow.Author.Needs.{needs}
-use Rattle.writer.proofs.Answers.{room-true, room-false}
-use Rattle.writer.proofs.enough.Statement.{statement}
-use Rattle.writer.proofs.enough.Tie as tie
+use Rattle.rules.proofs.Layouts.{room-true, room-false}
+use Rattle.rules.proofs.has_room.Statement.{statement}
+use Rattle.rules.proofs.has_room.Tie as tie
 
 mul-if1 : tie.Need-mul-if1
 mul-if1 c = search needs
@@ -30,6 +30,6 @@ returns-4 c = sym (room-false _ _ (λ h. omega arith))
 returns-5 : tie.Need-returns-5
 returns-5 c = sym (room-true _ _ (search needs))
 
-pub enough-spec : {M : Type 1} → statement M
-enough-spec =
+pub has-room-spec : {M : Type 1} → statement M
+has-room-spec =
     tie.close (tie.spec mul-if1 returns mul-if2 returns-2 mul-if3 returns-3 returns-4 returns-5)
