@@ -5,40 +5,36 @@ use Prim.Native.Nat.{ℕ, _≤_}
 use lib.Dec.{leb, ltb}
 use lib.Ieee.{Float}
 use Rattle.buffers.specs.Walk.{first}
-use Rattle.rules.specs.Layout.{legalLayout, frameSize, spectrumLength, factorLength, sideLength}
+use Rattle.rules.specs.Layout.{legalLayout, spectrumLength, sideLength, hasRoom, Enough}
 use Rattle.rules.specs.Refusals.{refused}
 use Rattle.rules.specs.Stage.{Lent, Left, kept, badIntensity, badSpectrum}
 use Rattle.rules.specs.declared.Layout.{Layout}
-use Rattle.gate.specs.declared.Room.{Room}
+use Rattle.rules.specs.declared.Room.{Room}
+use Rattle.gate.specs.declared.Lengths.{Lengths}
 use Rattle.gate.specs.declared.Gate.{Gate}
 use Rattle.gate.specs.declared.Gate.the-variants.{Open, BadLayout, ShortBuffer, BadIntensity, BadSpectrum}
 
-abbrev pub roomOf : ℕ → ℕ → ℕ → ℕ → ℕ → ℕ → ℕ → Room
-roomOf xs is sc co fa si fr = record { spectra = xs; intensities = is; scaled = sc; codes = co; factors = fa; side = si; frame = fr }
+abbrev pub lengthsOf : ℕ → ℕ → ℕ → Room → Lengths
+lengthsOf xs is sc room = record { spectra = xs; intensities = is; scaled = sc; stored = room }
 
 -- rules' `stageRoom`, of lengths
-unfoldable pub roomB : Layout → Room → Bool
-roomB l r =
-    leb (spectrumLength l) (r .spectra) && (leb (sideLength l) (r .intensities) && (leb (spectrumLength l) (r .scaled)
-    && (leb (spectrumLength l) (r .codes) && (leb (factorLength l) (r .factors) && (leb (sideLength l) (r .side)
-    && leb (frameSize l) (r .frame))))))
+unfoldable pub longEnough : Layout → Lengths → Bool
+longEnough l r =
+    leb (spectrumLength l) (r .spectra) && (leb (sideLength l) (r .intensities) && (leb (spectrumLength l) (r .scaled) && hasRoom l (r .stored)))
 
 -- the same as facts
-pub record Enough (l : Layout) (r : Room) : Type 0 where
+pub record Long (l : Layout) (r : Lengths) : Type 0 where
   pub spectra : spectrumLength l ≤ r .spectra
   pub intensities : sideLength l ≤ r .intensities
   pub scaled : spectrumLength l ≤ r .scaled
-  pub codes : spectrumLength l ≤ r .codes
-  pub factors : factorLength l ≤ r .factors
-  pub side : sideLength l ≤ r .side
-  pub frame : frameSize l ≤ r .frame
+  pub stored : Enough l (r .stored)
 
-unfoldable pub gateOf : Layout → Room → List Float → List ℕ → Gate
+unfoldable pub gateOf : Layout → Lengths → List Float → List ℕ → Gate
 gateOf l r xs is =
     let intensity = first (badIntensity l is) (sideLength l) in
     let spectrum = first (badSpectrum xs) (spectrumLength l) in
     cond (not (legalLayout l)) BadLayout
-    (cond (not (roomB l r)) ShortBuffer
+    (cond (not (longEnough l r)) ShortBuffer
     (cond (ltb intensity (sideLength l)) (BadIntensity intensity)
     (cond (ltb spectrum (spectrumLength l)) (BadSpectrum spectrum)
     Open)))

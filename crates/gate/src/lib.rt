@@ -5,9 +5,11 @@ ghost use lib.ListN.{length};
 ghost use Rattle.buffers.specs.Walk.{first};
 ghost use Rattle.rules.specs.Layout.{Sizes};
 ghost use Rattle.rules.specs.Stage.{badIntensity, badSpectrum};
-ghost use Rattle.gate.specs.Gate.{roomB, gateOf};
+ghost use Rattle.gate.specs.Gate.{longEnough, gateOf};
 use floats::finite;
 use rules::Layout;
+use rules::Room;
+use rules::has_room;
 use rules::is_secondary;
 use rules::legal;
 
@@ -19,47 +21,31 @@ pub enum Gate {
     BadSpectrum(usize),
 }
 
-// The lengths of the lent buffers.
-pub struct Room {
+// The lengths of the lent buffers; `stored` has those of a record and its frame.
+pub struct Lengths {
     pub spectra: usize,
     pub intensities: usize,
     pub scaled: usize,
-    pub codes: usize,
-    pub factors: usize,
-    pub side: usize,
-    pub frame: usize,
+    pub stored: Room,
 }
 
 // A longer buffer is fine.
-fn enough(layout: Layout, room: Room) -> bool
+fn enough(layout: Layout, lengths: Lengths) -> bool
     requires { ⌜ Sizes layout ⌝ }
-    ensures { λ r. ⌜ r ≡ roomB layout room ⌝ }
+    ensures { λ r. ⌜ r ≡ longEnough layout lengths ⌝ }
 {
     let n = layout.channels * 1024;
     let k = layout.channels * 8;
-    let m = layout.channels * 128;
-    if room.spectra < n {
+    if lengths.spectra < n {
         return false;
     }
-    if room.intensities < k {
+    if lengths.intensities < k {
         return false;
     }
-    if room.scaled < n {
+    if lengths.scaled < n {
         return false;
     }
-    if room.codes < n {
-        return false;
-    }
-    if room.factors < m {
-        return false;
-    }
-    if room.side < k {
-        return false;
-    }
-    if room.frame < layout.frame_size {
-        return false;
-    }
-    true
+    has_room(layout, lengths.stored)
 }
 
 // n if there is none.
@@ -96,12 +82,12 @@ fn first_bad_spectrum(spectra: &[f32], n: usize) -> usize
 }
 
 // The first refusal in document 01's order. The lengths come by value, so that only two slices travel.
-pub fn check(layout: Layout, room: Room, spectra: &[f32], intensities: &[u8]) -> Gate
-    requires { ⌜ (room .spectra ≡ length (now spectra)) × (room .intensities ≡ length (now intensities)) ⌝ }
-    ensures { λ r. ⌜ r ≡ gateOf layout room (now (spectra .entry)) (now (intensities .entry)) ⌝ }
+pub fn check(layout: Layout, lengths: Lengths, spectra: &[f32], intensities: &[u8]) -> Gate
+    requires { ⌜ (lengths .spectra ≡ length (now spectra)) × (lengths .intensities ≡ length (now intensities)) ⌝ }
+    ensures { λ r. ⌜ r ≡ gateOf layout lengths (now (spectra .entry)) (now (intensities .entry)) ⌝ }
 {
     if legal(layout) {
-        if enough(layout, room) {
+        if enough(layout, lengths) {
             let k = layout.channels * 8;
             let i = first_bad_intensity(layout, intensities, k);
             if i < k {

@@ -11,7 +11,7 @@ use Rattle.floats.specs.Single.{absF, heldF, maxF, minF, folded, zeroF, oneF, n
 use Rattle.crc.specs.Check.{checksum}
 use Rattle.rules.specs.Tables.{scalingTable, resolutionCurve, stepTable, deadZoneTable, maxBitTable, spectrumBits, spectrumValue}
 use Rattle.rules.specs.Signed.{heldZ}
-use Rattle.rules.specs.Layout.{legalLayout, kindAt, kindsOf, secondaryAt, ceilDiv, bandsPerGroup, groupCount, codedAt, sidesAt}
+use Rattle.rules.specs.Layout.{legalLayout, kindAt, kindsOf, secondaryAt, ceilDiv, bandsPerGroup, groupCount, codedAt, sidesAt, hasRoom}
 use Rattle.rules.specs.Factor.{countLe, factorOf, peakOf, bandFactor, channelFactors, allFactors}
 use Rattle.rules.specs.Scaling.{scaleOf, scaledValue, scaledBand, channelScaled, allScaled}
 use Rattle.rules.specs.Hfr.{taken, groupAverage, spectrumAverage, sourceAverage, groupValue, hfrScale, channelSide, allSide}
@@ -149,7 +149,7 @@ hfr = record {
 }
 
 pub right : Right five × Right six × Right secondary × Right quiet × Right loud × Right later × Right removed × Right hfr
-unfolding legalLayout stageRoom allFinite madeRecord allFactors channelFactors bandFactor peakOf factorOf countLe scalingTable folded maxF absF build blocks allScaled channelScaled scaledBand scaledValue heldF allSide channelSide groupCount bandsPerGroup ceilDiv secondaryAt kindAt codedAt sidesAt removing next halving narrowing exceeds usedBits fixedBits spectralBits headerBits channelBits bandBits valueBits resolutionAt resolution resolutionIn noiseAt width widthCost allZero cost sumTo lastOf allCodes channelCodes codeAt recOf fields kindsOf codeBits resolutionsOf bits ofBits le lt rawCode stepOf stepShift codePlace stepTable spectrumBits toSigned add mul heldZ clearPair clearTwo codeOf maxBitTable magnitudeBits codeLimit curvePosition heldPosition resolutionCurve deadZoneTable scaleOf neg div spectrumValue smallBits cheaper deltaCost laterCost near deltaBits deltaSymbol hfrScale spectrumAverage sourceAverage groupAverage taken noAverage withEight mean meanF groupValue minF ofInt
+unfolding legalLayout stageRoom hasRoom allFinite madeRecord allFactors channelFactors bandFactor peakOf factorOf countLe scalingTable folded maxF absF build blocks allScaled channelScaled scaledBand scaledValue heldF allSide channelSide groupCount bandsPerGroup ceilDiv secondaryAt kindAt codedAt sidesAt removing next halving narrowing exceeds usedBits fixedBits spectralBits headerBits channelBits bandBits valueBits resolutionAt resolution resolutionIn noiseAt width widthCost allZero cost sumTo lastOf allCodes channelCodes codeAt recOf fields kindsOf codeBits resolutionsOf bits ofBits le lt rawCode stepOf stepShift codePlace stepTable spectrumBits toSigned add mul heldZ clearPair clearTwo codeOf maxBitTable magnitudeBits codeLimit curvePosition heldPosition resolutionCurve deadZoneTable scaleOf neg div spectrumValue smallBits cheaper deltaCost laterCost near deltaBits deltaSymbol hfrScale spectrumAverage sourceAverage groupAverage taken noAverage withEight mean meanF groupValue minF ofInt
 right = (refl, refl, refl, refl, refl, refl, refl, refl)
 
 -- and the bytes of some frames

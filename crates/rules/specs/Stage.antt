@@ -108,8 +108,7 @@ cleared l t o = record {
 unfoldable pub stageRoom : Layout → Lent → Bool
 stageRoom l t =
     leb (spectrumLength l) (length (t .spectra)) && (leb (sideLength l) (length (t .intensities)) && (leb (spectrumLength l) (length (t .scaled))
-    && (leb (spectrumLength l) (length (t .codes)) && (leb (factorLength l) (length (t .factors)) && (leb (sideLength l) (length (t .side))
-    && leb (frameSize l) (length (t .frame)))))))
+    && hasRoom l (roomOf (length (t .factors)) (length (t .side)) (length (t .codes)) (length (t .frame)))))
 
 -- a secondary's intensity above 15; a spectrum NaN or infinite, any band
 unfoldable pub badIntensity : Layout → List ℕ → ℕ → Bool

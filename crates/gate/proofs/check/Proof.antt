@@ -4,7 +4,7 @@ use native.Mathlib.Omega.{arith}
 use borrow.Author.Tests.{lt-ltb, le-ltb}
 use Rattle.rules.proofs.Layouts.{legal-sizes}
 use Rattle.gate.specs.Gate.{gateOf}
-use Rattle.gate.proofs.Rooms.{room-facts}
+use Rattle.gate.proofs.Rooms.{long-facts}
 use borrow.Author.Needs.{needs}
 use Rattle.gate.proofs.check.Statement.{statement}
 use Rattle.gate.proofs.check.Tie as tie
@@ -21,7 +21,7 @@ mul-k c = omega (arith, legal-sizes _ (sym (c .before .before .before .before .l
 first-bad-intensity-requires : tie.Need-first-bad-intensity-requires
 first-bad-intensity-requires c κs =
     let s = legal-sizes _ (sym (c .before .before .before .before .legal .ensures) ∙ c .before .before .before .if1 .taken) in
-    let e = room-facts _ _ (sym (c .before .before .enough .ensures) ∙ c .before .if2 .taken) in
+    let e = long-facts _ _ (sym (c .before .before .enough .ensures) ∙ c .before .if2 .taken) in
     (omega (arith, s), omega (arith, e))
 
 returns : tie.Need-returns
@@ -41,7 +41,7 @@ mul-n c = omega (arith, legal-sizes _ (sym (c .before .before .before .before .b
 
 first-bad-spectrum-requires : tie.Need-first-bad-spectrum-requires
 first-bad-spectrum-requires c κs =
-    let e = room-facts _ _ (sym (c .before .before .before .before .before .enough .ensures) ∙ c .before .before .before .before .if2 .taken) in
+    let e = long-facts _ _ (sym (c .before .before .before .before .before .enough .ensures) ∙ c .before .before .before .before .if2 .taken) in
     omega (arith, e)
 
 returns-2 : tie.Need-returns-2

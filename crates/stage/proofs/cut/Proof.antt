@@ -31,25 +31,25 @@ slice-relend-prefix-run-2 : tie.Need-slice-relend-prefix-run-2
 slice-relend-prefix-run-2 c = search needs
 
 slice-aggregate-run-4 : tie.Need-slice-aggregate-run-4
-slice-aggregate-run-4 c = sym (length-take-le _ _ (c .before .before .before .before .before .before .before .before .before .before .before .before .before .pre .1 .codes))
+slice-aggregate-run-4 c = sym (length-take-le _ _ (c .before .before .before .before .before .before .before .before .before .before .before .before .before .pre .1 .stored .codes))
 
 slice-relend-prefix-run-3 : tie.Need-slice-relend-prefix-run-3
 slice-relend-prefix-run-3 c = search needs
 
 slice-aggregate-run-5 : tie.Need-slice-aggregate-run-5
-slice-aggregate-run-5 c = sym (length-take-le _ _ (c .before .before .before .before .before .before .before .before .before .before .before .before .before .before .pre .1 .factors))
+slice-aggregate-run-5 c = sym (length-take-le _ _ (c .before .before .before .before .before .before .before .before .before .before .before .before .before .before .pre .1 .stored .factors))
 
 slice-relend-prefix-run-4 : tie.Need-slice-relend-prefix-run-4
 slice-relend-prefix-run-4 c = search needs
 
 slice-aggregate-run-6 : tie.Need-slice-aggregate-run-6
-slice-aggregate-run-6 c = sym (length-take-le _ _ (c .before .before .before .before .before .before .before .before .before .before .before .before .before .before .before .pre .1 .side))
+slice-aggregate-run-6 c = sym (length-take-le _ _ (c .before .before .before .before .before .before .before .before .before .before .before .before .before .before .before .pre .1 .stored .side))
 
 slice-relend-prefix-run-5 : tie.Need-slice-relend-prefix-run-5
 slice-relend-prefix-run-5 c = search needs
 
 slice-aggregate-run-7 : tie.Need-slice-aggregate-run-7
-slice-aggregate-run-7 c = sym (length-take-le _ _ (c .before .before .before .before .before .before .before .before .before .before .before .before .before .before .before .before .pre .1 .frame))
+slice-aggregate-run-7 c = sym (length-take-le _ _ (c .before .before .before .before .before .before .before .before .before .before .before .before .before .before .before .before .pre .1 .stored .frame))
 
 run-requires : tie.Need-run-requires
 run-requires c κs =
@@ -59,10 +59,10 @@ run-requires c κs =
         spectra = length-take-le _ _ (s .pre .1 .spectra);
         intensities = length-take-le _ _ (s .pre .1 .intensities);
         scaled = length-take-le _ _ (s .pre .1 .scaled);
-        codes = length-take-le _ _ (s .pre .1 .codes);
-        factors = length-take-le _ _ (s .pre .1 .factors);
-        side = length-take-le _ _ (s .pre .1 .side);
-        frame = length-take-le _ _ (s .pre .1 .frame);
+        codes = length-take-le _ _ (s .pre .1 .stored .codes);
+        factors = length-take-le _ _ (s .pre .1 .stored .factors);
+        side = length-take-le _ _ (s .pre .1 .stored .side);
+        frame = length-take-le _ _ (s .pre .1 .stored .frame);
       },
     )
 
@@ -87,10 +87,10 @@ returns c =
     let r = c .before .before .before .before .before .before .before .before .before .run in
     opened _ _ _ _ _ _ _ _ _ _ _ _ _ _ _ _
     (r .kept .1 .1 .1 .0 ∙ length-take-le _ _ (s .pre .1 .scaled))
-    (r .kept .1 .1 .1 .1 .0 ∙ length-take-le _ _ (s .pre .1 .codes))
-    (r .kept .1 .1 .1 .1 .1 .0 ∙ length-take-le _ _ (s .pre .1 .factors))
-    (r .kept .1 .1 .1 .1 .1 .1 .0 ∙ length-take-le _ _ (s .pre .1 .side))
-    (r .kept .1 .1 .1 .1 .1 .1 .1 .0 ∙ length-take-le _ _ (s .pre .1 .frame))
+    (r .kept .1 .1 .1 .1 .0 ∙ length-take-le _ _ (s .pre .1 .stored .codes))
+    (r .kept .1 .1 .1 .1 .1 .0 ∙ length-take-le _ _ (s .pre .1 .stored .factors))
+    (r .kept .1 .1 .1 .1 .1 .1 .0 ∙ length-take-le _ _ (s .pre .1 .stored .side))
+    (r .kept .1 .1 .1 .1 .1 .1 .1 .0 ∙ length-take-le _ _ (s .pre .1 .stored .frame))
     (r .ensures)
 
 pub cut-spec : {M : Type 1} → statement M
