@@ -1,41 +1,22 @@
-// Replays fixed calls of the frame stage, the strict reader and the checksum, and compares what they leave. The writer's are passed over.
-use self::data::ahead;
-use self::data::clip;
-use self::data::end;
-use self::data::word;
-use self::frames::stage_case;
-use self::lines::Outcome;
-use self::lines::Tally;
-use self::lines::Word;
-use self::lines::counted;
-use self::lines::left_out;
-use self::lines::say;
-use self::lines::say_number;
-use self::lines::say_outcome;
-use self::lines::say_tally;
-use self::records::check_case;
-use self::records::read_case;
-
-mod data;
-mod frames;
-mod lines;
-mod records;
-mod sums;
-
-fn run_case(kind: usize, body: &[u8]) -> Outcome {
-    match kind {
-        1 => stage_case(body),
-        2 => read_case(body),
-        4 => check_case(body),
-        _ => left_out(true),
-    }
-}
+// Replays fixed calls of the frame stage, the strict reader, the record writer and the checksum, and compares what they leave.
+use cases::run_case;
+use vectors::data::ahead;
+use vectors::data::bytes_at;
+use vectors::data::word;
+use vectors::lines::Tally;
+use vectors::lines::Word;
+use vectors::lines::counted;
+use vectors::lines::say;
+use vectors::lines::say_outcome;
+use vectors::lines::say_tally;
+use vectors::lines::say_with;
 
 // Runs the case at a place, and says its line.
 fn replay_case(data: &[u8], at: usize, number: usize) -> Word {
     let kind = word(data, at);
-    let a = clip(ahead(at, 8), data.len());
-    let e = end(a, word(data, ahead(at, 4)), data.len());
+    let body = bytes_at(data, ahead(at, 4));
+    let a = body.start;
+    let e = body.end;
     let outcome = run_case(kind, &data[a..e]);
     say_outcome(number, kind, outcome);
     outcome.word
@@ -44,12 +25,6 @@ fn replay_case(data: &[u8], at: usize, number: usize) -> Word {
 // The place past the case at a place.
 fn past_case(data: &[u8], at: usize) -> usize {
     ahead(ahead(at, 8), word(data, ahead(at, 4)))
-}
-
-fn say_damaged(at: usize) {
-    say(b"damaged at");
-    say_number(at);
-    say(b"\n");
 }
 
 fn is_damaged(word: Word) -> bool {
@@ -71,7 +46,6 @@ fn replay_cases(data: &[u8], tally: Tally) -> Tally {
         let came = replay_case(data, at, i);
         sums = counted(sums, came);
         if is_damaged(came) {
-            say_damaged(at);
             return sums;
         }
         at = past_case(data, at);
@@ -80,20 +54,37 @@ fn replay_cases(data: &[u8], tally: Tally) -> Tally {
     sums
 }
 
-fn replay_file(path: &[u8], tally: Tally) -> Tally {
+// The head: mark, version and number of cases.
+fn replay_data(path: &[u8], data: &[u8], tally: Tally) -> Tally {
+    if word(data, 0) != 0x5641_4348 {
+        say(path);
+        say(b" damaged: no file of vectors\n");
+        return counted(tally, Word::Damaged);
+    }
+    let version = word(data, 4);
+    if version != 1 {
+        say(path);
+        say_with(b" damaged: its version is not 1 but", version);
+        say(b"\n");
+        return counted(tally, Word::Damaged);
+    }
+    replay_cases(data, tally)
+}
+
+fn replay_open(path: &[u8], fd: i32, tally: Tally) -> Tally {
     let mut data = [0u8; 131072];
+    let n = io::read_full(fd, &mut data);
+    libc::close(fd);
+    replay_data(path, &data[..n], tally)
+}
+
+fn replay_file(path: &[u8], tally: Tally) -> Tally {
     let fd = os::open_read(path);
     if fd < 0 {
         os::fail(path);
         return counted(tally, Word::Damaged);
     }
-    let n = io::read_full(fd, &mut data);
-    libc::close(fd);
-    if word(&data[..n], 0) != 0x5641_4348 {
-        say_damaged(0);
-        return counted(tally, Word::Damaged);
-    }
-    replay_cases(&data[..n], tally)
+    replay_open(path, fd, tally)
 }
 
 fn main() {

@@ -25,9 +25,6 @@ counted-requires c κs = tt
 is-damaged-requires : tie.Need-is-damaged-requires Inv-loop μ-loop
 is-damaged-requires c κs = tt
 
-say-damaged-requires : tie.Need-say-damaged-requires Inv-loop μ-loop
-say-damaged-requires c κs = tt
-
 returns : tie.Need-returns Inv-loop μ-loop
 returns c = tt
 
@@ -57,7 +54,6 @@ replay-cases-spec =
     replay-case-requires
     counted-requires
     is-damaged-requires
-    say-damaged-requires
     returns
     past-case-requires
     add-i

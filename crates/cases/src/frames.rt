@@ -1,0 +1,128 @@
+// Frame-stage cases.
+ghost use Prim.Native.Nat.{_≤_};
+use rules::Layout;
+use rules::StageAnswer;
+use vectors::data::Numbers;
+use vectors::data::ahead;
+use vectors::data::bytes_at;
+use vectors::data::clip;
+use vectors::data::numbers_at;
+use vectors::data::word;
+use vectors::layouts::can_say;
+use vectors::layouts::layout_of;
+use vectors::layouts::past_layout;
+use vectors::lines::Left;
+use vectors::lines::Outcome;
+use vectors::lines::Word;
+use vectors::lines::judged;
+use vectors::lines::not_run;
+use vectors::lines::refused;
+use vectors::runs::runs_f32;
+use vectors::sums::sum_f32;
+use vectors::sums::sum_i32;
+use vectors::sums::sum_u8;
+
+fn stage_answer(answer: StageAnswer) -> Numbers {
+    match answer {
+        StageAnswer::Delivered(level, boundary, pairs, bits) => Numbers {
+            a: 0,
+            b: level,
+            c: boundary,
+            d: pairs,
+            e: bits,
+        },
+        StageAnswer::BadLayout => refused(1, 0),
+        StageAnswer::ShortBuffer => refused(2, 0),
+        StageAnswer::BadIntensity(i) => refused(3, i),
+        StageAnswer::BadSpectrum(i) => refused(4, i),
+        StageAnswer::NoLevel(n) => refused(5, n),
+        StageAnswer::NoBoundary(n) => refused(6, n),
+        StageAnswer::TooLong => refused(7, 0),
+    }
+}
+
+// The lengths that the buffers here can be lent at.
+fn held(lengths: Numbers) -> Numbers
+    ensures { λ r. ⌜ (r .a ≤ 16384) × (r .b ≤ 16384) × (r .c ≤ 2048) × (r .d ≤ 128) × (r .e ≤ 2048) ⌝ }
+{
+    Numbers {
+        a: clip(lengths.a, 16384),
+        b: clip(lengths.b, 16384),
+        c: clip(lengths.c, 2048),
+        d: clip(lengths.d, 128),
+        e: clip(lengths.e, 2048),
+    }
+}
+
+// The sums of the buffers at their lengths.
+fn sums_of(
+    lengths: Numbers,
+    scaled: &[f32; 16384],
+    codes: &[i32; 16384],
+    factors: &[u8; 2048],
+    side: &[u8; 128],
+    frame: &[u8; 2048],
+) -> Numbers {
+    Numbers {
+        a: sum_f32(scaled, lengths.a),
+        b: sum_i32(codes, lengths.b),
+        c: sum_u8(factors, lengths.c),
+        d: sum_u8(side, lengths.d),
+        e: sum_u8(frame, lengths.e),
+    }
+}
+
+// Every byte of every written buffer is 0x5A before the call.
+fn stage_call(layout: Layout, lengths: Numbers, spectra: &[f32], intensities: &[u8]) -> Left {
+    let mut scaled = [15365221879119872.0f32; 16384];
+    let mut codes = [0x5A5A_5A5Ai32; 16384];
+    let mut factors = [0x5Au8; 2048];
+    let mut side = [0x5Au8; 128];
+    let mut frame = [0x5Au8; 2048];
+    let lent = held(lengths);
+    let a = lent.a;
+    let b = lent.b;
+    let c = lent.c;
+    let d = lent.d;
+    let e = lent.e;
+    let answer = stage::encode_frame(
+        layout,
+        spectra,
+        intensities,
+        &mut scaled[..a],
+        &mut codes[..b],
+        &mut factors[..c],
+        &mut side[..d],
+        &mut frame[..e],
+    );
+    Left {
+        answer: stage_answer(answer),
+        sums: sums_of(lengths, &scaled, &codes, &factors, &side, &frame),
+    }
+}
+
+// At a place the five lengths, then the answer and the sums that are to come.
+fn stage_run(body: &[u8], at: usize, spectra: &[f32], intensities: &[u8]) -> Outcome {
+    let lengths = numbers_at(body, at);
+    let left = stage_call(layout_of(body), lengths, spectra, intensities);
+    judged(body, ahead(at, 20), left, 40)
+}
+
+// The intensities stand behind the n spectra, and the lengths behind them.
+fn stage_parts(body: &[u8], at: usize, spectra: &[f32], n: usize) -> Outcome {
+    let intensities = bytes_at(body, at);
+    let a = intensities.start;
+    let e = intensities.end;
+    let m = clip(n, spectra.len());
+    stage_run(body, e, &spectra[..m], &body[a..e])
+}
+
+pub fn stage_case(body: &[u8]) -> Outcome {
+    if !can_say(body) {
+        return not_run(Word::Skipped);
+    }
+    let at = past_layout(body);
+    let mut spectra = [0.0f32; 16384];
+    let next = runs_f32(body, at, &mut spectra);
+    stage_parts(body, next, &spectra, word(body, at))
+}

@@ -1,0 +1,85 @@
+-- `vectors::runs::runs` is safe and ends. The buffer keeps its length. Assumes nothing.
+use mathlib.Core.Path.{_≡_, refl}
+use lib.ListN.{length}
+use native.Mathlib.Omega.{arith}
+use Prim.Native.Nat.{_-_}
+use borrow.Author.Needs.{needs}
+use Rattle.vectors.proofs.runs.runs.Statement.{statement}
+use Rattle.vectors.proofs.runs.runs.Tie as tie
+
+abbrev Inv-loop : tie.InvT-loop
+Inv-loop body place out₀ count at₀ j₀ out at j = length out ≡ length out₀
+
+abbrev μ-loop : tie.MeasureT-loop
+μ-loop body place out₀ count at₀ j₀ out at j = count - j
+
+ahead-requires : tie.Need-ahead-requires Inv-loop μ-loop
+ahead-requires c κs = tt
+
+word-requires : tie.Need-word-requires Inv-loop μ-loop
+word-requires c κs = tt
+
+clip-requires : tie.Need-clip-requires Inv-loop μ-loop
+clip-requires c κs = tt
+
+ahead-requires-2 : tie.Need-ahead-requires-2 Inv-loop μ-loop
+ahead-requires-2 c κs = tt
+
+loop-holds : tie.Need-loop-holds Inv-loop μ-loop
+loop-holds c = refl
+
+word-requires-2 : tie.Need-word-requires-2 Inv-loop μ-loop
+word-requires-2 c κs = tt
+
+ahead-requires-3 : tie.Need-ahead-requires-3 Inv-loop μ-loop
+ahead-requires-3 c κs = tt
+
+word-requires-3 : tie.Need-word-requires-3 Inv-loop μ-loop
+word-requires-3 c κs = tt
+
+clip-requires-2 : tie.Need-clip-requires-2 Inv-loop μ-loop
+clip-requires-2 c κs = tt
+
+ahead-requires-4 : tie.Need-ahead-requires-4 Inv-loop μ-loop
+ahead-requires-4 c κs = tt
+
+run-requires : tie.Need-run-requires Inv-loop μ-loop
+run-requires c κs = tt
+
+add-j : tie.Need-add-j Inv-loop μ-loop
+add-j c = omega arith
+
+loop-less : tie.Need-loop-less Inv-loop μ-loop
+loop-less c = omega arith
+
+loop-again : tie.Need-loop-again Inv-loop μ-loop
+loop-again c = search needs
+
+same-length : tie.Need-same-length Inv-loop μ-loop
+same-length c = search needs
+
+returns : tie.Need-returns Inv-loop μ-loop
+returns c = tt
+
+pub runs-spec : {M : Type 1} → statement M
+runs-spec =
+    tie.close
+    (tie.spec
+    Inv-loop
+    μ-loop
+    ahead-requires
+    word-requires
+    clip-requires
+    ahead-requires-2
+    loop-holds
+    word-requires-2
+    ahead-requires-3
+    word-requires-3
+    clip-requires-2
+    ahead-requires-4
+    run-requires
+    add-j
+    loop-less
+    loop-again
+    same-length
+    returns)
