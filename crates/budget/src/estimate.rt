@@ -4,13 +4,51 @@ ghost use Prim.Native.Nat.{_*_, _≤_, _<_};
 ghost use lib.ListN.{length};
 ghost use Rattle.rules.specs.Layout.{Sizes, sidesAt, kindAt, sideWidth, spectrumLength, factorLength};
 ghost use Rattle.rules.specs.Estimate.{bandBits, channelBits, headerBits, fixedBits, spectralBits, exceeds};
+use quantizer::counts::marks_of;
+use quantizer::counts::small_bits;
+use quantizer::counts::wide_bits;
 use quantizer::resolutions::calculate_resolution;
 use quantizer::resolutions::noise_at;
+use quantizer::tables::dead_zone;
+use quantizer::tables::magnitude_bits;
 use rules::Layout;
 use rules::coded_count;
 use widths::calculate_optimal_delta_length;
 
-// A band's eight values, of a channel's 1,024. At resolution 0 none takes a bit.
+// A band's eight values, of a channel's 1,024, below resolution 8. The sum is narrow, so that four fit side by side.
+fn small_bit_count(scaled: &[f32], band: usize, resolution: u8) -> usize
+    requires { ⌜ (length (now scaled) ≡ 1024) × (band < 128) × (resolution < 8) ⌝ }
+    ensures { λ r. ⌜ (r ≡ bandBits (now (scaled .entry)) band resolution) × (r ≤ 96) ⌝ }
+{
+    let marks = marks_of(resolution);
+    let at = band * 8;
+    let mut sum: u32 = 0;
+    let mut s = 0;
+    while s < 8 {
+        sum += small_bits(scaled[at + s], resolution, marks);
+        s += 1;
+    }
+    sum as usize
+}
+
+// The same from resolution 8 up.
+fn wide_bit_count(scaled: &[f32], band: usize, resolution: u8) -> usize
+    requires { ⌜ (length (now scaled) ≡ 1024) × (band < 128) × (8 ≤ resolution) × (resolution ≤ 15) ⌝ }
+    ensures { λ r. ⌜ (r ≡ bandBits (now (scaled .entry)) band resolution) × (r ≤ 96) ⌝ }
+{
+    let bits = magnitude_bits(resolution);
+    let dead = dead_zone(resolution);
+    let at = band * 8;
+    let mut sum: u32 = 0;
+    let mut s = 0;
+    while s < 8 {
+        sum += wide_bits(scaled[at + s], resolution, bits, dead);
+        s += 1;
+    }
+    sum as usize
+}
+
+// At resolution 0 no value takes a bit.
 pub fn spectral_bit_count(scaled: &[f32], band: usize, resolution: u8) -> usize
     requires { ⌜ (length (now scaled) ≡ 1024) × (band < 128) × (resolution ≤ 15) ⌝ }
     ensures { λ r. ⌜ (r ≡ bandBits (now (scaled .entry)) band resolution) × (r ≤ 96) ⌝ }
@@ -18,14 +56,10 @@ pub fn spectral_bit_count(scaled: &[f32], band: usize, resolution: u8) -> usize
     if resolution == 0 {
         return 0;
     }
-    let at = band * 8;
-    let mut sum: usize = 0;
-    let mut s = 0;
-    while s < 8 {
-        sum += quantizer::value_bits(scaled[at + s], resolution) as usize;
-        s += 1;
+    if resolution < 8 {
+        return small_bit_count(scaled, band, resolution);
     }
-    sum
+    wide_bit_count(scaled, band, resolution)
 }
 
 // A channel's coded bands, each resolution worked out on the way.

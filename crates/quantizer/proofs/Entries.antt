@@ -20,7 +20,7 @@ use Rattle.rules.specs.Code.{stepOf, stepShift, magnitudeBits, codeLimit}
 use Rattle.quantizer.specs.Packed.{packed, entryOf}
 
 -- two functions that give the same list
-alike : {A : Type 0} (f g : ℕ → A) (n : ℕ) → build f n ≡ build g n → (i : ℕ) → i < n → f i ≡ g i
+pub alike : {A : Type 0} (f g : ℕ → A) (n : ℕ) → build f n ≡ build g n → (i : ℕ) → i < n → f i ≡ g i
 alike f g n e i h = sym (build-at f n i (f i) h) ∙ ap (λ (l : List _). getD l i (f i)) e ∙ build-at g n i (f i) h
 
 -- none of 0 to n - 1: what the last arm of a match is left with

@@ -1,3 +1,4 @@
 pub mod Signs
 pub mod Entries
+pub mod Reaching
 pub mod Bands

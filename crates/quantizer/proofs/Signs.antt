@@ -1,12 +1,12 @@
 -- Signed numbers: the size of a sum and of a difference, what is held to a range, and a code's place. Assumes nothing.
-use mathlib.Core.Path.{_≡_, refl, subst}
+use mathlib.Core.Path.{_≡_, refl, subst, _∙_}
 use mathlib.Core.Bool.{Bool, true, false, cond}
-use Prim.Native.Nat.{ℕ, suc, _+_, _-_, _≤_, _<_, zero-le}
+use Prim.Native.Nat.{ℕ, suc, _+_, _-_, _≤_, _<_, min, zero-le}
 use native.Mathlib.Nat.{add-comm, le-refl}
 use native.Mathlib.Omega.{arith}
 use borrow.Author.Tests.{lt-ltb, le-ltb, ltb-true, ltb-false}
 use lib.Dec.{T, ltb}
-use lib.IntN.{ℤ, pos, negsuc, _+ℤ_, natAbs}
+use lib.IntN.{ℤ, pos, negsuc, _+ℤ_, _-ℤ_, natAbs}
 use lib.Signed.{mag, ltZ}
 use Rattle.rules.specs.Signed.{heldZ}
 use Rattle.rules.specs.Code.{codePlace}
@@ -65,3 +65,30 @@ place-is (negsuc n) = go (ltb 7 n) (ltb-true 7 n) (ltb-false 7 n)
         let z : suc n ≤ 8 = omega (arith, h refl) in
         let y : 8 - suc n ≤ 15 = omega arith in
         rw (le-ltb 8 (suc n) z, held-in 15 (8 - suc n) y)
+
+-- the place of a whole number less r + 1: 8 - (r + 1) higher, at most 15; of a negative one at most as high as of 0
+held-min : (top n : ℕ) → natAbs (heldTo top (pos n)) ≡ min n top
+held-min top n = go (ltb top n) refl
+  where
+    go : (t : Bool) → ltb top n ≡ t → natAbs (heldTo top (pos n)) ≡ min n top
+    go true e = let h : top < n = ltb-true top n e in rw (held-over top n h) (omega arith)
+    go false e = let h : n ≤ top = ltb-false top n e in rw (held-in top n h) (omega arith)
+
+pub place-pos : (r w : ℕ) → r < 8 → codePlace (pos w -ℤ pos (suc r)) ≡ min (7 - r + w) 15
+unfolding codePlace
+place-pos r w h = go (ltb w (suc r)) refl
+  where
+    go : (t : Bool) → ltb w (suc r) ≡ t → natAbs (heldTo 15 (pos 8 +ℤ cond t (negsuc (suc r - suc w)) (pos (w - suc r)))) ≡ min (7 - r + w) 15
+    go true e =
+        let k : w < suc r = ltb-true w (suc r) e in
+        let z : suc (suc r - suc w) ≤ 8 = omega arith in
+        rw (le-ltb 8 (suc (suc r - suc w)) z) (held-min 15 (8 - suc (suc r - suc w)) ∙ omega arith)
+    go false e = let k : suc r ≤ w = ltb-false w (suc r) e in held-min 15 (8 + (w - suc r)) ∙ omega arith
+
+pub place-neg : (r n : ℕ) → r < 8 → codePlace (negsuc n -ℤ pos (suc r)) ≤ 7 - r
+unfolding codePlace heldZ
+place-neg r n h = go (ltb 8 (suc (suc (n + r)))) refl
+  where
+    go : (t : Bool) → ltb 8 (suc (suc (n + r))) ≡ t → natAbs (heldTo 15 (cond t (negsuc (suc (suc (n + r)) - suc 8)) (pos (8 - suc (suc (n + r)))))) ≤ 7 - r
+    go true e = zero-le
+    go false e = let k : suc (suc (n + r)) ≤ 8 = ltb-false 8 (suc (suc (n + r))) e in let z = held-min 15 (8 - suc (suc (n + r))) in omega arith

@@ -3,16 +3,12 @@ ghost use mathlib.Core.Path.{_≡_};
 ghost use Prim.Native.Nat.{_≤_};
 ghost use Rattle.rules.specs.Signed.{heldZ};
 ghost use Rattle.rules.specs.Code.{rawCode, codePlace, codeOf};
-ghost use Rattle.rules.specs.Estimate.{valueBits};
-use self::tables::code_length;
-use self::tables::dead_zone;
 use self::tables::limit_of;
-use self::tables::magnitude_bits;
 use self::tables::shift_of;
 use self::tables::step_of;
-use floats::magnitude;
 use floats::truncate;
 
+pub mod counts;
 pub mod resolutions;
 pub mod tables;
 
@@ -57,21 +53,4 @@ pub fn code(scaled: f32, r: u8) -> i32
     }
     let limit = limit_of(r);
     held(raw, -limit, limit) as i32
-}
-
-// The bits that the estimate counts for a scaled value.
-pub fn value_bits(scaled: f32, r: u8) -> u32
-    requires { ⌜ r ≤ 15 ⌝ }
-    ensures { λ n. ⌜ (n ≡ valueBits r scaled) × (n ≤ 12) ⌝ }
-{
-    if r < 8 {
-        let raw = raw_code(scaled, r);
-        let place = code_place(raw);
-        return code_length(r, place);
-    }
-    let bits = magnitude_bits(r);
-    if dead_zone(r) <= magnitude(scaled) {
-        return bits + 1;
-    }
-    bits
 }
