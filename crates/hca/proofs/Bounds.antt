@@ -21,7 +21,7 @@ use Rattle.rules.specs.Frame.{payload}
 use Rattle.rules.specs.Format.{Read, ok, bad}
 use Rattle.rules.specs.Reading.{Scanned, accepted, faulty, firstOne, afterFill, afterFields, readFields, scan, strict}
 use Rattle.rules.specs.Refusals.{delivered, refused}
-use Rattle.rules.specs.Stage.{Lent, Left, stageRoom, badIntensity, badSpectrum, Made, madeRecord, finished, settled, stage, RecordLent, FrameLeft, writeRoom, lentRecord, written, FrameLent, RecordLeft, readRoom, readLeft, read}
+use Rattle.rules.specs.Stage.{Lent, Left, stageRoom, badIntensity, badSpectrum, Made, madeRecord, finished, settled, stage, RecordLent, FrameLeft, writeRoom, lentRecord, packed, written, FrameLent, RecordLeft, readRoom, readLeft, read}
 use Rattle.rules.specs.declared.Layout.{Layout}
 use Rattle.rules.proofs.Layouts.{legal-sizes}
 use Rattle.rules.proofs.Frames.{sound}
@@ -70,7 +70,7 @@ abbrev SmallFrame : FrameLeft → Type 0
 SmallFrame x = Small (x .outcome)
 
 pub written-small : (l : Layout) (t : RecordLent) → Small (written l t .outcome)
-unfolding written
+unfolding written packed
 written-small l t =
     cond-both SmallFrame (not (legalLayout l)) (λ _. small-refused 1 0 (omega arith))
     (λ a. let z = legal-sizes l (not-false _ a) in

@@ -28,15 +28,15 @@ use Rattle.headers.specs.declared.Value.{Value}
 use Rattle.headers.specs.declared.Value.the-variants as value
 use Rattle.headers.specs.declared.Step.{Step}
 use Rattle.headers.specs.declared.Step.the-variants as step
-use Rattle.headers.specs.Answers.{Told, Row, Stored, stepOf, StoredChannel, Rows, StoredChannels}
+use Rattle.headers.specs.Answers.{Told, Row, Stored, valueless, StoredChannel, Rows, StoredChannels}
 use Rattle.headers.proofs.Answered.{Hands, told-of, check-cut, check-yes, check-no}
 
 -- A REFUSAL ends what would be stored
 pub stored-cut : {s : List ℕ} {x : Read ℕ} {y : Read (List ℕ)} {m n k : ℕ} {xs : List ℕ} {r : Value} {f : Fault} {o : Step} → r ≡ value.Refused f → Told s x m r → Hands x y
-    → o ≡ stepOf r → Stored s y n k xs o
+    → o ≡ valueless r → Stored s y n k xs o
 stored-cut {s} {y} {n} {k} {xs} {f} e t h z =
     let w = told-of e t in
-    subst (λ o. Stored s y n k xs o) (sym (z ∙ ap stepOf e))
+    subst (λ o. Stored s y n k xs o) (sym (z ∙ ap valueless e))
     (record { done = record { is = h (f .number) (length (leftAt s (f .at))) (w .is); within = w .within; numbered = w .small }; row = tt })
 
 pub stored-of : {s : List ℕ} {x : Read (List ℕ)} {n k : ℕ} {xs : List ℕ} {r r′ : Step} → r ≡ r′ → Stored s x n k xs r → Stored s x n k xs r′

@@ -21,7 +21,7 @@ use Rattle.headers.specs.declared.Value.{Value}
 use Rattle.headers.specs.declared.Value.the-variants as value
 use Rattle.headers.specs.declared.Step.{Step}
 use Rattle.headers.specs.declared.Step.the-variants as step
-use Rattle.headers.specs.Answers.{Told, Row, Stored, stepOf}
+use Rattle.headers.specs.Answers.{Told, Row, Stored, valueless}
 use Rattle.headers.proofs.Answered.{told-of}
 
 -- THE VALUES, stored from the front on in a row of zeros
@@ -76,11 +76,11 @@ module _ {S : Type 0} {next : S → ℕ → S} {f : S → Unit {0} → Reader �
               ∙ ap₂ (λ d u. onto d (walk next f u (times (n - (i + 1))) (leftAt s (q .at)))) (sym (ap (λ m. take m (set xs i v)) (add-one i) ∙ take-suc-set xs i v l)) (sym y);
         }
 
-    pub going-stop : {r : Value} {d : Fault} {m : ℕ} {o : Step} → i < n → r ≡ value.Refused d → Told s (f state tt (leftAt s at)) m r → o ≡ stepOf r → Stored s x n k xs o
+    pub going-stop : {r : Value} {d : Fault} {m : ℕ} {o : Step} → i < n → r ≡ value.Refused d → Told s (f state tt (leftAt s at)) m r → o ≡ valueless r → Stored s x n k xs o
     going-stop {r} {d} h e t z =
         let u = told-of e t in
         let b = leftAt s at in
-        subst (λ o. Stored s x n k xs o) (sym (z ∙ ap stepOf e))
+        subst (λ o. Stored s x n k xs o) (sym (z ∙ ap valueless e))
         (record {
           done = record {
             is = w .is ∙ ap (λ m. onto (take i xs) (walk next f state (times m) b)) (one-more h)

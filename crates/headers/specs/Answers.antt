@@ -96,9 +96,9 @@ pub record StoredChannels (l : Layout) (s : List ℕ) (x : Read (List Chan)) (fa
   pub rows : ifDone r (Rows l factors side (l .channels))
 
 -- an answer without its value
-abbrev pub stepOf : Value → Step
-stepOf (value.Of v q) = step.At q
-stepOf (value.Refused f) = step.Refused f
+abbrev pub valueless : Value → Step
+valueless (value.Of v q) = step.At q
+valueless (value.Refused f) = step.Refused f
 
 -- a factor that a delta names, or refusal 12 where it lies outside 0..63
 abbrev pub judged : ℤ → Place → ℕ → Value

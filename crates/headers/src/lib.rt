@@ -11,7 +11,7 @@ ghost use Rattle.rules.specs.Format.{check, each, times, number};
 ghost use Rattle.rules.specs.Width.{near};
 ghost use Rattle.rules.specs.Fields.{before};
 ghost use Rattle.rules.specs.Reading.{deltaFactor, readDelta, readFactor, readFactors, readWidth, readChannel, readLevel, readBoundary};
-ghost use Rattle.headers.specs.Answers.{Inside, Told, stepOf, judged, Stored, StoredChannel, StoredChannels};
+ghost use Rattle.headers.specs.Answers.{Inside, Told, valueless, judged, Stored, StoredChannel, StoredChannels};
 use bits::Field;
 use bits::Place;
 use rules::Layout;
@@ -37,7 +37,7 @@ pub enum Step {
 impl Value {
     // The same answer without its value.
     fn step(self) -> Step
-        ensures { λ r. ⌜ r ≡ stepOf self ⌝ }
+        ensures { λ r. ⌜ r ≡ valueless self ⌝ }
     {
         match self {
             Value::Of(_, next) => Step::At(next),

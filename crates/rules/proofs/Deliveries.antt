@@ -16,7 +16,7 @@ use Rattle.rules.specs.Fields.{fields}
 use Rattle.rules.specs.Frame.{payload, frameOf}
 use Rattle.rules.specs.Reading.{Scanned, accepted, faulty, strict}
 use Rattle.rules.specs.Refusals.{delivered, refused}
-use Rattle.rules.specs.Stage.{laid, RecordLent, FrameLeft, writeRoom, lentRecord, written, FrameLent, RecordLeft, readRoom, readLeft, read}
+use Rattle.rules.specs.Stage.{laid, RecordLent, FrameLeft, writeRoom, lentRecord, packed, written, FrameLent, RecordLeft, readRoom, readLeft, read}
 use Rattle.rules.specs.declared.Layout.{Layout}
 use Rattle.rules.proofs.Layouts.{legal-true, legal-sizes, room-facts}
 use Rattle.rules.proofs.Demand3.{bytes-take, Framed, frame-length, strict-complete, strict-sound}
@@ -46,7 +46,7 @@ module _ (l : Layout) (t : RecordLent) where
     Wrote x = x .outcome ≡ delivered ns → Writes l t
 
     pub writes : written l t .outcome ≡ delivered ns → Writes l t
-    unfolding written
+    unfolding written packed
     writes =
         cond-both Wrote (not (legalLayout l)) (λ _. refusal)
         (λ a. cond-both Wrote (not (writeRoom l t)) (λ _. refusal)
@@ -58,7 +58,7 @@ module _ (l : Layout) (t : RecordLent) where
     outcome = delivered (t .level ∷ t .boundary ∷ length (fields l (lentRecord l t)) ∷ []);
     frame = laid (frameOf l (lentRecord l t)) (t .frame);
   }
-  unfolding written
+  unfolding written packed
   writes-this w = rw (legal-true l (w .sizes), w .room, w .legal, le-ltb _ _ (w .fits))
 
 -- its record is legal, the frame is the record's, and the buffers are what the record is stored as

@@ -212,14 +212,19 @@ writeRoom l t = hasRoom l (roomOf (length (t .factors)) (length (t .side)) (leng
 unfoldable pub lentRecord : Layout → RecordLent → Rec
 lentRecord l t = recOf l (t .level) (t .boundary) (t .factors) (t .side) (t .codes)
 
+-- refusals 15 and 7, of a legal layout and buffers that are long enough
+unfoldable pub packed : Layout → RecordLent → FrameLeft
+packed l t =
+    let bitCount = length (fields l (lentRecord l t)) in
+    cond (not (legalRecord l (t .level) (t .boundary) (t .factors) (t .side) (t .codes))) (record { outcome = refused 15 0; frame = t .frame })
+    (cond (ltb (payload l) bitCount) (record { outcome = refused 7 0; frame = laid (noFrame l) (t .frame) })
+    (record { outcome = delivered (t .level ∷ t .boundary ∷ bitCount ∷ []); frame = laid (frameOf l (lentRecord l t)) (t .frame) }))
+
 unfoldable pub written : Layout → RecordLent → FrameLeft
 written l t =
-    let bitCount = length (fields l (lentRecord l t)) in
     cond (not (legalLayout l)) (record { outcome = refused 1 0; frame = t .frame })
     (cond (not (writeRoom l t)) (record { outcome = refused 2 0; frame = t .frame })
-    (cond (not (legalRecord l (t .level) (t .boundary) (t .factors) (t .side) (t .codes))) (record { outcome = refused 15 0; frame = t .frame })
-    (cond (ltb (payload l) bitCount) (record { outcome = refused 7 0; frame = laid (noFrame l) (t .frame) })
-    (record { outcome = delivered (t .level ∷ t .boundary ∷ bitCount ∷ []); frame = laid (frameOf l (lentRecord l t)) (t .frame) }))))
+    (packed l t))
 
 -- THE STRICT READER
 

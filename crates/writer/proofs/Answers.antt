@@ -14,13 +14,12 @@ use Rattle.rules.specs.Record.{Rec, recOf, legalRecord}
 use Rattle.rules.specs.Fields.{fields}
 use Rattle.rules.specs.Frame.{payload, frameOf}
 use Rattle.rules.specs.Refusals.{Outcome, writeNumber}
-use Rattle.rules.specs.Stage.{laid, noFrame, FrameLeft, recordLent, frameLeft, lentRecord, written}
+use Rattle.rules.specs.Stage.{laid, noFrame, FrameLeft, recordLent, frameLeft, lentRecord, packed, written}
 use Rattle.rules.specs.declared.Layout.{Layout}
 use Rattle.rules.specs.declared.WriteAnswer.{WriteAnswer}
 use Rattle.rules.specs.declared.WriteAnswer.the-variants.{Delivered, BadLayout, ShortBuffer, NotLegal, TooLong}
 use Rattle.rules.proofs.Stores.{record-front, legal-front}
 use Rattle.rules.proofs.Demand3.{frame-length}
-use Rattle.writer.specs.Write.{opened}
 
 -- ---- the gate
 
@@ -34,8 +33,8 @@ module _ (l : Layout) (level boundary : ℕ) (F S : List ℕ) (C : List ℤ) (fr
     unfolding written writeNumber
     gate-short h = rw (e, h)
 
-    pub gate-open : hasRoom l (roomOf (length F) (length S) (length C) (length frame)) ≡ true → opened l (recordLent level boundary F S C frame) ≡ written l (recordLent level boundary F S C frame)
-    unfolding written opened
+    pub gate-open : hasRoom l (roomOf (length F) (length S) (length C) (length frame)) ≡ true → packed l (recordLent level boundary F S C frame) ≡ written l (recordLent level boundary F S C frame)
+    unfolding written
     gate-open h = rw (e, h)
 
 -- ---- the run, on a frame of the stated length
@@ -50,22 +49,22 @@ module _ (l : Layout) (level boundary : ℕ) (F S : List ℕ) (C : List ℤ) (fr
   abbrev rec : Rec
   rec = recOf l level boundary F S C
 
-  pub run-illegal : legalRecord l level boundary F S C ≡ false → frameLeft NotLegal frame ≡ opened l (recordLent level boundary F S C frame)
-  unfolding opened writeNumber
+  pub run-illegal : legalRecord l level boundary F S C ≡ false → frameLeft NotLegal frame ≡ packed l (recordLent level boundary F S C frame)
+  unfolding packed writeNumber
   run-illegal e = rw e
 
   -- what the packer answers and leaves
   module _ (z : Sizes l) (n : length frame ≡ frameSize l) (e : legalRecord l level boundary F S C ≡ true)
       (count : ℕ) (bits : count ≡ length (fields l rec)) (left : List ℕ)
       (stored : left ≡ cond (ltb (payload l) count) (replicate (frameSize l) 0) (frameOf l rec)) where
-    pub run-long : payload l < count → frameLeft TooLong left ≡ opened l (recordLent level boundary F S C frame)
-    unfolding opened writeNumber lentRecord
+    pub run-long : payload l < count → frameLeft TooLong left ≡ packed l (recordLent level boundary F S C frame)
+    unfolding packed writeNumber lentRecord
     run-long h =
         let is : left ≡ laid (noFrame l) frame = stored ∙ rw (lt-ltb _ _ h) (sym (laid-exact (noFrame l) frame (omega (arith, blank-length l)))) in
         rw (e, ← bits, lt-ltb _ _ h, is)
 
-    pub run-done : count ≤ payload l → frameLeft (Delivered level boundary count) left ≡ opened l (recordLent level boundary F S C frame)
-    unfolding opened writeNumber lentRecord
+    pub run-done : count ≤ payload l → frameLeft (Delivered level boundary count) left ≡ packed l (recordLent level boundary F S C frame)
+    unfolding packed writeNumber lentRecord
     run-done h =
         let is : left ≡ laid (frameOf l rec) frame = stored ∙ rw (le-ltb _ _ h) (sym (laid-exact (frameOf l rec) frame (omega (arith, frame-length l z rec)))) in
         rw (e, ← bits, le-ltb _ _ h, is)
@@ -95,9 +94,9 @@ behind-cond rest false false o₁ o₂ o₃ f₁ f₂ f₃ g₁ g₂ g₃ p q r 
 
 module _ (l : Layout) (z : Sizes l) (level boundary : ℕ) (F S : List ℕ) (C : List ℤ) (frame : List ℕ) (h : frameSize l ≤ length frame) where
   cut-open : behind (drop (frameSize l) frame)
-      (opened l (recordLent level boundary (take (factorLength l) F) (take (sideLength l) S) (take (spectrumLength l) C) (take (frameSize l) frame)))
-      ≡ opened l (recordLent level boundary F S C frame)
-  unfolding opened lentRecord
+      (packed l (recordLent level boundary (take (factorLength l) F) (take (sideLength l) S) (take (spectrumLength l) C) (take (frameSize l) frame)))
+      ≡ packed l (recordLent level boundary F S C frame)
+  unfolding packed lentRecord
   cut-open =
       rw (legal-front l level boundary F S C, record-front l level boundary F S C)
       (behind-cond (drop (frameSize l) frame) (not (legalRecord l level boundary F S C)) (ltb (payload l) (length (fields l (recOf l level boundary F S C)))) _ _ _ _ _ _ _ _ _
@@ -107,6 +106,6 @@ module _ (l : Layout) (z : Sizes l) (level boundary : ℕ) (F S : List ℕ) (C :
 
   -- as `cut` answers it
   pub cut-left : (answer : WriteAnswer) (left : List ℕ) →
-      frameLeft answer left ≡ opened l (recordLent level boundary (take (factorLength l) F) (take (sideLength l) S) (take (spectrumLength l) C) (take (frameSize l) frame)) →
-      frameLeft answer (left ++ drop (frameSize l) frame) ≡ opened l (recordLent level boundary F S C frame)
+      frameLeft answer left ≡ packed l (recordLent level boundary (take (factorLength l) F) (take (sideLength l) S) (take (spectrumLength l) C) (take (frameSize l) frame)) →
+      frameLeft answer (left ++ drop (frameSize l) frame) ≡ packed l (recordLent level boundary F S C frame)
   cut-left answer left e = ap (behind (drop (frameSize l) frame)) e ∙ cut-open

@@ -3,8 +3,7 @@ ghost use mathlib.Core.Path.{_≡_};
 ghost use Prim.Native.Nat.{_*_};
 ghost use lib.ListN.{length};
 ghost use Rattle.rules.specs.Layout.{Sizes, frameSize, roomOf, Enough};
-ghost use Rattle.rules.specs.Stage.{recordLent, frameLeft, written};
-ghost use Rattle.writer.specs.Write.{opened};
+ghost use Rattle.rules.specs.Stage.{recordLent, frameLeft, packed, written};
 use packing::pack_frame;
 use records::is_legal;
 use rules::Layout;
@@ -26,7 +25,7 @@ fn run(
 ) -> WriteAnswer
     requires { ⌜ Sizes layout ⌝ }
     requires { ⌜ (length (now factors) ≡ layout .channels * 128) × (length (now side) ≡ layout .channels * 8) × (length (now codes) ≡ layout .channels * 1024) × (length (now resolutions) ≡ layout .channels * 128) × (length (now frame) ≡ frameSize layout) ⌝ }
-    ensures { λ r. ⌜ frameLeft r (now (frame .exit)) ≡ opened layout (recordLent level boundary (now (factors .entry)) (now (side .entry)) (now (codes .entry)) (now (frame .entry))) ⌝ }
+    ensures { λ r. ⌜ frameLeft r (now (frame .exit)) ≡ packed layout (recordLent level boundary (now (factors .entry)) (now (side .entry)) (now (codes .entry)) (now (frame .entry))) ⌝ }
 {
     if is_legal(layout, level, boundary, factors, side, codes, resolutions) {
         let bits = pack_frame(
@@ -59,7 +58,7 @@ fn cut(
 ) -> WriteAnswer
     requires { ⌜ Sizes layout ⌝ }
     requires { ⌜ Enough layout (roomOf (length (now factors)) (length (now side)) (length (now codes)) (length (now frame))) ⌝ }
-    ensures { λ r. ⌜ frameLeft r (now (frame .exit)) ≡ opened layout (recordLent level boundary (now (factors .entry)) (now (side .entry)) (now (codes .entry)) (now (frame .entry))) ⌝ }
+    ensures { λ r. ⌜ frameLeft r (now (frame .exit)) ≡ packed layout (recordLent level boundary (now (factors .entry)) (now (side .entry)) (now (codes .entry)) (now (frame .entry))) ⌝ }
 {
     let m = layout.channels * 128;
     let k = layout.channels * 8;
