@@ -1,0 +1,106 @@
+// Files of whole frames, opened, and files that are to be whole, begun and ended.
+use files::blocks::Length;
+use files::blocks::length_of;
+use files::lines::put_number;
+use files::lines::put_text;
+use files::lines::say;
+use files::lines::say_line;
+use files::output;
+use manual::complain;
+
+// A file that ends within a frame.
+pub fn say_over(length: usize, size: usize) {
+    let mut line = [0u8; 256];
+    let a = put_number(&mut line, 0, length);
+    let b = put_text(&mut line, a, b" bytes are no whole number of frames of ");
+    let c = put_number(&mut line, b, size);
+    let d = put_text(&mut line, c, b" bytes; bytes over: ");
+    let over = if size == 0 { length } else { length % size };
+    let e = put_number(&mut line, d, over);
+    say_line(2, &mut line, e);
+}
+
+fn is_multiple(length: usize, size: usize) -> bool {
+    if size == 0 {
+        return false;
+    }
+    length % size == 0
+}
+
+fn is_whole(path: &[u8], length: Length, size: usize) -> bool {
+    match length {
+        Length::Unknown => true,
+        Length::Failed => {
+            complain(path);
+            false
+        }
+        Length::Bytes(n) => {
+            if is_multiple(n, size) {
+                return true;
+            }
+            say(2, b"hcaframe: ");
+            say(2, path);
+            say(2, b": ");
+            say_over(n, size);
+            false
+        }
+    }
+}
+
+fn open_path(path: &[u8], size: usize) -> i32 {
+    let fd = os::open_read(path);
+    if fd < 0 {
+        complain(path);
+        return -1;
+    }
+    if is_whole(path, length_of(fd), size) {
+        return fd;
+    }
+    libc::close(fd);
+    -1
+}
+
+// Opens the file that an argument names, of blocks of this size; -1 where that fails, which is said.
+pub fn open_blocks(argument: usize, size: usize) -> i32 {
+    let mut path = io::buffer();
+    let n = os::arg(argument, &mut path);
+    open_path(&path[..n], size)
+}
+
+// How many blocks the file has; the largest number where it is unknown.
+pub fn blocks_in(fd: i32, size: usize) -> usize {
+    if size == 0 {
+        return usize::MAX;
+    }
+    match length_of(fd) {
+        Length::Bytes(n) => n / size,
+        Length::Unknown => usize::MAX,
+        Length::Failed => usize::MAX,
+    }
+}
+
+// Begins the output file that an argument names; -1 where that fails, which is said.
+pub fn begin_output(argument: usize) -> i32 {
+    let mut path = io::buffer();
+    let n = os::arg(argument, &mut path);
+    let fd = output::begin(&path[..n]);
+    if fd < 0 {
+        complain(&path[..n]);
+    }
+    fd
+}
+
+// Ends it: it is there if all went well, else it never was. Answers the status.
+pub fn end_output(argument: usize, fd: i32, status: i32) -> i32 {
+    let mut path = io::buffer();
+    let n = os::arg(argument, &mut path);
+    if status != 0 {
+        output::undo(&path[..n], fd);
+        return status;
+    }
+    if output::finish(&path[..n], fd) {
+        return 0;
+    }
+    complain(&path[..n]);
+    2
+}

@@ -1,0 +1,4 @@
+// The words of hcaframe's command line, and the layout that they say.
+pub mod layouts;
+pub mod options;
+pub mod sources;
