@@ -1,7 +1,7 @@
 #!/bin/sh
-# Every test of the repository: the layout of the sources, every proof, every must-fail edit and every program; where a C compiler is at hand the
-# C example and hostile calls of the library; where cargo and g++ are, the comparisons with the Rust and with the model in their small form and the
-# Rust crate's tests. The last line is that of `rt ci`: N passed, M failed.
+# Every test of the repository: the layout of the sources, every proof, every must-fail edit and every program, and the command line on good and bad
+# words; where a C compiler is at hand the C example and hostile calls of the library; where cargo and g++ are, the comparisons with the Rust and with
+# the model in their small form and the Rust crate's tests. The last line is that of `rt ci`: N passed, M failed.
 set -eu
 cd "$(dirname "$0")/.."
 rt fmt --check
@@ -11,6 +11,7 @@ trap 'rm -f "$log" "$log.status"' EXIT
 if [ "$(cat "$log.status")" -ne 0 ]; then
     exit 1
 fi
+sh scripts/hcaframe-test.sh
 if command -v cc >/dev/null; then
     rt staticlib hca
     cc -std=c99 -Wall -Wextra -Iinclude examples/encode.c target/staticlib/libhca.a -o target/encode-example
