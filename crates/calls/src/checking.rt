@@ -1,4 +1,6 @@
 // Which frames are good.
+use answers::Refusal;
+use answers::read_refusal;
 use files::lines::put_number;
 use files::lines::put_text;
 use files::lines::say_line;
@@ -6,8 +8,6 @@ use files::places::more;
 use jobs::progress::Job;
 use jobs::progress::Run;
 use jobs::progress::counted;
-use reports::refusals::Refusal;
-use reports::refusals::read_refusal;
 use reports::refusals::say_refusal;
 use rules::Layout;
 

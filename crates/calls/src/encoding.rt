@@ -1,7 +1,9 @@
 // Spectra to frames.
+use answers::stage_refusal;
 use files::blocks::Block;
 use files::blocks::is_at_end;
 use files::blocks::next_block;
+use files::lines::put_out;
 use files::lines::say;
 use files::numbers::floats;
 use jobs::progress::Job;
@@ -9,9 +11,7 @@ use jobs::progress::Run;
 use jobs::progress::at_end;
 use jobs::progress::counted;
 use jobs::progress::ended_by;
-use jobs::progress::put_out;
 use jobs::progress::stopped;
-use reports::refusals::stage_refusal;
 use reports::table::say_stage_row;
 use rules::Layout;
 use rules::StageAnswer;
@@ -43,20 +43,12 @@ fn encode_frame(
 
 // The frame's line and bytes, or its refusal.
 fn tell(job: Job, run: Run, answer: StageAnswer, frame: &[u8]) -> Run {
-    match answer {
-        StageAnswer::Delivered(level, boundary, pairs, bits) => {
-            let is_told = say_stage_row(run.done, level, boundary, pairs, bits);
-            let is_written = put_out(job.output, frame, job.layout.frame_size);
-            counted(job, run, is_told && is_written)
-        }
-        StageAnswer::BadLayout => ended_by(run, stage_refusal(answer)),
-        StageAnswer::ShortBuffer => ended_by(run, stage_refusal(answer)),
-        StageAnswer::BadIntensity(_) => ended_by(run, stage_refusal(answer)),
-        StageAnswer::BadSpectrum(_) => ended_by(run, stage_refusal(answer)),
-        StageAnswer::NoLevel(_) => ended_by(run, stage_refusal(answer)),
-        StageAnswer::NoBoundary(_) => ended_by(run, stage_refusal(answer)),
-        StageAnswer::TooLong => ended_by(run, stage_refusal(answer)),
-    }
+    let StageAnswer::Delivered(level, boundary, pairs, bits) = answer else {
+        return ended_by(run, stage_refusal(answer));
+    };
+    let is_told = say_stage_row(run.done, level, boundary, pairs, bits);
+    let is_written = put_out(job.output, frame, job.layout.frame_size);
+    counted(job, run, is_told && is_written)
 }
 
 fn encode_block(job: Job, run: Run, block: &[u8], intensities: &[u8]) -> Run {

@@ -1,4 +1,6 @@
 // Frames to what they hold, told in words and kept as records.
+use answers::read_refusal;
+use files::lines::put_out;
 use files::numbers::put_bytes;
 use files::numbers::put_ints;
 use files::words::put_word;
@@ -6,10 +8,8 @@ use jobs::progress::Job;
 use jobs::progress::Run;
 use jobs::progress::counted;
 use jobs::progress::ended_by;
-use jobs::progress::put_out;
 use reports::dump::say_channels;
 use reports::dump::say_head;
-use reports::refusals::read_refusal;
 use rules::Layout;
 use rules::ReadAnswer;
 use words::layouts::factor_count;

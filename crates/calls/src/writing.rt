@@ -1,4 +1,6 @@
 // Records to frames.
+use answers::write_refusal;
+use files::lines::put_out;
 use files::numbers::bytes;
 use files::numbers::ints;
 use files::words::word;
@@ -6,8 +8,6 @@ use jobs::progress::Job;
 use jobs::progress::Run;
 use jobs::progress::counted;
 use jobs::progress::ended_by;
-use jobs::progress::put_out;
-use reports::refusals::write_refusal;
 use reports::table::say_record_row;
 use rules::Layout;
 use rules::WriteAnswer;

@@ -1,13 +1,14 @@
 // Frame-stage cases.
 ghost use Prim.Native.Nat.{_≤_};
+use answers::stage_refusal;
+use files::places::ahead;
+use files::places::clip;
+use files::words::word;
 use rules::Layout;
 use rules::StageAnswer;
 use vectors::data::Numbers;
-use vectors::data::ahead;
 use vectors::data::bytes_at;
-use vectors::data::clip;
 use vectors::data::numbers_at;
-use vectors::data::word;
 use vectors::layouts::can_say;
 use vectors::layouts::layout_of;
 use vectors::layouts::past_layout;
@@ -16,28 +17,22 @@ use vectors::lines::Outcome;
 use vectors::lines::Word;
 use vectors::lines::judged;
 use vectors::lines::not_run;
-use vectors::lines::refused;
+use vectors::lines::told;
 use vectors::runs::runs_f32;
 use vectors::sums::sum_f32;
 use vectors::sums::sum_i32;
 use vectors::sums::sum_u8;
 
 fn stage_answer(answer: StageAnswer) -> Numbers {
-    match answer {
-        StageAnswer::Delivered(level, boundary, pairs, bits) => Numbers {
-            a: 0,
-            b: level,
-            c: boundary,
-            d: pairs,
-            e: bits,
-        },
-        StageAnswer::BadLayout => refused(1, 0),
-        StageAnswer::ShortBuffer => refused(2, 0),
-        StageAnswer::BadIntensity(i) => refused(3, i),
-        StageAnswer::BadSpectrum(i) => refused(4, i),
-        StageAnswer::NoLevel(n) => refused(5, n),
-        StageAnswer::NoBoundary(n) => refused(6, n),
-        StageAnswer::TooLong => refused(7, 0),
+    let StageAnswer::Delivered(level, boundary, pairs, bits) = answer else {
+        return told(stage_refusal(answer));
+    };
+    Numbers {
+        a: 0,
+        b: level,
+        c: boundary,
+        d: pairs,
+        e: bits,
     }
 }
 

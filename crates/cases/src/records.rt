@@ -1,13 +1,16 @@
 // Cases of the strict reader, the record writer and the checksum.
+use answers::read_refusal;
+use answers::refused;
+use answers::write_refusal;
+use files::places::ahead;
+use files::places::clip;
+use files::words::word;
 use rules::Layout;
 use rules::ReadAnswer;
 use rules::WriteAnswer;
 use vectors::data::Numbers;
-use vectors::data::ahead;
 use vectors::data::bytes_at;
-use vectors::data::clip;
 use vectors::data::numbers_at;
-use vectors::data::word;
 use vectors::layouts::can_say;
 use vectors::layouts::layout_of;
 use vectors::layouts::past_layout;
@@ -17,25 +20,17 @@ use vectors::lines::Word;
 use vectors::lines::delivered;
 use vectors::lines::judged;
 use vectors::lines::not_run;
-use vectors::lines::refused;
+use vectors::lines::told;
 use vectors::lines::word_for;
 use vectors::runs::runs_i32;
 use vectors::sums::sum_i32;
 use vectors::sums::sum_u8;
 
 fn read_answer(answer: ReadAnswer) -> Numbers {
-    match answer {
-        ReadAnswer::Delivered(level, boundary, bits) => delivered(level, boundary, bits),
-        ReadAnswer::BadLayout => refused(1, 0),
-        ReadAnswer::ShortBuffer => refused(2, 0),
-        ReadAnswer::WrongCheck => refused(8, 0),
-        ReadAnswer::WrongSync => refused(9, 0),
-        ReadAnswer::BadLevel(n) => refused(10, n),
-        ReadAnswer::BadWidth(n) => refused(11, n),
-        ReadAnswer::BadFactor(n) => refused(12, n),
-        ReadAnswer::PastEnd(n) => refused(13, n),
-        ReadAnswer::FillNotZero(n) => refused(14, n),
-    }
+    let ReadAnswer::Delivered(level, boundary, bits) = answer else {
+        return told(read_refusal(answer));
+    };
+    delivered(level, boundary, bits)
 }
 
 // The sums of the buffers at their lengths.
@@ -93,13 +88,10 @@ pub fn read_case(body: &[u8]) -> Outcome {
 }
 
 fn write_answer(answer: WriteAnswer) -> Numbers {
-    match answer {
-        WriteAnswer::Delivered(level, boundary, bits) => delivered(level, boundary, bits),
-        WriteAnswer::BadLayout => refused(1, 0),
-        WriteAnswer::ShortBuffer => refused(2, 0),
-        WriteAnswer::NotLegal => refused(15, 0),
-        WriteAnswer::TooLong => refused(7, 0),
-    }
+    let WriteAnswer::Delivered(level, boundary, bits) = answer else {
+        return told(write_refusal(answer));
+    };
+    delivered(level, boundary, bits)
 }
 
 // The sum of the frame's first n bytes.
@@ -187,7 +179,7 @@ pub fn check_case(body: &[u8]) -> Outcome {
     let check = wide(crc::crc16_checksum(&body[a..e]));
     let is_same = check == word(body, e);
     Outcome {
-        answer: refused(0, check),
+        answer: told(refused(0, check)),
         word: word_for(is_same, ahead(e, 4) == body.len()),
     }
 }

@@ -59,8 +59,13 @@ pub fn put_int(line: &mut [u8], at: usize, x: i32) -> usize {
 // Writes the line's first n bytes and a line end; false where they could not all be written.
 pub fn say_line(fd: i32, line: &mut [u8], at: usize) -> bool {
     let end = put_text(line, at, b"\n");
-    let n = within(end, line);
-    io::write_all(fd, &line[..n])
+    put_out(fd, line, end)
+}
+
+// Writes the first n bytes, or all of them where there are fewer.
+pub fn put_out(fd: i32, data: &[u8], n: usize) -> bool {
+    let k = within(n, data);
+    io::write_all(fd, &data[..k])
 }
 
 // Writes the text as it is.

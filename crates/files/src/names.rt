@@ -1,5 +1,6 @@
 // Words of text: comparing them, and the number that one spells.
 ghost use Prim.Native.Nat.{_≤_};
+use crate::words::wide;
 
 // The number that a word spells in decimal digits, up to nine of them.
 pub enum Spelt {
@@ -19,10 +20,6 @@ pub fn is_same(a: &[u8], b: &[u8]) -> bool {
         i += 1;
     }
     true
-}
-
-fn wide(b: u8) -> usize {
-    b as usize
 }
 
 // The digit's value, or 10.

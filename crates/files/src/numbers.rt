@@ -3,6 +3,7 @@ use crate::places::ahead;
 use crate::words::bits_of;
 use crate::words::byte;
 use crate::words::int_of;
+use crate::words::low;
 use crate::words::put_byte;
 use crate::words::put_word;
 use crate::words::word;
@@ -52,14 +53,10 @@ pub fn ints(data: &[u8], place: usize, n: usize, out: &mut [i32]) {
     let mut at = place;
     let mut i = 0;
     while i < n {
-        put_number(out, i, int_of(word(data, at)));
+        put_number(out, i, int_of(word(data, at) as u32));
         at = ahead(at, 4);
         i += 1;
     }
-}
-
-fn small(n: usize) -> u8 {
-    (n % 256) as u8
 }
 
 // Takes n bytes from a place on.
@@ -67,7 +64,7 @@ pub fn bytes(data: &[u8], place: usize, n: usize, out: &mut [u8]) {
     let mut at = place;
     let mut i = 0;
     while i < n && i < out.len() {
-        out[i] = small(byte(data, at));
+        out[i] = low(byte(data, at));
         at = ahead(at, 1);
         i += 1;
     }

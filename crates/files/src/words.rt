@@ -1,10 +1,12 @@
 // Bytes and 32-bit numbers in a file, low byte first.
 ghost use Prim.Native.Nat.{_<_};
 ghost use mathlib.Core.Path.{_≡_};
+ghost use mir.Syntax.{w32};
+ghost use mir.Val.{ofZ};
 ghost use Rattle.files.specs.Signed.{flipped};
 use crate::places::ahead;
 
-fn wide(b: u8) -> usize
+pub fn wide(b: u8) -> usize
     ensures { λ r. ⌜ r < 256 ⌝ }
 {
     b as usize
@@ -42,7 +44,7 @@ pub fn put_byte(out: &mut [u8], at: usize, b: u8) {
     }
 }
 
-fn low(n: usize) -> u8 {
+pub fn low(n: usize) -> u8 {
     (n % 256) as u8
 }
 
@@ -55,21 +57,20 @@ pub fn put_word(out: &mut [u8], at: usize, n: usize) {
 }
 
 // Every bit turned over. It takes any number.
-pub fn flip(x: i32) -> i32
+fn flip(x: i32) -> i32
     ensures { λ r. ⌜ r ≡ flipped x ⌝ }
 {
     -1 - x
 }
 
-// The number that these 32 bits stand for.
-pub fn int_of(bits: usize) -> i32 {
+// The number with these bits: from 2^31 on, 2^32 less.
+pub fn int_of(bits: u32) -> i32
+    ensures { λ r. ⌜ ofZ w32 r ≡ bits ⌝ }
+{
     if bits < 2147483648 {
         return bits as i32;
     }
-    if bits < 4294967296 {
-        return flip((4294967295 - bits) as i32);
-    }
-    0
+    (bits as i64 - 4294967296) as i32
 }
 
 fn up(x: i32) -> usize {

@@ -1,13 +1,13 @@
 // What a command works on, and how far it is.
+use answers::Refusal;
 use files::blocks::Block;
 use files::lines::put_number;
+use files::lines::put_out;
 use files::lines::put_text;
 use files::lines::say;
 use files::lines::say_line;
 use files::places::more;
-use files::places::within;
 use manual::complain;
-use reports::refusals::Refusal;
 use reports::refusals::say_refusal;
 use rules::Layout;
 
@@ -59,8 +59,7 @@ fn say_progress(job: Job, done: usize) {
         let a = put_text(&mut line, 0, b"frame ");
         let b = put_number(&mut line, a, done);
         let c = put_text(&mut line, b, b"\r");
-        let n = within(c, &line);
-        say(2, &line[..n]);
+        put_out(2, &line, c);
     }
 }
 
@@ -130,10 +129,4 @@ pub fn say_total(run: Run) -> bool {
     let c = put_number(&mut line, b, run.bytes);
     let d = put_text(&mut line, c, b" bytes");
     say_line(1, &mut line, d)
-}
-
-// Writes the first n bytes to a descriptor.
-pub fn put_out(fd: i32, data: &[u8], n: usize) -> bool {
-    let k = within(n, data);
-    io::write_all(fd, &data[..k])
 }

@@ -1,12 +1,13 @@
 // Replays fixed calls of the frame stage, the strict reader, the record writer and the checksum, and compares what they leave.
 use cases::run_case;
-use vectors::data::ahead;
+use files::lines::say;
+use files::places::ahead;
+use files::words::word;
+use files::words::word_past;
 use vectors::data::bytes_at;
-use vectors::data::word;
 use vectors::lines::Tally;
 use vectors::lines::Word;
 use vectors::lines::counted;
-use vectors::lines::say;
 use vectors::lines::say_outcome;
 use vectors::lines::say_tally;
 use vectors::lines::say_with;
@@ -24,7 +25,7 @@ fn replay_case(data: &[u8], at: usize, number: usize) -> Word {
 
 // The place past the case at a place.
 fn past_case(data: &[u8], at: usize) -> usize {
-    ahead(ahead(at, 8), word(data, ahead(at, 4)))
+    ahead(ahead(at, 8), word_past(data, at, 4))
 }
 
 fn is_damaged(word: Word) -> bool {
@@ -57,15 +58,15 @@ fn replay_cases(data: &[u8], tally: Tally) -> Tally {
 // The head: mark, version and number of cases.
 fn replay_data(path: &[u8], data: &[u8], tally: Tally) -> Tally {
     if word(data, 0) != 0x5641_4348 {
-        say(path);
-        say(b" damaged: no file of vectors\n");
+        say(1, path);
+        say(1, b" damaged: no file of vectors\n");
         return counted(tally, Word::Damaged);
     }
     let version = word(data, 4);
     if version != 1 {
-        say(path);
+        say(1, path);
         say_with(b" damaged: its version is not 1 but", version);
-        say(b"\n");
+        say(1, b"\n");
         return counted(tally, Word::Damaged);
     }
     replay_cases(data, tally)

@@ -1,63 +1,11 @@
-// Document 01's refusals: the number, the number beside it, and what is told of them.
+// What is told of a refusal.
+use answers::Refusal;
+use answers::refused;
 use files::lines::put_number;
 use files::lines::put_text;
 use files::lines::say_line;
 use rules::Layout;
-use rules::ReadAnswer;
-use rules::StageAnswer;
-use rules::WriteAnswer;
 use rules::legal;
-
-// A number of 0 stands for no refusal.
-pub struct Refusal {
-    pub number: usize,
-    pub beside: usize,
-}
-
-pub fn refused(number: usize, beside: usize) -> Refusal {
-    Refusal {
-        number: number,
-        beside: beside,
-    }
-}
-
-pub fn stage_refusal(answer: StageAnswer) -> Refusal {
-    match answer {
-        StageAnswer::Delivered(_, _, _, _) => refused(0, 0),
-        StageAnswer::BadLayout => refused(1, 0),
-        StageAnswer::ShortBuffer => refused(2, 0),
-        StageAnswer::BadIntensity(i) => refused(3, i),
-        StageAnswer::BadSpectrum(i) => refused(4, i),
-        StageAnswer::NoLevel(n) => refused(5, n),
-        StageAnswer::NoBoundary(n) => refused(6, n),
-        StageAnswer::TooLong => refused(7, 0),
-    }
-}
-
-pub fn read_refusal(answer: ReadAnswer) -> Refusal {
-    match answer {
-        ReadAnswer::Delivered(_, _, _) => refused(0, 0),
-        ReadAnswer::BadLayout => refused(1, 0),
-        ReadAnswer::ShortBuffer => refused(2, 0),
-        ReadAnswer::WrongCheck => refused(8, 0),
-        ReadAnswer::WrongSync => refused(9, 0),
-        ReadAnswer::BadLevel(n) => refused(10, n),
-        ReadAnswer::BadWidth(n) => refused(11, n),
-        ReadAnswer::BadFactor(n) => refused(12, n),
-        ReadAnswer::PastEnd(n) => refused(13, n),
-        ReadAnswer::FillNotZero(n) => refused(14, n),
-    }
-}
-
-pub fn write_refusal(answer: WriteAnswer) -> Refusal {
-    match answer {
-        WriteAnswer::Delivered(_, _, _) => refused(0, 0),
-        WriteAnswer::BadLayout => refused(1, 0),
-        WriteAnswer::ShortBuffer => refused(2, 0),
-        WriteAnswer::NotLegal => refused(15, 0),
-        WriteAnswer::TooLong => refused(7, 0),
-    }
-}
 
 // What each number means.
 fn put_meaning(line: &mut [u8], at: usize, number: usize) -> usize {

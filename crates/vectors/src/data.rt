@@ -1,6 +1,11 @@
 // Numbers and parts of a file. A read past the end gives 0 and the place goes on: at a case's end the place tells whether the body was whole.
-ghost use Prim.Native.Nat.{_<_, _≤_};
+ghost use Prim.Native.Nat.{_≤_};
 ghost use lib.ListN.{length};
+use files::places::ahead;
+use files::places::clip;
+use files::places::end;
+use files::words::word;
+use files::words::word_past;
 
 // From a start to an end.
 pub struct Part {
@@ -17,73 +22,15 @@ pub struct Numbers {
     pub e: usize,
 }
 
-// The lesser of the two.
-pub fn clip(n: usize, limit: usize) -> usize
-    ensures { λ r. ⌜ r ≤ limit ⌝ }
-{
-    if limit < n { limit } else { n }
-}
-
-// n bytes from a place on, or as many as there are.
-pub fn part_at(at: usize, n: usize, len: usize) -> Part
-    ensures { λ r. ⌜ (r .start ≤ r .end) × (r .end ≤ len) ⌝ }
-{
-    let a = clip(at, len);
-    if len - a < n {
-        return Part { start: a, end: len };
-    }
-    Part {
-        start: a,
-        end: a + n,
-    }
-}
-
-// A place n further. No file is this long, so a place held at a million is past every end.
-pub fn ahead(at: usize, n: usize) -> usize {
-    if 1000000 < at {
-        return 1000000;
-    }
-    if 1000000 < n {
-        return 1000000;
-    }
-    at + n
-}
-
-fn wide(b: u8) -> usize
-    ensures { λ r. ⌜ r < 256 ⌝ }
-{
-    b as usize
-}
-
-pub fn byte(data: &[u8], at: usize) -> usize
-    ensures { λ r. ⌜ r < 256 ⌝ }
-{
-    if at < data.len() { wide(data[at]) } else { 0 }
-}
-
-// The 32-bit number at a place, low byte first.
-pub fn word(data: &[u8], at: usize) -> usize
-    ensures { λ r. ⌜ r < 4294967296 ⌝ }
-{
-    let a = byte(data, at);
-    let b = byte(data, ahead(at, 1));
-    let c = byte(data, ahead(at, 2));
-    let d = byte(data, ahead(at, 3));
-    a + 256 * b + 65536 * c + 16777216 * d
-}
-
-// The number n bytes past a place.
-pub fn word_past(data: &[u8], at: usize, n: usize) -> usize
-    ensures { λ r. ⌜ r < 4294967296 ⌝ }
-{
-    word(data, ahead(at, n))
-}
-
-// The part that is bytes with their number before them.
+// The part that is bytes with their number before them, or as many as there are.
 pub fn bytes_at(body: &[u8], at: usize) -> Part
     ensures { λ r. ⌜ (r .start ≤ r .end) × (r .end ≤ length (now (body .entry))) ⌝ }
 {
-    part_at(ahead(at, 4), word(body, at), body.len())
+    let a = clip(ahead(at, 4), body.len());
+    Part {
+        start: a,
+        end: end(a, word(body, at), body.len()),
+    }
 }
 
 pub fn numbers_at(data: &[u8], at: usize) -> Numbers {

@@ -1,53 +1,23 @@
 // The layout that a body starts with, and its kinds.
-use crate::data::ahead;
-use crate::data::byte;
-use crate::data::clip;
-use crate::data::word;
-use rules::Channel;
-use rules::ChannelType;
+use crate::data::bytes_at;
+use files::places::ahead;
+use files::places::clip;
+use files::words::byte;
+use files::words::word;
 use rules::Layout;
 
-fn channel(kind: usize) -> Channel {
-    if kind == 1 {
-        return Channel {
-            kind: ChannelType::StereoPrimary,
-        };
-    }
-    if kind == 2 {
-        return Channel {
-            kind: ChannelType::StereoSecondary,
-        };
-    }
-    Channel {
-        kind: ChannelType::Discrete,
-    }
-}
-
-// The kinds of n channels from a place on; the rest are discrete.
-fn kinds_of(body: &[u8], at: usize, n: usize) -> [Channel; 16] {
-    let mut kinds = [Channel {
-        kind: ChannelType::Discrete,
-    }; 16];
-    let mut i = 0;
-    while i < 16 {
-        if i < n {
-            kinds[i] = channel(byte(body, ahead(at, i)));
-        }
-        i += 1;
-    }
-    kinds
-}
-
 pub fn layout_of(body: &[u8]) -> Layout {
-    let kinds = kinds_of(body, 24, word(body, 0));
-    Layout {
-        channels: word(body, 0),
-        kinds: kinds,
-        base: word(body, 4),
-        stereo: word(body, 8),
-        total: word(body, 12),
-        frame_size: word(body, 16),
-    }
+    let numbers = [
+        word(body, 0) as u32,
+        word(body, 4) as u32,
+        word(body, 8) as u32,
+        word(body, 12) as u32,
+        word(body, 16) as u32,
+    ];
+    let kinds = bytes_at(body, 20);
+    let a = kinds.start;
+    let e = kinds.end;
+    interface::names::layout_of(&numbers, &body[a..e])
 }
 
 // The place past a body's layout and kinds.

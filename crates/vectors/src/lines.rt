@@ -1,8 +1,15 @@
 // What a case came to, and the line that says it.
 use crate::data::Numbers;
-use crate::data::ahead;
 use crate::data::are_same;
 use crate::data::numbers_at;
+use answers::Refusal;
+use answers::refused;
+use files::lines::put_number;
+use files::lines::put_out;
+use files::lines::put_text;
+use files::lines::say;
+use files::places::ahead;
+use files::places::more;
 
 pub enum Word {
     Same,
@@ -31,10 +38,10 @@ pub struct Tally {
 }
 
 // An answer place that no call writes holds 0x5A5A5A5A.
-pub fn refused(refusal: usize, beside: usize) -> Numbers {
+pub fn told(refusal: Refusal) -> Numbers {
     Numbers {
-        a: refusal,
-        b: beside,
+        a: refusal.number,
+        b: refusal.beside,
         c: 1515870810,
         d: 1515870810,
         e: 1515870810,
@@ -74,7 +81,7 @@ pub fn judged(body: &[u8], at: usize, left: Left, n: usize) -> Outcome {
 // Of a case that is not run.
 pub fn not_run(word: Word) -> Outcome {
     Outcome {
-        answer: refused(0, 0),
+        answer: told(refused(0, 0)),
         word: word,
     }
 }
@@ -83,36 +90,32 @@ pub fn counted(tally: Tally, word: Word) -> Tally {
     let mut t = tally;
     match word {
         Word::Same => {
-            t.same = ahead(t.same, 1);
+            t.same = more(t.same, 1);
         }
         Word::Different => {
-            t.different = ahead(t.different, 1);
+            t.different = more(t.different, 1);
         }
         Word::Skipped => {
-            t.skipped = ahead(t.skipped, 1);
+            t.skipped = more(t.skipped, 1);
         }
         Word::Damaged => {
-            t.damaged = ahead(t.damaged, 1);
+            t.damaged = more(t.damaged, 1);
         }
     }
     t
 }
 
-pub fn say(text: &[u8]) {
-    io::write_all(1, text);
-}
-
 // A number with a space before it.
 fn say_number(n: usize) {
-    let mut digits = [0u8; 20];
-    let k = io::decimal(n as u64, &mut digits);
-    say(b" ");
-    say(&digits[..k]);
+    let mut line = [0u8; 32];
+    let a = put_text(&mut line, 0, b" ");
+    let b = put_number(&mut line, a, n);
+    put_out(1, &line, b);
 }
 
 // A text, a space and a number.
 pub fn say_with(text: &[u8], n: usize) {
-    say(text);
+    say(1, text);
     say_number(n);
 }
 
@@ -148,12 +151,12 @@ fn was_run(word: Word) -> bool {
     }
 }
 
-fn say_word(word: Word) {
+fn say_word(word: Word) -> bool {
     match word {
-        Word::Same => say(b" same\n"),
-        Word::Different => say(b" DIFFERENT\n"),
-        Word::Skipped => say(b" skipped: only the C interface can say this layout\n"),
-        Word::Damaged => say(b" damaged\n"),
+        Word::Same => say(1, b" same\n"),
+        Word::Different => say(1, b" DIFFERENT\n"),
+        Word::Skipped => say(1, b" skipped: only the C interface can say this layout\n"),
+        Word::Damaged => say(1, b" damaged\n"),
     }
 }
 
@@ -173,5 +176,5 @@ pub fn say_tally(tally: Tally) {
     say_with(b" different", tally.different);
     say_with(b" skipped", tally.skipped);
     say_with(b" damaged", tally.damaged);
-    say(b"\n");
+    say(1, b"\n");
 }

@@ -1,10 +1,10 @@
 // Lists of words that are 0 but for some runs, and what the words stand for.
-ghost use mathlib.Core.Path.{_≡_};
-ghost use mir.Syntax.{w32};
-ghost use mir.Val.{ofZ};
-use crate::data::ahead;
-use crate::data::clip;
-use crate::data::word;
+use files::numbers::float_of;
+use files::places::ahead;
+use files::places::clip;
+use files::words::int_of;
+use files::words::word;
+use files::words::word_past;
 
 // A place past the end is passed over.
 fn put(out: &mut [u32], i: usize, n: u32) {
@@ -28,42 +28,16 @@ fn run(body: &[u8], place: usize, start: usize, k: usize, out: &mut [u32]) -> us
 }
 
 fn runs(body: &[u8], place: usize, out: &mut [u32]) -> usize {
-    let count = clip(word(body, ahead(place, 4)), 16384);
+    let count = clip(word_past(body, place, 4), 16384);
     let mut at = ahead(place, 8);
     let mut j = 0;
     while j < count {
         let start = word(body, at);
-        let k = clip(word(body, ahead(at, 4)), 16384);
+        let k = clip(word_past(body, at, 4), 16384);
         at = run(body, ahead(at, 8), start, k, out);
         j += 1;
     }
     at
-}
-
-fn not_a_number() -> f32 {
-    let zero = 0.0f32;
-    zero / zero
-}
-
-// The float with these bits. The bits of a NaN are not taken, and any NaN stands for it.
-fn float_of(bits: u32) -> f32 {
-    if bits % 2147483648 / 8388608 != 255 {
-        return f32::from_bits(bits);
-    }
-    if bits % 8388608 == 0 {
-        return f32::from_bits(bits);
-    }
-    not_a_number()
-}
-
-// The number with these bits: from 2^31 on, 2^32 less.
-fn signed(bits: u32) -> i32
-    ensures { λ r. ⌜ ofZ w32 r ≡ bits ⌝ }
-{
-    if bits < 2147483648 {
-        return bits as i32;
-    }
-    (bits as i64 - 4294967296) as i32
 }
 
 fn floats_of(words: &[u32], out: &mut [f32]) {
@@ -77,7 +51,7 @@ fn floats_of(words: &[u32], out: &mut [f32]) {
 fn codes_of(words: &[u32], out: &mut [i32]) {
     let mut i = 0;
     while i < words.len() && i < out.len() {
-        out[i] = signed(words[i]);
+        out[i] = int_of(words[i]);
         i += 1;
     }
 }

@@ -19,8 +19,8 @@ loop-holds c = refl
 byte-requires : tie.Need-byte-requires Inv-loop μ-loop
 byte-requires c κs = tt
 
-small-requires : tie.Need-small-requires Inv-loop μ-loop
-small-requires c κs = tt
+low-requires : tie.Need-low-requires Inv-loop μ-loop
+low-requires c κs = tt
 
 slice-write-out : tie.Need-slice-write-out Inv-loop μ-loop
 slice-write-out c = search needs
@@ -57,7 +57,7 @@ bytes-spec =
     μ-loop
     loop-holds
     byte-requires
-    small-requires
+    low-requires
     slice-write-out
     ahead-requires
     add-i

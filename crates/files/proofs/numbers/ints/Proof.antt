@@ -19,6 +19,9 @@ loop-holds c = refl
 word-requires : tie.Need-word-requires Inv-loop μ-loop
 word-requires c κs = tt
 
+cast-int-of : tie.Need-cast-int-of Inv-loop μ-loop
+cast-int-of c = search needs
+
 int-of-requires : tie.Need-int-of-requires Inv-loop μ-loop
 int-of-requires c κs = tt
 
@@ -51,6 +54,7 @@ ints-spec =
     μ-loop
     loop-holds
     word-requires
+    cast-int-of
     int-of-requires
     put-number-requires
     ahead-requires

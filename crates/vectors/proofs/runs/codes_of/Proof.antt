@@ -16,14 +16,14 @@ abbrev μ-loop : tie.MeasureT-loop
 loop-holds : tie.Need-loop-holds Inv-loop μ-loop
 loop-holds c = refl
 
-mul-signed : tie.Need-mul-signed Inv-loop μ-loop
-mul-signed c = search needs
+mul-int-of : tie.Need-mul-int-of Inv-loop μ-loop
+mul-int-of c = search needs
 
-shared-slice-read-signed : tie.Need-shared-slice-read-signed Inv-loop μ-loop
-shared-slice-read-signed c = search needs
+shared-slice-read-int-of : tie.Need-shared-slice-read-int-of Inv-loop μ-loop
+shared-slice-read-int-of c = search needs
 
-signed-requires : tie.Need-signed-requires Inv-loop μ-loop
-signed-requires c κs = tt
+int-of-requires : tie.Need-int-of-requires Inv-loop μ-loop
+int-of-requires c κs = tt
 
 mul-t11 : tie.Need-mul-t11 Inv-loop μ-loop
 mul-t11 c = search needs
@@ -59,9 +59,9 @@ codes-of-spec =
     Inv-loop
     μ-loop
     loop-holds
-    mul-signed
-    shared-slice-read-signed
-    signed-requires
+    mul-int-of
+    shared-slice-read-int-of
+    int-of-requires
     mul-t11
     slice-set-from-out
     add-i

@@ -13,35 +13,29 @@ Inv-loop body place out₀ count at₀ j₀ out at j = length out ≡ length out
 abbrev μ-loop : tie.MeasureT-loop
 μ-loop body place out₀ count at₀ j₀ out at j = count - j
 
-ahead-requires : tie.Need-ahead-requires Inv-loop μ-loop
-ahead-requires c κs = tt
-
-word-requires : tie.Need-word-requires Inv-loop μ-loop
-word-requires c κs = tt
+word-past-requires : tie.Need-word-past-requires Inv-loop μ-loop
+word-past-requires c κs = tt
 
 clip-requires : tie.Need-clip-requires Inv-loop μ-loop
 clip-requires c κs = tt
 
-ahead-requires-2 : tie.Need-ahead-requires-2 Inv-loop μ-loop
-ahead-requires-2 c κs = tt
+ahead-requires : tie.Need-ahead-requires Inv-loop μ-loop
+ahead-requires c κs = tt
 
 loop-holds : tie.Need-loop-holds Inv-loop μ-loop
 loop-holds c = refl
 
-word-requires-2 : tie.Need-word-requires-2 Inv-loop μ-loop
-word-requires-2 c κs = tt
+word-requires : tie.Need-word-requires Inv-loop μ-loop
+word-requires c κs = tt
 
-ahead-requires-3 : tie.Need-ahead-requires-3 Inv-loop μ-loop
-ahead-requires-3 c κs = tt
-
-word-requires-3 : tie.Need-word-requires-3 Inv-loop μ-loop
-word-requires-3 c κs = tt
+word-past-requires-2 : tie.Need-word-past-requires-2 Inv-loop μ-loop
+word-past-requires-2 c κs = tt
 
 clip-requires-2 : tie.Need-clip-requires-2 Inv-loop μ-loop
 clip-requires-2 c κs = tt
 
-ahead-requires-4 : tie.Need-ahead-requires-4 Inv-loop μ-loop
-ahead-requires-4 c κs = tt
+ahead-requires-2 : tie.Need-ahead-requires-2 Inv-loop μ-loop
+ahead-requires-2 c κs = tt
 
 run-requires : tie.Need-run-requires Inv-loop μ-loop
 run-requires c κs = tt
@@ -67,16 +61,14 @@ runs-spec =
     (tie.spec
     Inv-loop
     μ-loop
-    ahead-requires
-    word-requires
+    word-past-requires
     clip-requires
-    ahead-requires-2
+    ahead-requires
     loop-holds
-    word-requires-2
-    ahead-requires-3
-    word-requires-3
+    word-requires
+    word-past-requires-2
     clip-requires-2
-    ahead-requires-4
+    ahead-requires-2
     run-requires
     add-j
     loop-less

@@ -23,8 +23,8 @@ shared-slice-read-bits-f32 c = search needs
 bits-f32-requires : tie.Need-bits-f32-requires Inv-loop μ-loop
 bits-f32-requires c κs = tt
 
-wide-word-requires : tie.Need-wide-word-requires Inv-loop μ-loop
-wide-word-requires c κs = tt
+cast-mix-word : tie.Need-cast-mix-word Inv-loop μ-loop
+cast-mix-word c = search needs
 
 mix-word-requires : tie.Need-mix-word-requires Inv-loop μ-loop
 mix-word-requires c κs = tt
@@ -54,7 +54,7 @@ sum-f32-spec =
     mul-bits-f32
     shared-slice-read-bits-f32
     bits-f32-requires
-    wide-word-requires
+    cast-mix-word
     mix-word-requires
     add-i
     loop-less

@@ -14,14 +14,14 @@ abbrev μ-loop : tie.MeasureT-loop
 loop-holds : tie.Need-loop-holds Inv-loop μ-loop
 loop-holds c = tt
 
-mul-bits-i32 : tie.Need-mul-bits-i32 Inv-loop μ-loop
-mul-bits-i32 c = search needs
+mul-bits-of : tie.Need-mul-bits-of Inv-loop μ-loop
+mul-bits-of c = search needs
 
-shared-slice-copy-out-bits-i32 : tie.Need-shared-slice-copy-out-bits-i32 Inv-loop μ-loop
-shared-slice-copy-out-bits-i32 c = search needs
+shared-slice-copy-out-bits-of : tie.Need-shared-slice-copy-out-bits-of Inv-loop μ-loop
+shared-slice-copy-out-bits-of c = search needs
 
-bits-i32-requires : tie.Need-bits-i32-requires Inv-loop μ-loop
-bits-i32-requires c κs = tt
+bits-of-requires : tie.Need-bits-of-requires Inv-loop μ-loop
+bits-of-requires c κs = tt
 
 mix-word-requires : tie.Need-mix-word-requires Inv-loop μ-loop
 mix-word-requires c κs = tt
@@ -48,9 +48,9 @@ sum-i32-spec =
     Inv-loop
     μ-loop
     loop-holds
-    mul-bits-i32
-    shared-slice-copy-out-bits-i32
-    bits-i32-requires
+    mul-bits-of
+    shared-slice-copy-out-bits-of
+    bits-of-requires
     mix-word-requires
     add-i
     loop-less

@@ -1,4 +1,4 @@
--- `vectors::runs::signed` gives the number that has the bits. Assumes nothing.
+-- `files::words::int_of` gives the number that has the bits. Assumes nothing.
 use mathlib.Core.Path.{_≡_, sym, ap, _∙_, subst}
 use Prim.Native.Nat.{ℕ, suc, _-_, _<_}
 use native.Mathlib.Omega.{arith}
@@ -9,8 +9,8 @@ use mir.Syntax.{w32, w64}
 use mir.Val.{SFits, toZ, ofZ}
 use mir.ValLaws.{toZ-ofZ}
 use mir.Facts.{toZ-pos}
-use Rattle.vectors.proofs.runs.signed.Statement.{statement}
-use Rattle.vectors.proofs.runs.signed.Tie as tie
+use Rattle.files.proofs.words.int_of.Statement.{statement}
+use Rattle.files.proofs.words.int_of.Tie as tie
 
 -- 2^32 less
 less : (n : ℕ) → n < 4294967296 → pos n -ℤ pos 4294967296 ≡ negsuc (4294967295 - n)
@@ -52,6 +52,6 @@ returns-2 c =
     let e : 4294967296 - suc (4294967295 - n c) ≡ n c = omega (arith, small c) in
     ap (ofZ w32) (toZ-ofZ w32 _ (cast-result-3 c) ∙ wide c) ∙ e
 
-pub signed-spec : {M : Type 1} → statement M
-signed-spec =
+pub int-of-spec : {M : Type 1} → statement M
+int-of-spec =
     tie.close (tie.spec cast-result returns cast-result-2 sub-result cast-result-3 returns-2)
