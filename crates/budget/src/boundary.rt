@@ -5,8 +5,8 @@ ghost use lib.ListN.{length};
 ghost use Rattle.rules.specs.Layout.{Sizes, spectrumLength, factorLength};
 ghost use Rattle.rules.specs.Estimate.{exceeds};
 ghost use Rattle.rules.specs.Boundary.{searchBoundary, boundaryOf};
-use crate::estimate::header_total;
-use crate::estimate::is_over;
+use estimate::header_total;
+use estimate::is_over;
 use rules::Layout;
 
 // 128 would say that there is none; the search never comes to it.

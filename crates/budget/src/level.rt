@@ -6,8 +6,8 @@ ghost use Rattle.rules.specs.Layout.{Sizes, spectrumLength, factorLength};
 ghost use Rattle.rules.specs.Estimate.{exceeds};
 ghost use Rattle.rules.specs.Level.{levelOf, clearTwo, clearPair};
 ghost use Rattle.rules.specs.Stage.{foundOf};
-use crate::estimate::header_total;
-use crate::estimate::is_over;
+use estimate::header_total;
+use estimate::is_over;
 use rules::Layout;
 
 // 255 says that there is none.

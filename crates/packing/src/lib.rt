@@ -10,16 +10,13 @@ ghost use Rattle.rules.specs.Record.{recOf};
 ghost use Rattle.rules.specs.Resolution.{allResolutions};
 ghost use Rattle.rules.specs.Fields.{fields};
 ghost use Rattle.rules.specs.Frame.{payload, frameOf};
-use self::header::write_channels;
-use self::header::write_head;
-use self::spectra::write_codes;
 use bits::Place;
 use buffers::clear_u8;
+use code_fields::write_codes;
 use crc::seal;
+use header_fields::write_channels;
+use header_fields::write_head;
 use rules::Layout;
-
-pub mod header;
-pub mod spectra;
 
 // All fields, from the first bit on; how many bits they are.
 fn write_fields(

@@ -5,7 +5,7 @@ use native.Mathlib.Omega.{arith}
 use borrow.Author.Needs.{needs}
 use Rattle.rules.specs.Level.{halve, levelOf}
 use Rattle.rules.proofs.Levels.{level-start, halve-up, halve-down, halve-end}
-use Rattle.budget.proofs.Bits.{over}
+use Rattle.budget.proofs.Searching.{over}
 use Rattle.budget.proofs.level.binary_search_level.Statement.{statement}
 use Rattle.budget.proofs.level.binary_search_level.Tie as tie
 

@@ -7,7 +7,7 @@ use borrow.Author.Needs.{needs}
 use Rattle.rules.specs.Level.{levelOf, remove, noiseLevel}
 use Rattle.rules.specs.Stage.{foundOf}
 use Rattle.rules.proofs.Levels.{remove-done, remove-stop, remove-turn}
-use Rattle.budget.proofs.Bits.{over}
+use Rattle.budget.proofs.Searching.{over}
 use Rattle.budget.proofs.level.calculate_noise_level.Statement.{statement}
 use Rattle.budget.proofs.level.calculate_noise_level.Tie as tie
 

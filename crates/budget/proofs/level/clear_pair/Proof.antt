@@ -6,7 +6,7 @@ use native.Mathlib.Omega.{arith}
 use borrow.Author.Needs.{needs}
 use Rattle.buffers.proofs.Blocks.{Blocked, blocked-none, blocked-lent, blocked-more, blocked-exact}
 use Rattle.rules.specs.Level.{clearTwo, clearPair}
-use Rattle.budget.proofs.Bits.{clearedAt, cleared-size}
+use Rattle.budget.proofs.Searching.{clearedAt, cleared-size}
 use Rattle.budget.proofs.level.clear_pair.Statement.{statement}
 use Rattle.budget.proofs.level.clear_pair.Tie as tie
 
