@@ -176,7 +176,7 @@ fn finish(level: usize, boundary: usize, end: Place, fill: Fill) -> Found
 }
 
 // The whole record, and whether the fill after it is zero.
-pub fn read_record(
+pub(crate) fn read_record(
     layout: Layout,
     part: &[u8],
     factors: &mut [u8],
