@@ -24,8 +24,8 @@ use Rattle.rules.specs.Refusals.{delivered, refused}
 use Rattle.rules.specs.Stage.{Lent, Left, stageRoom, badIntensity, badSpectrum, Made, madeRecord, finished, settled, stage, RecordLent, FrameLeft, writeRoom, lentRecord, packed, written, FrameLent, RecordLeft, readRoom, readLeft, read}
 use Rattle.rules.specs.declared.Layout.{Layout}
 use Rattle.rules.proofs.Layouts.{legal-sizes}
-use Rattle.rules.proofs.Frames.{sound}
-use Rattle.rules.proofs.Deliveries.{front-length}
+use Rattle.demands.proofs.Frames.{sound}
+use Rattle.demands.proofs.Deliveries.{front-length}
 use Rattle.rules.proofs.Made.{made-pairs, made-boundary}
 use Rattle.interface.specs.Outcomes.{Small}
 use Rattle.interface.proofs.Fitting.{small-refused, small-three, small-four}

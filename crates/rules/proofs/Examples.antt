@@ -1,9 +1,10 @@
--- Worked frames: what the laws alone do not pin, as each refusal's number and bit.
+-- Worked frames: what the laws alone do not pin, as each refusal's number and bit; and document 01's HFR groups of 100 and 117 bands.
 use mathlib.Core.Path.{_≡_, refl}
 use mathlib.Core.List.{List, [], _∷_, _++_}
 use mathlib.Core.Bool.{Bool}
 use Prim.Native.Nat.{ℕ}
 use lib.IntN.{pos, negsuc}
+use lib.Ieee.{Float}
 use lib.ListN.{replicate, take}
 use Rattle.buffers.specs.Walk.{build}
 use Rattle.bits.specs.Bits.{bits, value, bitsOf, pack, zeros}
@@ -12,7 +13,9 @@ use Rattle.crc.specs.Sealed.{isSealed}
 use Rattle.rules.specs.Format.{number, strip, oneOf}
 use Rattle.rules.specs.Tables.{resolutionCurve, maxBitTable, spectrumBits, spectrumValue}
 use Rattle.rules.specs.Signed.{heldZ}
-use Rattle.rules.specs.Layout.{kindAt, kindsOf, ceilDiv, bandsPerGroup, groupCount}
+use Rattle.floats.specs.Single.{noAverage, withEight}
+use Rattle.rules.specs.Layout.{startBand, kindAt, kindsOf, ceilDiv, bandsPerGroup, groupCount}
+use Rattle.rules.specs.Hfr.{taken, groupAverage, spectrumAverage}
 use Rattle.rules.specs.Resolution.{noiseAt, curvePosition, heldPosition, resolutionIn, resolution, resolutionAt, resolutionsOf}
 use Rattle.rules.specs.Width.{near, laterCost, deltaCost, cost, allZero, cheaper, width}
 use Rattle.rules.specs.Code.{codePlace, magnitudeBits}
@@ -118,3 +121,13 @@ worked = record {
   sign = refl;
   fill = refl;
 }
+
+-- N = 100, total 117: g = 3, G = 6, and the last group reads band 117
+module _ (l : Layout) (start : startBand l ≡ 100) (bands : l .total ≡ 117) where
+  pub seventeen-groups : (bandsPerGroup l ≡ 3) × (groupCount l ≡ 6)
+  unfolding bandsPerGroup groupCount ceilDiv
+  seventeen-groups = (rw (start, bands), rw (start, bands))
+
+  pub past-total : (xs : List Float) → spectrumAverage l xs 5 ≡ withEight xs 117 128 (withEight xs 116 128 (withEight xs 115 128 noAverage))
+  unfolding spectrumAverage groupAverage taken bandsPerGroup ceilDiv
+  past-total xs = rw (start, bands)

@@ -23,7 +23,9 @@ use Rattle.rules.specs.Level.{clearTwo, clearPair}
 use Rattle.rules.specs.Resolution.{resolutionAt}
 use Rattle.rules.specs.Code.{codeAt, channelCodes, allCodes}
 use Rattle.rules.specs.Record.{legalRecord, CodesInRange}
-use Rattle.rules.specs.Stage.{badIntensity, made}
+use Rattle.rules.specs.Fields.{fields}
+use Rattle.rules.specs.Refusals.{delivered}
+use Rattle.rules.specs.Stage.{Lent, Made, badIntensity, made, madeRecord, finished}
 use Rattle.rules.specs.declared.Layout.{Layout}
 use Rattle.rules.proofs.Layouts.{sides-le}
 use Rattle.rules.proofs.Cuts.{by-order, length-part, part-of-front, block-part, set-keeps}
@@ -291,3 +293,9 @@ module _ (l : Layout) (spectra : List Float) (is : List ℕ) where
       → CodesInRange l (made l spectra is .found .level) (made l spectra is .boundary) (made l spectra is .found .factors) (made l spectra is .codes)
       → legalRecord l (made l spectra is .found .level) (made l spectra is .boundary) (made l spectra is .found .factors) (made l spectra is .side) (made l spectra is .codes) ≡ true
   made-legal z small h codes = held-record l _ _ _ _ _ (made-held z small h codes) made-blank
+
+-- the bits told are those that the fields take, as the estimate's are not
+pub finished-outcome : (l : Layout) (t : Lent) (m : Made) →
+    finished l t m .outcome ≡ delivered (m .found .level ∷ m .boundary ∷ m .found .pairs ∷ length (fields l (madeRecord l m)) ∷ [])
+unfolding finished
+finished-outcome l t m = refl

@@ -19,7 +19,7 @@ use Rattle.rules.specs.declared.Layout.{Layout}
 use Rattle.rules.specs.declared.WriteAnswer.{WriteAnswer}
 use Rattle.rules.specs.declared.WriteAnswer.the-variants.{Delivered, BadLayout, ShortBuffer, NotLegal, TooLong}
 use Rattle.rules.proofs.Stores.{record-front, legal-front}
-use Rattle.rules.proofs.Demand3.{frame-length}
+use Rattle.demands.proofs.Demand3.{frame-length}
 
 -- ---- the gate
 

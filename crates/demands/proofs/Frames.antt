@@ -9,18 +9,18 @@ use borrow.Author.Tests.{le-leb}
 use lib.ListN.{length, length-append, length-replicate}
 use lib.Dec.{T, leb, eqb, leb→le, eqb→eq}
 use Rattle.bits.specs.Bits.{bits, zeros}
 use Rattle.rules.specs.Format.{Read, ok, bad, Reader, each, eachBits, Each, stay, times, Lawful}
 use Rattle.rules.specs.Layout.{kindsOf, codedCount, sideCount, sideWidth}
 use Rattle.rules.specs.Record.{Rec, LegalChan, Legal, resolutions}
 use Rattle.rules.specs.Fields.{channelFields, codeBits, fields}
 use Rattle.rules.specs.Frame.{payload, payloadBits}
 use Rattle.rules.specs.Reading.{readChannel, readLevel, readBoundary, readRecord, readFields, firstOne, accepted, afterFill, afterFields, scan}
 use Rattle.rules.specs.declared.ChannelType.{ChannelType}
 use Rattle.rules.specs.declared.Layout.{Layout}
 use Rattle.rules.proofs.Formats.{iff-fits, here-fits, bind-fits, check-fits, map-fits, pair-fits, walk-fits}
 use Rattle.rules.proofs.Numbers.{leb-case, number-fits}
 use Rattle.rules.proofs.Codes.{code-fits}
-use Rattle.rules.proofs.Factors.{width-fits}
+use Rattle.demands.proofs.Factors.{width-fits}
 
 pub each-fits : {X A : Type 0} {L : X → A → Type 0} {w : X → A → List Bool} {f : X → Reader A} → ((x : X) → Lawful (L x) (w x) (f x))
     → (xs : List X) → Lawful (Each L xs) (eachBits w xs) (each f xs)

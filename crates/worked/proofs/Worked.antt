@@ -2,15 +2,10 @@
 use mathlib.Core.Path.{_≡_, ap}
 use mathlib.Core.List.{List, [], _∷_}
 use native.Mathlib.Omega.{arith}
-use lib.Ieee.{Float}
-use Rattle.floats.specs.Single.{noAverage, withEight}
-use Rattle.rules.specs.Layout.{startBand, ceilDiv, bandsPerGroup, groupCount}
-use Rattle.rules.specs.Hfr.{taken, groupAverage, spectrumAverage}
 use Rattle.rules.specs.Refusals.{delivered, refused}
 use Rattle.rules.specs.Stage.{Left, stage}
-use Rattle.rules.specs.declared.Layout.{Layout}
-use Rattle.rules.proofs.Runs.{Example, lent, run-outcome, run-none, run-frame}
-use Rattle.rules.proofs.Inputs.{five, six, secondary, quiet, loud, later, removed, hfr, right, frames, fiveBytes, quietBytes, loudBytes, laterBytes}
+use Rattle.worked.proofs.Runs.{Example, lent, run-outcome, run-none, run-frame}
+use Rattle.worked.proofs.Inputs.{five, six, secondary, quiet, loud, later, removed, hfr, right, frames, fiveBytes, quietBytes, loudBytes, laterBytes}
 
 -- what the stage leaves on an example's spectra
 abbrev pub left : Example → Left
@@ -51,13 +46,3 @@ loud-frame = run-frame loud (right .4) _ (frames .2) (omega arith) (omega arith)
 
 pub later-frame : left later .frame ≡ laterBytes
 later-frame = run-frame later (right .5) _ (frames .3) (omega arith) (omega arith) (omega arith)
-
--- N = 100, total 117: g = 3, G = 6, and the last group reads band 117
-module _ (l : Layout) (start : startBand l ≡ 100) (bands : l .total ≡ 117) where
-  pub seventeen-groups : (bandsPerGroup l ≡ 3) × (groupCount l ≡ 6)
-  unfolding bandsPerGroup groupCount ceilDiv
-  seventeen-groups = (rw (start, bands), rw (start, bands))
-
-  pub past-total : (xs : List Float) → spectrumAverage l xs 5 ≡ withEight xs 117 128 (withEight xs 116 128 (withEight xs 115 128 noAverage))
-  unfolding spectrumAverage groupAverage taken bandsPerGroup ceilDiv
-  past-total xs = rw (start, bands)

@@ -15,20 +15,21 @@ use lib.ListN.{length, getD, take, length-replicate}
 use lib.Seq.{take-all}
 use Rattle.buffers.specs.Walk.{firstFrom}
 use Rattle.buffers.proofs.Tests.{and-fst, and-snd}
 use Rattle.rules.specs.Layout.{legalLayout, startBand, spectrumLength, sideLength}
 use Rattle.rules.specs.Factor.{allFactors}
 use Rattle.rules.specs.Scaling.{allScaled}
 use Rattle.rules.specs.Hfr.{allSide}
 use Rattle.rules.specs.Estimate.{exceeds}
 use Rattle.rules.specs.Level.{halve, levelOf, clearPair, Found, remove, noiseLevel}
 use Rattle.rules.specs.Boundary.{lastOf, narrow, searchBoundary, boundaryOf}
 use Rattle.rules.specs.Code.{allCodes}
 use Rattle.rules.specs.Fields.{fields}
 use Rattle.rules.specs.Frame.{payload, frameOf}
 use Rattle.rules.specs.Refusals.{delivered, refused}
 use Rattle.rules.specs.Stage.{Lent, Made, noFloats, noCodes, noFactors, noSide, noFrame, laid, cleared, stageRoom, badIntensity, badSpectrum, foundOf, boundaryFor, made, madeRecord, finished, settled, stage}
 use Rattle.rules.specs.declared.Layout.{Layout}
 use Rattle.rules.proofs.Cuts.{getD-copies}
+use Rattle.rules.proofs.Made.{finished-outcome}
 
 -- ---- the searches, branch by branch
 
@@ -225,8 +226,7 @@ module _ (e : Example) (r : Right e) where
 
   pub run-outcome : e .made .found .level ≤ 254 → e .made .boundary ≤ 127 → e .bits ≤ payload (e .layout) →
       (stage (e .layout) (lent (e .layout) (e .spectra))) .outcome ≡ delivered (e .made .found .level ∷ e .made .boundary ∷ e .made .found .pairs ∷ e .bits ∷ [])
-  unfolding finished
-  run-outcome h b n = ap (λ x. x .outcome) (run-delivered h b n) ∙ rw counted
+  run-outcome h b n = ap (λ x. x .outcome) (run-delivered h b n) ∙ finished-outcome _ _ (e .made) ∙ rw counted
 
   pub run-frame : (bytes : List ℕ) → frameOf (e .layout) (madeRecord (e .layout) (e .made)) ≡ bytes → e .made .found .level ≤ 254 → e .made .boundary ≤ 127 →
       e .bits ≤ payload (e .layout) → (stage (e .layout) (lent (e .layout) (e .spectra))) .frame ≡ laid bytes (noFrame (e .layout))

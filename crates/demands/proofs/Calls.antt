@@ -7,17 +7,17 @@ use Prim.Native.Nat.{ℕ, _≤_}
 use lib.IntN.{ℤ}
 use lib.ListN.{length, take}
 use Rattle.bits.specs.Bits.{Bytes}
 use Rattle.rules.specs.Layout.{legalLayout, Sizes, frameSize, spectrumLength, factorLength, sideLength}
 use Rattle.rules.specs.Record.{Rec, recOf, legalRecord, storeFactors, storeSide, storeCodes}
 use Rattle.rules.specs.Fields.{fields}
 use Rattle.rules.specs.Frame.{payload, frameOf}
 use Rattle.rules.specs.Reading.{accepted, strict}
 use Rattle.rules.specs.Refusals.{delivered}
 use Rattle.rules.specs.Stage.{laid, RecordLent, FrameLeft, writeRoom, lentRecord, written, FrameLent, RecordLeft, readRoom, read}
 use Rattle.rules.specs.declared.Layout.{Layout}
-use Rattle.rules.proofs.Demand3.{Framed, strict-complete, injective}
+use Rattle.demands.proofs.Demand3.{Framed, strict-complete, injective}
 use Rattle.rules.proofs.Stores.{record-front, legal-front}
-use Rattle.rules.proofs.Deliveries.{writes, writes-this, writes-legal, writes-frame, writes-stored, RecordWith, reads, reads-this, framed-reads, reads-framed, reads-record, reads-legal}
+use Rattle.demands.proofs.Deliveries.{writes, writes-this, writes-legal, writes-frame, writes-stored, RecordWith, reads, reads-this, framed-reads, reads-framed, reads-record, reads-legal}
 
 -- ---- what the statements name
 

@@ -11,14 +11,14 @@ use Rattle.bits.specs.Bits.{Bytes, bitsOf, pack}
 use Rattle.bits.proofs.Numbers.{length-bits-of, length-pack, bits-pack, pack-bits, bytes-pack}
 use Rattle.crc.specs.Sealed.{body, sealed, isSealed}
 use Rattle.crc.proofs.Sealed.{length-sealed, body-sealed, bytes-sealed, is-sealed-sealed, is-sealed-only}
 use Rattle.rules.specs.Layout.{Sizes, frameSize}
 use Rattle.rules.specs.Record.{Rec, Legal}
 use Rattle.rules.specs.Fields.{fields}
 use Rattle.rules.specs.Frame.{payload, payloadBits, frameOf}
 use Rattle.rules.specs.Reading.{accepted, faulty, scan, strict}
 use Rattle.rules.specs.declared.Layout.{Layout}
 use Rattle.rules.proofs.Numbers.{bool-case}
-use Rattle.rules.proofs.Frames.{payload-length, complete, sound}
+use Rattle.demands.proofs.Frames.{payload-length, complete, sound}
 
 pub bytes-take : (n : ℕ) (f : List ℕ) → Bytes f → Bytes (take n f)
 bytes-take zero f b = tt

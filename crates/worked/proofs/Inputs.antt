@@ -9,26 +9,26 @@ use Rattle.bits.specs.Bits.{bits, value, bitsOf, pack}
 use Rattle.buffers.specs.Walk.{build, blocks, sumTo}
 use Rattle.floats.specs.Single.{absF, heldF, maxF, minF, folded, zeroF, oneF, noAverage, withEight, meanF, mean}
 use Rattle.crc.specs.Check.{checksum}
 use Rattle.rules.specs.Tables.{scalingTable, resolutionCurve, stepTable, deadZoneTable, maxBitTable, spectrumBits, spectrumValue}
 use Rattle.rules.specs.Signed.{heldZ}
 use Rattle.rules.specs.Layout.{legalLayout, kindAt, kindsOf, secondaryAt, ceilDiv, bandsPerGroup, groupCount, codedAt, sidesAt, hasRoom}
 use Rattle.rules.specs.Factor.{countLe, factorOf, peakOf, bandFactor, channelFactors, allFactors}
 use Rattle.rules.specs.Scaling.{scaleOf, scaledValue, scaledBand, channelScaled, allScaled}
 use Rattle.rules.specs.Hfr.{taken, groupAverage, spectrumAverage, sourceAverage, groupValue, hfrScale, channelSide, allSide}
 use Rattle.rules.specs.Resolution.{noiseAt, curvePosition, heldPosition, resolutionIn, resolution, resolutionAt, resolutionsOf}
 use Rattle.rules.specs.Width.{near, laterCost, deltaCost, cost, allZero, cheaper, width, widthCost}
 use Rattle.rules.specs.Code.{stepOf, stepShift, rawCode, magnitudeBits, codeLimit, codeOf, codePlace, codeAt, channelCodes, allCodes}
 use Rattle.rules.specs.Estimate.{valueBits, bandBits, channelBits, headerBits, fixedBits, spectralBits, usedBits, exceeds}
 use Rattle.rules.specs.Level.{clearTwo, clearPair}
 use Rattle.rules.specs.Boundary.{lastOf}
 use Rattle.rules.specs.Record.{Rec, recOf}
 use Rattle.rules.specs.Fields.{deltaSymbol, deltaBits, smallBits, codeBits, fields}
 use Rattle.rules.specs.Frame.{payloadBits, frameOf}
 use Rattle.rules.specs.Stage.{stageRoom, madeRecord, noFloats, noCodes, noFactors, noSide}
-use Rattle.rules.proofs.Runs.{halving, narrowing, next, removing, allFinite, Example, Right}
+use Rattle.worked.proofs.Runs.{halving, narrowing, next, removing, allFinite, Example, Right}
 use Rattle.rules.specs.declared.ChannelType.{ChannelType}
 use Rattle.rules.specs.declared.ChannelType.the-variants.{Discrete, StereoSecondary}
 use Rattle.rules.specs.declared.Layout.{Layout}
 
 -- channels of one kind, with so many bands and HFR bands
 abbrev pub uniform : ChannelType → ℕ → ℕ → ℕ → ℕ → Layout

@@ -10,18 +10,18 @@ use lib.ListN.{length, take, drop}
 use lib.Seq.{length-take-le, take-at}
 use Rattle.bits.specs.Bits.{Bytes}
 use Rattle.buffers.proofs.Tests.{cond-both}
 use Rattle.rules.specs.Layout.{legalLayout, Sizes, frameSize, spectrumLength, factorLength, sideLength, roomOf, Enough}
 use Rattle.rules.specs.Record.{Rec, Legal, recOf, legalRecord, storeFactors, storeSide, storeCodes}
 use Rattle.rules.specs.Fields.{fields}
 use Rattle.rules.specs.Frame.{payload, frameOf}
 use Rattle.rules.specs.Reading.{Scanned, accepted, faulty, strict}
 use Rattle.rules.specs.Refusals.{delivered, refused}
 use Rattle.rules.specs.Stage.{laid, RecordLent, FrameLeft, writeRoom, lentRecord, packed, written, FrameLent, RecordLeft, readRoom, readLeft, read}
 use Rattle.rules.specs.declared.Layout.{Layout}
 use Rattle.rules.proofs.Layouts.{legal-true, legal-sizes, room-facts}
-use Rattle.rules.proofs.Demand3.{bytes-take, Framed, frame-length, strict-complete, strict-sound}
+use Rattle.demands.proofs.Demand3.{bytes-take, Framed, frame-length, strict-complete, strict-sound}
 use Rattle.rules.proofs.Stores.{stored, record-front, legal-front}
 use Rattle.rules.proofs.Legality.{record-legal, stored-legal, restored}
 
 -- a refusal is no delivery
 refusal : {A : Type 0} {k p : ℕ} {ns : List ℕ} → refused k p ≡ delivered ns → A

@@ -11,20 +11,20 @@ use lib.IntN.{ℤ}
 use lib.Ieee.{Float}
 use lib.ListN.{length, take, drop, length-append}
 use Rattle.buffers.proofs.Tests.{and-true}
 use Rattle.rules.specs.Layout.{Sizes, frameSize, spectrumLength, factorLength, sideLength, hasRoom, part}
 use Rattle.rules.specs.Record.{Rec, recOf, legalRecord, CodesInRange}
 use Rattle.rules.specs.Frame.{payload, frameOf}
 use Rattle.rules.specs.Refusals.{delivered}
 use Rattle.rules.specs.Stage.{laid, Lent, Left, madeRecord, finished, stage, RecordLent, FrameLeft, writeRoom, written, FrameLent, readRoom, read}
 use Rattle.rules.specs.declared.Layout.{Layout}
 use Rattle.rules.proofs.Layouts.{legal-sizes}
 use Rattle.rules.proofs.Cuts.{part-of-front}
-use Rattle.rules.proofs.Demand3.{frame-length}
+use Rattle.demands.proofs.Demand3.{frame-length}
 use Rattle.rules.proofs.Stores.{record-front, legal-front}
 use Rattle.rules.proofs.Made.{front-small, made-factors, made-side, made-codes, made-legal}
-use Rattle.rules.proofs.Deliveries.{laid-front}
-use Rattle.rules.proofs.Calls.{Holds, handed, Packed, packed-written, read-after-write}
-use Rattle.rules.proofs.StageAnswers.{Passes, madeBy, levelBy, boundaryBy, bitsBy, passes, boundary-small, ends-done, delivers}
+use Rattle.demands.proofs.Deliveries.{laid-front}
+use Rattle.demands.proofs.Calls.{Holds, handed, Packed, packed-written, read-after-write}
+use Rattle.demands.proofs.StageAnswers.{Passes, madeBy, levelBy, boundaryBy, bitsBy, passes, boundary-small, ends-done, delivers}
 
 -- ---- buffers of the stated lengths, laid over longer ones, hold what they held
 

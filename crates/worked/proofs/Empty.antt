@@ -5,12 +5,12 @@ use mathlib.Core.List.{List, [], _∷_}
 use Prim.Native.Nat.{ℕ}
 use native.Mathlib.Omega.{arith}
 use lib.ListN.{getD}
 use Rattle.rules.specs.Frame.{frameOf}
 use Rattle.rules.specs.Refusals.{delivered, refused}
 use Rattle.rules.specs.Stage.{laid, noSide, noFrame, made, madeRecord}
-use Rattle.rules.proofs.Runs.{run-made}
-use Rattle.rules.proofs.Inputs.{five, six, secondary, quiet, loud, later, removed, right, frames, firstOnly, loudBytes}
-use Rattle.rules.proofs.Worked.{left, five-delivered, six-refused, secondary-refused, loud-delivered, later-delivered, removed-delivered, quiet-frame, loud-frame, later-frame}
+use Rattle.worked.proofs.Runs.{run-made}
+use Rattle.worked.proofs.Inputs.{five, six, secondary, quiet, loud, later, removed, right, frames, firstOnly, loudBytes}
+use Rattle.worked.proofs.Worked.{left, five-delivered, six-refused, secondary-refused, loud-delivered, later-delivered, removed-delivered, quiet-frame, loud-frame, later-frame}
 
 -- one that refuses all input
 pub refuses-all : (n k : ℕ) → left five .outcome ≡ refused n k → ⊥

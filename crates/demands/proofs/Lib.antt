@@ -1,0 +1,10 @@
+-- demand 3 on bits and bytes
+pub mod Factors
+pub mod Frames
+pub mod Demand3
+-- the demands said of the three calls
+pub mod Deliveries
+pub mod Calls
+pub mod StageAnswers
+pub mod StageCalls
+pub mod Outcomes

@@ -1,0 +1,1 @@
+// The demands said of the three calls, as theorems; no code.

@@ -1,0 +1,4 @@
+pub mod Runs
+pub mod Inputs
+pub mod Worked
+pub mod Empty

@@ -1,0 +1,1 @@
+// The definition of the stage, worked out on inputs; no code.
