@@ -17,6 +17,8 @@ pub mod Deltas
 pub mod Stores
 pub mod Legality
 pub mod Made
+-- what a refusal leaves
+pub mod Refused
 -- worked numbers
 pub mod Rows
 pub mod Examples

@@ -1,0 +1,109 @@
+-- Demand 1: bad input is refused before a byte is stored, and a later refusal leaves zeros where document 01 says. Assumes nothing.
+use mathlib.Core.Path.{_≡_, refl, sym, _∙_}
+use mathlib.Core.Bool.{Bool, true, false, cond, not, _&&_, true≢false}
+use mathlib.Core.Logic.{_≢_}
+use mathlib.Core.List.{List}
+use Prim.Native.Nat.{ℕ, _≤_}
+use native.Mathlib.Omega.{arith}
+use lib.Dec.{ltb}
+use lib.IntN.{ℤ}
+use lib.Ieee.{Float}
+use lib.ListN.{length, take}
+use Rattle.buffers.specs.Walk.{first}
+use Rattle.buffers.proofs.Tests.{cond-both}
+use Rattle.rules.specs.Layout.{legalLayout, frameSize, spectrumLength, sideLength}
+use Rattle.rules.specs.Record.{legalRecord}
+use Rattle.rules.specs.Fields.{fields}
+use Rattle.rules.specs.Frame.{payload}
+use Rattle.rules.specs.Refusals.{delivered, refused}
+use Rattle.rules.specs.Reading.{Scanned, accepted, faulty, strict}
+use Rattle.rules.specs.Stage.{laid, noFloats, noCodes, noFactors, noSide, noFrame, Lent, Left, kept, cleared, stageRoom, badIntensity, badSpectrum, Made, made, madeRecord, finished, settled, stage, RecordLent, FrameLeft, writeRoom, lentRecord, packed, written, FrameLent, RecordLeft, readRoom, untouched, readLeft, read}
+use Rattle.rules.specs.declared.Layout.{Layout}
+
+never : {xs : List ℕ} {n k : ℕ} → delivered xs ≡ refused n k → ⊥
+never e = let z : _≡_ {A = ℕ} 0 1 = cc e in omega arith
+
+-- ---- the stage: 1 to 4 keep every buffer, 5 to 7 clear the stated lengths
+
+module _ (l : Layout) (t : Lent) where
+  abbrev Holds : Left → List Float → List ℤ → List ℕ → List ℕ → List ℕ → Type 0
+  Holds x scaled codes factors side frame = (x .scaled ≡ scaled) × (x .codes ≡ codes) × (x .factors ≡ factors) × (x .side ≡ side) × (x .frame ≡ frame)
+
+  abbrev Leaves : Left → Type 0
+  Leaves x =
+      (n k : ℕ) → x .outcome ≡ refused n k →
+      (n ≤ 4 → Holds x (t .scaled) (t .codes) (t .factors) (t .side) (t .frame))
+      × (5 ≤ n → Holds x (laid (noFloats l) (t .scaled)) (laid (noCodes l) (t .codes)) (laid (noFactors l) (t .factors)) (laid (noSide l) (t .side)) (laid (noFrame l) (t .frame)))
+
+  keeps : (a b : ℕ) → a ≤ 4 → Leaves (kept t (refused a b))
+  keeps a b h n k e = let z : a ≡ n = cc e in (λ _. (refl, refl, refl, refl, refl), λ g. absurd (omega arith))
+
+  clears : (a b : ℕ) → 5 ≤ a → Leaves (cleared l t (refused a b))
+  clears a b h n k e = let z : a ≡ n = cc e in (λ g. absurd (omega arith), λ _. (refl, refl, refl, refl, refl))
+
+  settled-leaves : (m : Made) → Leaves (settled l t m)
+  unfolding settled finished
+  settled-leaves m =
+      cond-both Leaves (ltb 254 (m .found .level)) (λ _. clears 5 (m .found .pairs) (omega arith))
+      (λ _. cond-both Leaves (ltb 127 (m .boundary)) (λ _. clears 6 (m .found .level) (omega arith))
+      (λ _. cond-both Leaves (ltb (payload l) (length (fields l (madeRecord l m)))) (λ _. clears 7 0 (omega arith))
+      (λ _ n k e. absurd (never e))))
+
+  pub refused-leaves : Leaves (stage l t)
+  unfolding stage
+  refused-leaves =
+      let i : ℕ = first (badIntensity l (t .intensities)) (sideLength l) in
+      let s : ℕ = first (badSpectrum (t .spectra)) (spectrumLength l) in
+      cond-both Leaves (not (legalLayout l)) (λ _. keeps 1 0 (omega arith))
+      (λ _. cond-both Leaves (not (stageRoom l t)) (λ _. keeps 2 0 (omega arith))
+      (λ _. cond-both Leaves (ltb i (sideLength l)) (λ _. keeps 3 i (omega arith))
+      (λ _. cond-both Leaves (ltb s (spectrumLength l)) (λ _. keeps 4 s (omega arith))
+      (λ _. settled-leaves (made l (take (spectrumLength l) (t .spectra)) (take (sideLength l) (t .intensities)))))))
+
+-- ---- the record writer: 15 is judged before 7 and keeps the frame, 7 clears it
+
+module _ (l : Layout) (t : RecordLent) where
+  abbrev WriteLeaves : FrameLeft → Type 0
+  WriteLeaves x = (n k : ℕ) → x .outcome ≡ refused n k → (n ≢ 7 → x .frame ≡ t .frame) × (n ≡ 7 → x .frame ≡ laid (noFrame l) (t .frame))
+
+  write-keeps : (a : ℕ) → a ≢ 7 → WriteLeaves (record { outcome = refused a 0; frame = t .frame })
+  write-keeps a h n k e = let z : a ≡ n = cc e in (λ _. refl, λ g. absurd (h (z ∙ g)))
+
+  pub write-leaves : WriteLeaves (written l t)
+  unfolding written packed
+  write-leaves =
+      cond-both WriteLeaves (not (legalLayout l)) (λ _. write-keeps 1 (λ e. absurd (omega arith)))
+      (λ _. cond-both WriteLeaves (not (writeRoom l t)) (λ _. write-keeps 2 (λ e. absurd (omega arith)))
+      (λ _. cond-both WriteLeaves (not (legalRecord l (t .level) (t .boundary) (t .factors) (t .side) (t .codes))) (λ _. write-keeps 15 (λ e. absurd (omega arith)))
+      (λ _. cond-both WriteLeaves (ltb (payload l) (length (fields l (lentRecord l t)))) (λ _ n k e. let z : 7 ≡ n = cc e in (λ g. absurd (g (sym z)), λ _. refl))
+      (λ _ n k e. absurd (never e)))))
+
+  pub not-legal : legalRecord l (t .level) (t .boundary) (t .factors) (t .side) (t .codes) ≡ false → packed l t ≡ record { outcome = refused 15 0; frame = t .frame }
+  unfolding packed
+  not-legal e = rw e
+
+-- ---- the strict reader: 1 and 2 keep every buffer, the others clear the stated lengths
+
+module _ (l : Layout) (t : FrameLent) where
+  pub read-keeps : legalLayout l && readRoom l t ≡ false → (read l t .factors ≡ t .factors) × (read l t .side ≡ t .side) × (read l t .codes ≡ t .codes)
+  unfolding read
+  read-keeps = by-cases (legalLayout l) (readRoom l t)
+    where
+      by-cases : (a b : Bool) → a && b ≡ false →
+          let x : RecordLeft = cond (not a) (untouched t (refused 1 0)) (cond (not b) (untouched t (refused 2 0)) (readLeft l t (strict l (take (frameSize l) (t .frame))))) in
+          (x .factors ≡ t .factors) × (x .side ≡ t .side) × (x .codes ≡ t .codes)
+      by-cases false b e = (refl, refl, refl)
+      by-cases true false e = (refl, refl, refl)
+      by-cases true true e = absurd (true≢false e)
+
+  abbrev Cleared : RecordLeft → Type 0
+  Cleared x = (x .factors ≡ laid (noFactors l) (t .factors)) × (x .side ≡ laid (noSide l) (t .side)) × (x .codes ≡ laid (noCodes l) (t .codes))
+
+  left-clears : (s : Scanned) (n k : ℕ) → readLeft l t s .outcome ≡ refused n k → Cleared (readLeft l t s)
+  unfolding readLeft
+  left-clears (accepted r c) n k e = absurd (never e)
+  left-clears (faulty a b) n k e = (refl, refl, refl)
+
+  pub read-clears : legalLayout l ≡ true → readRoom l t ≡ true → (n k : ℕ) → read l t .outcome ≡ refused n k → Cleared (read l t)
+  unfolding read
+  read-clears legal room n k e = rw (legal, room) (left-clears (strict l (take (frameSize l) (t .frame))) n k (rw (legal, room) at e))
