@@ -2,8 +2,8 @@
 ghost use mathlib.Core.Path.{_≡_};
 ghost use Prim.Native.Nat.{_+_, _-_, _/_, _%_, _^_, _<_, _≤_};
 ghost use lib.ListN.{getD, set};
-ghost use Rattle.bits.specs.Bits.{wordAt, setWord, laidOver};
-ghost use Rattle.bits.specs.Place.{Put, Added, fieldAt, lookAt};
+ghost use Rattle.bits.specs.Bits.{bits, wordAt, setWord, laidOver};
+ghost use Rattle.bits.specs.Place.{Put, Added, Writes, fieldAt, lookAt};
 
 // A bit place, counted from the first bit of the frame or part that it is used with.
 pub struct Place {
@@ -165,4 +165,13 @@ impl Place {
         let value = self.look(part, bits);
         Field::Of(value, Place { at: end })
     }
+}
+
+// Adds the low bits of a value to the run so far.
+pub fn write_low(place: Place, payload: &mut [u8], value: u32, count: u32) -> Place
+    requires { ⌜ (count ≤ 16) × (place .at < 2 ^ 50) ⌝ }
+    ensures { λ r. ⌜ Writes (now (payload .entry)) (place .at) (bits count value) (now (payload .exit)) (r .at) × (r .at ≡ place .at + count) ⌝ }
+{
+    let low = value & ones(count);
+    place.add(payload, low, count)
 }

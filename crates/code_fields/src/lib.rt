@@ -10,7 +10,7 @@ ghost use Rattle.rules.specs.Layout.{Sizes};
 ghost use Rattle.rules.specs.Record.{resolutionsIn, codesIn};
 ghost use Rattle.rules.specs.Fields.{smallBits, signBits, codeBits};
 use bits::Place;
-use header_fields::write_low;
+use bits::write_low;
 use quantizer::code_place;
 use quantizer::tables::code_length;
 use quantizer::tables::code_word;

@@ -1,1 +1,1 @@
-pub mod Walks
+mod Walks

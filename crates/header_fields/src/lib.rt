@@ -13,6 +13,7 @@ ghost use Rattle.rules.specs.Width.{near, width};
 ghost use Rattle.rules.specs.Record.{chanIn, chanOf};
 ghost use Rattle.rules.specs.Fields.{deltaSymbol, deltaBits, factorBits, before, allFactorBits, channelFields};
 use bits::Place;
+use bits::write_low;
 use rules::Layout;
 use rules::coded_count;
 use rules::side_count;
@@ -21,15 +22,6 @@ use widths::calculate_optimal_delta_length;
 use widths::delta;
 use widths::is_near;
 use widths::reach;
-
-// The low bits of a value.
-pub fn write_low(place: Place, payload: &mut [u8], value: u32, count: u32) -> Place
-    requires { ⌜ (count ≤ 16) × (place .at < 2 ^ 50) ⌝ }
-    ensures { λ r. ⌜ Writes (now (payload .entry)) (place .at) (bits count value) (now (payload .exit)) (r .at) × (r .at ≡ place .at + count) ⌝ }
-{
-    let low = value & bits::ones(count);
-    place.add(payload, low, count)
-}
 
 // FFFF, the level in 9 bits, the boundary in 7.
 pub fn write_head(place: Place, payload: &mut [u8], level: usize, boundary: usize) -> Place

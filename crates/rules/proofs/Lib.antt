@@ -10,6 +10,7 @@ pub mod Widths
 pub mod Formats
 pub mod Numbers
 pub mod Turns
+pub mod Written
 pub mod Prefix
 pub mod Codes
 pub mod Deltas

@@ -6,7 +6,7 @@ use Rattle.buffers.specs.Walk.{build}
 use Rattle.rules.specs.Format.{eachBits}
 use Rattle.rules.specs.Record.{resolutionsIn, codesIn}
 use Rattle.rules.specs.Fields.{codeBits}
-use Rattle.header_fields.proofs.Walks.{Wrote, wrote-none, wrote-more, wrote-all, times-blocks}
+use Rattle.rules.proofs.Written.{Wrote, wrote-none, wrote-more, wrote-all, times-blocks}
 use Rattle.code_fields.proofs.write_codes.Statement.{statement}
 use Rattle.code_fields.proofs.write_codes.Tie as tie
 

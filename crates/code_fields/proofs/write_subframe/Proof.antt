@@ -8,7 +8,7 @@ use Rattle.rules.specs.Format.{eachBits}
 use Rattle.rules.specs.Record.{resolutionsIn, codesIn}
 use Rattle.rules.specs.Fields.{codeBits}
 use Rattle.rules.proofs.Cuts.{subframe-cut}
-use Rattle.header_fields.proofs.Walks.{Wrote, wrote-none, wrote-more, wrote-all, each-blocks}
+use Rattle.rules.proofs.Written.{Wrote, wrote-none, wrote-more, wrote-all, each-blocks}
 use Rattle.code_fields.proofs.write_subframe.Statement.{statement}
 use Rattle.code_fields.proofs.write_subframe.Tie as tie
 

@@ -6,7 +6,7 @@ use Rattle.buffers.proofs.Build.{back-width}
 use Rattle.rules.specs.Layout.{kindAt, kindsOf}
 use Rattle.rules.specs.Record.{chanOf}
 use Rattle.rules.specs.Fields.{channelFields}
-use Rattle.header_fields.proofs.Walks.{Wrote, wrote-none, wrote-more, wrote-all, each-blocks}
+use Rattle.rules.proofs.Written.{Wrote, wrote-none, wrote-more, wrote-all, each-blocks}
 use Rattle.header_fields.proofs.write_channels.Statement.{statement}
 use Rattle.header_fields.proofs.write_channels.Tie as tie
 

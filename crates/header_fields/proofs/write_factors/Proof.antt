@@ -4,7 +4,8 @@ use native.Mathlib.Omega.{arith}
 use borrow.Author.Needs.{needs}
 use lib.ListN.{getD}
 use Rattle.rules.specs.Fields.{factorBits, before}
-use Rattle.header_fields.proofs.Walks.{Wrote, wrote-none, wrote-more, wrote-all, factors-blocks}
+use Rattle.rules.proofs.Written.{Wrote, wrote-none, wrote-more, wrote-all}
+use Rattle.header_fields.proofs.Walks.{factors-blocks}
 use Rattle.header_fields.proofs.write_factors.Statement.{statement}
 use Rattle.header_fields.proofs.write_factors.Tie as tie
 

@@ -4,7 +4,8 @@ use native.Mathlib.Omega.{arith}
 use borrow.Author.Needs.{needs}
 use lib.ListN.{getD}
 use Rattle.bits.specs.Bits.{bits}
-use Rattle.header_fields.proofs.Walks.{Wrote, wrote-none, wrote-more, wrote-all, side-blocks}
+use Rattle.rules.proofs.Written.{Wrote, wrote-none, wrote-more, wrote-all}
+use Rattle.header_fields.proofs.Walks.{side-blocks}
 use Rattle.header_fields.proofs.write_side.Statement.{statement}
 use Rattle.header_fields.proofs.write_side.Tie as tie
 

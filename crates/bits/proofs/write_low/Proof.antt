@@ -1,12 +1,12 @@
--- `header_fields::write_low` meets its contract: what stands above the bits is not seen. Assumes nothing.
+-- `bits::write_low` meets its contract: what stands above the bits is not seen. Assumes nothing.
 use native.Mathlib.Nat.{mod-lt}
 use lib.Bits.{and-mask}
 use lib.Pow.{pow-pos}
 use Rattle.bits.proofs.Runs.{added-writes}
 use Rattle.bits.proofs.Numbers.{bits-low}
 use borrow.Author.Needs.{needs}
-use Rattle.header_fields.proofs.write_low.Statement.{statement}
-use Rattle.header_fields.proofs.write_low.Tie as tie
+use Rattle.bits.proofs.write_low.Statement.{statement}
+use Rattle.bits.proofs.write_low.Tie as tie
 
 ones-requires : tie.Need-ones-requires
 ones-requires c κs = search needs
