@@ -51,14 +51,7 @@ pub const KINDS: [(&str, u64); 10] = [
 ];
 
 pub fn kind_of(index: u64) -> (usize, u64) {
-    let mut slot = index % 100 * 37 % 100;
-    for (k, &(_, share)) in KINDS.iter().enumerate() {
-        if slot < share {
-            return (k, index / 100 * share + slot);
-        }
-        slot -= share;
-    }
-    unreachable!("the shares add up to 100")
+    crate::share_of(&KINDS, index)
 }
 
 pub fn calls(seed: u64, index: u64) -> Vec<Call> {

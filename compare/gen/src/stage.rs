@@ -28,17 +28,8 @@ pub const KINDS: [(&str, u64); 19] = [
     ("layouts outside the limits", 3),
 ];
 
-/// The kind of a case and its number among its kind. The shares are spread, so
-/// that a few cases show every kind.
 pub fn kind_of(index: u64) -> (usize, u64) {
-    let mut slot = index % 100 * 37 % 100;
-    for (k, &(_, share)) in KINDS.iter().enumerate() {
-        if slot < share {
-            return (k, index / 100 * share + slot);
-        }
-        slot -= share;
-    }
-    unreachable!("the shares add up to 100")
+    crate::share_of(&KINDS, index)
 }
 
 /// Case `index` of a seed.
