@@ -1,3 +1,1 @@
-pub mod Answered
-pub mod Walks
 pub mod Channels

@@ -1,6 +1,7 @@
 -- `read_channel` is `readChannel`: the counts and the width are the layout's. Assumes nothing.
 use native.Mathlib.Omega.{arith}
-use Rattle.headers.proofs.Channels.{stored-of, channel-cut, channel-stored}
+use Rattle.headers.proofs.Channels.{channel-cut, channel-stored}
+use Rattle.header_rows.proofs.Widths.{stored-of}
 use borrow.Author.Needs.{needs}
 use Rattle.headers.proofs.read_channel.Statement.{statement}
 use Rattle.headers.proofs.read_channel.Tie as tie
