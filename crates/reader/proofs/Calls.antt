@@ -1,41 +1,17 @@
--- What a scan leaves in the buffers, and the rest of a longer buffer. Assumes nothing.
-use mathlib.Core.Path.{_≡_, refl, sym, _∙_, subst}
+-- What a call leaves in longer buffers: what was settled, and then the rest. Assumes nothing.
+use mathlib.Core.Path.{_≡_, refl, sym, _∙_}
 use mathlib.Core.List.{List, _++_}
 use Prim.Native.Nat.{ℕ}
 use lib.IntN.{ℤ, pos}
 use lib.ListN.{length, drop, length-replicate}
 use Rattle.rules.specs.Layout.{factorLength, sideLength, spectrumLength}
-use Rattle.rules.specs.Record.{recOf}
 use Rattle.rules.specs.Reading.{Scanned, accepted, faulty}
-use Rattle.rules.specs.Refusals.{Outcome, refused, readNumber}
+use Rattle.rules.specs.Refusals.{Outcome}
 use Rattle.rules.specs.Stage.{FrameLent, RecordLeft, recordLeft, readLeft, noFactors, noSide, noCodes}
 use Rattle.rules.specs.declared.Layout.{Layout}
 use Rattle.rules.specs.declared.ReadAnswer.{ReadAnswer}
-use Rattle.rules.specs.declared.ReadAnswer.the-variants as read
 use Rattle.rules.proofs.Stores.{length-factors, length-side, length-codes}
-use Rattle.headers.specs.declared.Fault.{Fault}
-use Rattle.reader.specs.declared.record.Found.{Found}
-use Rattle.reader.specs.declared.record.Found.the-variants as found
-use Rattle.reader.specs.Answers.{Scans, Settled, outcomeOf, factorsOf, sideOf, codesOf}
-
--- an answer of a known variant
-pub scans-of : {l : Layout} {x : Scanned} {F S : List ℕ} {C : List ℤ} {r o : Found} → r ≡ o → Scans l x F S C r → Scans l x F S C o
-scans-of {l} {x} {F} {S} {C} e t = subst (λ o. Scans l x F S C o) e t
-
--- a success leaves the record, a refusal zeros
-module _ {l : Layout} {x : Scanned} {F S : List ℕ} {C : List ℤ} where
-  pub settled-done : {level boundary n : ℕ} → Scans l x F S C (found.Of level boundary n) → Settled l x F S C (read.Delivered level boundary n)
-  unfolding readNumber recOf
-  settled-done t = record {
-    outcome = rw (t .is) refl;
-    factors = rw (t .is) (sym (t .holds .factors));
-    side = rw (t .is) (sym (t .holds .side));
-    codes = rw (t .is) (sym (t .holds .codes));
-  }
-
-  pub settled-zero : {f : Fault} → Scans l x F S C (found.Refused f) → {r : ReadAnswer} → readNumber r ≡ refused (f .number) (f .at)
-      → {A B : List ℕ} {D : List ℤ} → A ≡ noFactors l → B ≡ noSide l → D ≡ noCodes l → Settled l x A B D r
-  settled-zero t e a b d = record { outcome = rw (t .is) e; factors = rw (t .is) a; side = rw (t .is) b; codes = rw (t .is) d }
+use Rattle.frame_scan.specs.Settled.{Settled, outcomeOf, factorsOf, sideOf, codesOf}
 
 -- the stated lengths, whatever the scan found
 module _ (l : Layout) where

@@ -16,10 +16,11 @@ use Rattle.rules.specs.Reading.{readCode}
 use Rattle.rules.specs.declared.Layout.{Layout}
 use Rattle.rules.proofs.Cuts.{by-order, build-same, renewed, renewed-length, row-new, row-old}
 use Rattle.rules.proofs.Turns.{onto, onto-none, each-turn, each-stop, each-end}
-use Rattle.spectra.specs.Told.{Blank, Stored}
+use Rattle.spectra.specs.Rows.{Blank, Stored}
 use Rattle.spectra.specs.Rows.{codedRows, readSubframe, rowOf, Subframe}
-use Rattle.spectra.specs.declared.Step.{Step}
-use Rattle.spectra.specs.declared.Step.the-variants as step
+use Rattle.faults.specs.declared.Fault.{Fault}
+use Rattle.faults.specs.declared.Step.{Step}
+use Rattle.faults.specs.declared.Step.the-variants as step
 
 -- the rows of the first n channels
 abbrev upTo : Layout → ℕ → List ℤ → ℕ → List (List ℤ)
@@ -58,9 +59,12 @@ module _ (l : Layout) (s : ℕ) (frame rs : List ℕ) (codes₀ : List ℤ) (at�
     upto-all h =
         let e : n ≡ l .channels = omega (arith, w .below) in
         record {
-          is = w .is ∙ each-end (each readCode) (codedRows l rs) [] (upTo l s codes n) n (leftAt frame at) (omega (arith, length-coded l rs))
-              ∙ ap (λ m. ok (upTo l s codes m) (leftAt frame at)) e;
-          within = w .within;
+          done = record {
+            is = w .is ∙ each-end (each readCode) (codedRows l rs) [] (upTo l s codes n) n (leftAt frame at) (omega (arith, length-coded l rs))
+                ∙ ap (λ m. ok (upTo l s codes m) (leftAt frame at)) e;
+            within = w .within;
+            numbered = tt;
+          };
           blank = λ c lt. w .blank c (omega arith);
           kept = w .kept;
         }
@@ -70,10 +74,13 @@ module _ (l : Layout) (s : ℕ) (frame rs : List ℕ) (codes₀ : List ℤ) (at�
       Row ys r = Stored frame (each readCode (resolutionsIn l rs n) (leftAt frame at)) (codedAt l n) ys r
 
       -- a row that is cut
-      pub upto-stop : (ys after : List ℤ) (b : ℕ) → Row ys (step.Past b) → Subframe l frame (readSubframe l rs (leftAt frame at₀)) s codes₀ after (step.Past b)
-      upto-stop ys after b t = record {
-        is = w .is ∙ each-stop (each readCode) (codedRows l rs) [] (upTo l s codes n) n (leftAt frame at) 13 _ (omega (arith, length-coded l rs)) (rw (coded-at l rs n h) (t .is));
-        within = t .within;
+      pub upto-stop : (ys after : List ℤ) (f : Fault) → Row ys (step.Refused f) → Subframe l frame (readSubframe l rs (leftAt frame at₀)) s codes₀ after (step.Refused f)
+      upto-stop ys after f t = record {
+        done = record {
+          is = w .is ∙ each-stop (each readCode) (codedRows l rs) [] (upTo l s codes n) n (leftAt frame at) (f .number) _ (omega (arith, length-coded l rs)) (rw (coded-at l rs n h) (t .done .is));
+          within = t .done .within;
+          numbered = t .done .numbered;
+        };
         blank = tt;
         kept = tt;
       }
@@ -92,8 +99,8 @@ module _ (l : Layout) (s : ℕ) (frame rs : List ℕ) (codes₀ : List ℤ) (at�
         old : (c u : ℕ) → (c * 8 + u ≡ n * 8 + s → ⊥) → rowOf next c u ≡ rowOf codes c u
         old c u = row-old 128 (n * 8 + s) codes ys fits e (c * 8 + u)
 
-        done : upTo l s next (n + 1) ≡ upTo l s codes n ++ (take (codedAt l n) ys ∷ [])
-        done =
+        longer : upTo l s next (n + 1) ≡ upTo l s codes n ++ (take (codedAt l n) ys ∷ [])
+        longer =
             build-more (λ c. take (codedAt l c) (rowOf next c s)) n
             ∙ ap₂ (λ xs x. xs ++ (x ∷ []))
             (build-same (λ c. take (codedAt l c) (rowOf next c s)) (λ c. take (codedAt l c) (rowOf codes c s)) n (λ c lt. ap (take (codedAt l c)) (old c s (λ z. omega arith))))
@@ -102,11 +109,11 @@ module _ (l : Layout) (s : ℕ) (frame rs : List ℕ) (codes₀ : List ℤ) (at�
         pub upto-more : Upto l s frame rs codes₀ at₀ next (q .at) (n + 1)
         upto-more = record {
           below = omega arith;
-          within = t .within;
+          within = t .done .within;
           same = renewed-length 128 (n * 8 + s) codes ys fits e ∙ w .same;
           is = w .is
-              ∙ each-turn (each readCode) (codedRows l rs) [] (upTo l s codes n) n (leftAt frame at) (take (codedAt l n) ys) (leftAt frame (q .at)) (omega (arith, length-coded l rs)) (rw (coded-at l rs n h) (t .is))
-              ∙ ap (λ d. onto d (each (each readCode) (drop (n + 1) (codedRows l rs)) (leftAt frame (q .at)))) (sym done);
+              ∙ each-turn (each readCode) (codedRows l rs) [] (upTo l s codes n) n (leftAt frame at) (take (codedAt l n) ys) (leftAt frame (q .at)) (omega (arith, length-coded l rs)) (rw (coded-at l rs n h) (t .done .is))
+              ∙ ap (λ d. onto d (each (each readCode) (drop (n + 1) (codedRows l rs)) (leftAt frame (q .at)))) (sym longer);
           blank = λ c lt. by-order c n
               (λ k. subst (Blank (codedAt l c)) (sym (old c s (λ z. omega arith))) (w .blank c k))
               (λ k. let z : n ≡ c = omega arith in subst (λ i. Blank (codedAt l i) (rowOf next i s)) z (subst (Blank (codedAt l n)) (sym new) (t .blank)));

@@ -15,9 +15,10 @@ use Rattle.rules.specs.Record.{codesIn, pad}
 use Rattle.rules.specs.declared.Layout.{Layout}
 use Rattle.rules.proofs.Cuts.{by-order, build-same, blocks-same, length-part, parts-all, subframe-cut}
 use Rattle.rules.proofs.Turns.{onto, onto-none, each-turn, each-stop, each-end}
-use Rattle.spectra.specs.Told.{Blank}
+use Rattle.spectra.specs.Rows.{Blank}
 use Rattle.spectra.specs.Rows.{readSubframe, readSubframes, rowOf, subframeIn, Subframe, Subframes}
-use Rattle.spectra.specs.declared.Step.the-variants as step
+use Rattle.faults.specs.declared.Fault.{Fault}
+use Rattle.faults.specs.declared.Step.the-variants as step
 
 times-long : length (times 8) ≡ 8
 times-long = refl
@@ -65,24 +66,30 @@ module _ (l : Layout) (frame rs : List ℕ) (codes₀ : List ℤ) (at₀ : ℕ) 
     eight-all size h =
         let e : n ≡ 8 = omega (arith, w .below) in
         record {
-          is = w .is ∙ each-end (λ _. readSubframe l rs) (times 8) tt (build (subframeIn l codes) n) n (leftAt frame at) (omega (arith, times-long))
-              ∙ ap (λ xs. ok xs (leftAt frame at)) (ap (build (subframeIn l codes)) e ∙ frame-codes l codes);
-          within = w .within;
+          done = record {
+            is = w .is ∙ each-end (λ _. readSubframe l rs) (times 8) tt (build (subframeIn l codes) n) n (leftAt frame at) (omega (arith, times-long))
+                ∙ ap (λ xs. ok xs (leftAt frame at)) (ap (build (subframeIn l codes)) e ∙ frame-codes l codes);
+            within = w .within;
+            numbered = tt;
+          };
           blank = frame-blank l codes (w .same ∙ size) (λ c t h k. w .blank c t h (omega arith));
         }
 
     module _ (h : n < 8) (after : List ℤ) where
-      pub eight-stop : (b : ℕ) → Subframe l frame (readSubframe l rs (leftAt frame at)) n codes after (step.Past b)
-          → Subframes l frame (readSubframes l rs (leftAt frame at₀)) after (step.Past b)
-      eight-stop b t = record {
-        is = w .is ∙ each-stop (λ _. readSubframe l rs) (times 8) tt (build (subframeIn l codes) n) n (leftAt frame at) 13 _ (omega (arith, times-long)) (t .is);
-        within = t .within;
+      pub eight-stop : (f : Fault) → Subframe l frame (readSubframe l rs (leftAt frame at)) n codes after (step.Refused f)
+          → Subframes l frame (readSubframes l rs (leftAt frame at₀)) after (step.Refused f)
+      eight-stop f t = record {
+        done = record {
+          is = w .is ∙ each-stop (λ _. readSubframe l rs) (times 8) tt (build (subframeIn l codes) n) n (leftAt frame at) (f .number) _ (omega (arith, times-long)) (t .done .is);
+          within = t .done .within;
+          numbered = t .done .numbered;
+        };
         blank = tt;
       }
 
       module _ (same : length after ≡ length codes) (q : Place) (t : Subframe l frame (readSubframe l rs (leftAt frame at)) n codes after (step.At q)) where
-        done : build (subframeIn l after) (n + 1) ≡ build (subframeIn l codes) n ++ (subframeIn l after n ∷ [])
-        done =
+        longer : build (subframeIn l after) (n + 1) ≡ build (subframeIn l codes) n ++ (subframeIn l after n ∷ [])
+        longer =
             build-more (subframeIn l after) n
             ∙ ap (λ xs. xs ++ (subframeIn l after n ∷ []))
             (build-same (subframeIn l after) (subframeIn l codes) n
@@ -92,11 +99,11 @@ module _ (l : Layout) (frame rs : List ℕ) (codes₀ : List ℤ) (at₀ : ℕ) 
         pub eight-more : Eight l frame rs codes₀ at₀ after (q .at) (n + 1)
         eight-more = record {
           below = omega arith;
-          within = t .within;
+          within = t .done .within;
           same = same ∙ w .same;
           is = w .is
-              ∙ each-turn (λ _. readSubframe l rs) (times 8) tt (build (subframeIn l codes) n) n (leftAt frame at) (subframeIn l after n) (leftAt frame (q .at)) (omega (arith, times-long)) (t .is)
-              ∙ ap (λ d. onto d (each (λ _. readSubframe l rs) (drop (n + 1) (times 8)) (leftAt frame (q .at)))) (sym done);
+              ∙ each-turn (λ _. readSubframe l rs) (times 8) tt (build (subframeIn l codes) n) n (leftAt frame at) (subframeIn l after n) (leftAt frame (q .at)) (omega (arith, times-long)) (t .done .is)
+              ∙ ap (λ d. onto d (each (λ _. readSubframe l rs) (drop (n + 1) (times 8)) (leftAt frame (q .at)))) (sym longer);
           blank = λ c u k lt. by-order u n
               (λ j. t .kept c u k (omega arith) (λ z. omega arith) ∙ w .blank c u k j ∙ ap (λ row. pad (pos 0) 128 (take (codedAt l c) row)) (sym (t .kept c u k (omega arith) (λ z. omega arith))))
               (λ j. let z : u ≡ n = omega arith in rw z (t .blank c k));

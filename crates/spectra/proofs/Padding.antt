@@ -8,7 +8,7 @@ use lib.ListN.{length, take, drop, replicate, length-drop, length-replicate, dro
 use lib.Seq.{take-at, take-append-add, length-take-le}
 use Rattle.buffers.proofs.Build.{back-width}
 use Rattle.rules.specs.Record.{pad}
-use Rattle.spectra.specs.Told.{Blank}
+use Rattle.spectra.specs.Rows.{Blank}
 
 -- a list padded with copies of d
 pad-is : {A : Type 0} (d : A) (k n : ℕ) (xs : List A) → length xs ≡ n → n ≤ k → pad d k xs ≡ xs ++ replicate (k - n) d

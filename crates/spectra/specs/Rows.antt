@@ -1,17 +1,26 @@
 -- **Frame**: subframe by subframe, channel by channel, the codes; in the buffer they lie by channel, subframe and band, C x 1,024.
 use mathlib.Core.Path.{_≡_}
 use mathlib.Core.List.{List}
-use Prim.Native.Nat.{ℕ, _+_, _*_, _≤_, _<_}
+use Prim.Native.Nat.{ℕ, _+_, _*_, _<_}
 use lib.IntN.{ℤ, pos}
-use lib.ListN.{length, take}
+use lib.ListN.{take}
 use Rattle.buffers.specs.Walk.{build, blocks}
 use Rattle.rules.specs.Format.{Read, Reader, each, times}
 use Rattle.rules.specs.Layout.{codedAt, part}
 use Rattle.rules.specs.Record.{resolutionsIn, codesIn, pad}
 use Rattle.rules.specs.Reading.{readCode}
 use Rattle.rules.specs.declared.Layout.{Layout}
-use Rattle.spectra.specs.Told.{stepRead, stepPlace, Done, Blank}
-use Rattle.spectra.specs.declared.Step.{Step}
+use Rattle.faults.specs.Steps.{Done, ifDone}
+use Rattle.faults.specs.declared.Step.{Step}
+
+-- a row of 128 codes that is zero past its coded count
+abbrev pub Blank : ℕ → List ℤ → Type 0
+Blank coded row = row ≡ pad (pos 0) 128 (take coded row)
+
+-- what reading a row tells of a reader's result x
+pub record Stored (frame : List ℕ) (x : Read (List ℤ)) (coded : ℕ) (row : List ℤ) (r : Step) : Type 0 where
+  pub done : Done frame x (take coded row) r
+  pub blank : ifDone r (Blank coded row)
 
 -- the resolutions of every channel's coded bands, from C x 128
 unfoldable pub codedRows : Layout → List ℕ → List (List ℕ)
@@ -34,13 +43,11 @@ subframeIn l codes s = build (λ c. take (codedAt l c) (rowOf codes c s)) (l .ch
 
 -- what reading subframe s tells of a reader's result x: the subframe's rows are stored, and no other row changes
 pub record Subframe (l : Layout) (frame : List ℕ) (x : Read (List (List ℤ))) (s : ℕ) (before after : List ℤ) (r : Step) : Type 0 where
-  pub is : x ≡ stepRead frame (subframeIn l after s) r
-  pub within : stepPlace r ≤ 8 * length frame
-  pub blank : Done r ((c : ℕ) → c < l .channels → Blank (codedAt l c) (rowOf after c s))
-  pub kept : Done r ((c t : ℕ) → c < l .channels → t < 8 → (t ≡ s → ⊥) → rowOf after c t ≡ rowOf before c t)
+  pub done : Done frame x (subframeIn l after s) r
+  pub blank : ifDone r ((c : ℕ) → c < l .channels → Blank (codedAt l c) (rowOf after c s))
+  pub kept : ifDone r ((c t : ℕ) → c < l .channels → t < 8 → (t ≡ s → ⊥) → rowOf after c t ≡ rowOf before c t)
 
 -- what reading all eight tells: the buffer holds the codes that were read, and zeros
 pub record Subframes (l : Layout) (frame : List ℕ) (x : Read (List (List (List ℤ)))) (codes : List ℤ) (r : Step) : Type 0 where
-  pub is : x ≡ stepRead frame (build (λ s. build (codesIn l codes s) (l .channels)) 8) r
-  pub within : stepPlace r ≤ 8 * length frame
-  pub blank : Done r (codes ≡ blocks (λ c. blocks (λ s. pad (pos 0) 128 (codesIn l codes s c)) 8) (l .channels))
+  pub done : Done frame x (build (λ s. build (codesIn l codes s) (l .channels)) 8) r
+  pub blank : ifDone r (codes ≡ blocks (λ c. blocks (λ s. pad (pos 0) 128 (codesIn l codes s c)) 8) (l .channels))

@@ -15,8 +15,8 @@ use lib.Seq.{getD-take, take-suc-set, length-take-le}
 use Rattle.bits.specs.Place.{leftAt}
 use Rattle.rules.specs.Format.{ok, each}
 use Rattle.rules.specs.Reading.{readCode}
-use Rattle.spectra.specs.Told.{Told}
-use Rattle.spectra.proofs.Telling.{cut-code}
+use Rattle.code_values.specs.Told.{Told}
+use Rattle.code_values.proofs.Telling.{cut-code}
 use Rattle.rules.proofs.Turns.{onto, onto-none, each-turn, each-stop, each-end}
 use Rattle.spectra.proofs.Padding.{cleared-front, cleared-blank}
 use Rattle.spectra.proofs.read_spectra.Statement.{statement}
@@ -68,9 +68,12 @@ returns c =
     let n = length-take-le (a .coded) (a .resolutions .now) (omega arith) in
     let t = told r in
     record {
-      is = l .inv .is ∙ each-stop readCode (take (a .coded) (a .resolutions .now)) 0 (take (l .band) (l .codes)) (l .band) (leftAt (a .part .now) (l .at)) 13 _ (omega arith)
-          (cut-code (a .part .now) (l .at) _ _ _ t (c .enum-told .given .1));
-      within = omega arith;
+      done = record {
+        is = l .inv .is ∙ each-stop readCode (take (a .coded) (a .resolutions .now)) 0 (take (l .band) (l .codes)) (l .band) (leftAt (a .part .now) (l .at)) 13 _ (omega arith)
+            (cut-code (a .part .now) (l .at) _ _ _ t (c .enum-told .given .1));
+        within = omega arith;
+        numbered = (omega arith, omega arith);
+      };
       blank = tt;
     }
 
@@ -134,9 +137,12 @@ returns-2 c =
     let e : length (l .codes) ≡ 128 = omega (arith, l .inv .same) in
     let b : l .band ≡ a .coded = omega (arith, l .inv .below) in
     record {
-      is = l .inv .is ∙ each-end readCode (take (a .coded) (a .resolutions .now)) 0 (take (l .band) (l .codes)) (l .band) (leftAt (a .part .now) (l .at)) (omega arith)
-          ∙ ap (λ xs. ok xs (leftAt (a .part .now) (l .at))) (ap (λ i. take i (l .codes)) b ∙ sym (cleared-front (a .coded) (l .codes) _ e (omega arith) (c .before .clear-i32 .ensures)));
-      within = l .inv .within;
+      done = record {
+        is = l .inv .is ∙ each-end readCode (take (a .coded) (a .resolutions .now)) 0 (take (l .band) (l .codes)) (l .band) (leftAt (a .part .now) (l .at)) (omega arith)
+            ∙ ap (λ xs. ok xs (leftAt (a .part .now) (l .at))) (ap (λ i. take i (l .codes)) b ∙ sym (cleared-front (a .coded) (l .codes) _ e (omega arith) (c .before .clear-i32 .ensures)));
+        within = l .inv .within;
+        numbered = tt;
+      };
       blank = cleared-blank (a .coded) (l .codes) _ e (omega arith) (c .before .clear-i32 .ensures);
     }
 

@@ -9,7 +9,7 @@ use Rattle.buffers.proofs.Build.{back-width}
 use Rattle.rules.specs.Format.{each}
 use Rattle.rules.specs.Layout.{codedAt, part}
 use Rattle.rules.specs.Reading.{readCode}
-use Rattle.spectra.specs.Told.{Stored}
+use Rattle.spectra.specs.Rows.{Stored}
 use Rattle.spectra.specs.Rows.{Subframe}
 use Rattle.spectra.proofs.Channels.{Upto, upto-none, upto-all, upto-stop, upto-more}
 use Rattle.rules.proofs.Cuts.{renewed-length}
