@@ -28,7 +28,7 @@ use Rattle.rules.proofs.Numbers.{leb-case}
 use Rattle.rules.proofs.Prefix.{taken, oneOf-full}
 use Rattle.rules.proofs.Codes.{tables-full, word-fits}
 use Rattle.quantizer.specs.Packed.{entryOf}
-use Rattle.code_values.specs.Seen.{wordBits, codeIn, codeSeen, lengthSeen, placeSeen, IsRow}
+use Rattle.code_values.specs.Seen.{wordBits, codeIn, leftIn, codeSeen, lengthSeen, placeSeen, IsRow}
 
 -- ---- MAX_BIT_TABLE, from resolution 1 up; at most 4 below resolution 8
 
@@ -86,25 +86,34 @@ module _ (r : ℕ) (h : r < 8) (s : List Bool) where
   look-length : length looked ≡ wordBits r
   look-length = length-take-le (wordBits r) (s ++ zeros (wordBits r)) (omega (arith, length-append s (zeros (wordBits r)), length-replicate (wordBits r) false))
 
-  -- the bits that were looked at begin with the code that is seen
-  begins : (t : List Bool) × (looked ≡ smallBits r seen ++ t) × (natAbs seen ≤ r)
+  -- what is left of the bits that were looked at
+  abbrev rest : List Bool
+  rest = leftIn (oneOf (smallBits r) (codesTo r) (bits (wordBits r) (value looked)))
+
+  -- they begin with the code that is seen
+  begins : (looked ≡ smallBits r seen ++ rest) × (natAbs seen ≤ r)
   unfolding codeSeen
   begins =
       let e : bits (wordBits r) (value looked) ≡ looked = rw look-length at (bits-value looked) in
       rw e (go (oneOf (smallBits r) (codesTo r) looked) refl (oneOf-full (smallBits r) (codesTo r) (wordBits r) (tables-full r h) looked (omega (arith, look-length))))
     where
-      go : (x : Read ℤ) → oneOf (smallBits r) (codesTo r) looked ≡ x → T (taken x) → (t : List Bool) × (looked ≡ smallBits r (codeIn x) ++ t) × (natAbs (codeIn x) ≤ r)
-      go (ok c t) e k = let (m, q) = word-fits r h .back looked c t e in (t, q, m)
+      go : (x : Read ℤ) → oneOf (smallBits r) (codesTo r) looked ≡ x → T (taken x) → (looked ≡ smallBits r (codeIn x) ++ leftIn x) × (natAbs (codeIn x) ≤ r)
+      go (ok c t) e k = let (m, q) = word-fits r h .back looked c t e in (q, m)
       go (bad n k) e m = absurd m
+
+  seen-length : lengthSeen r (value looked) ≡ length (smallBits r seen)
+  unfolding lengthSeen
+  seen-length =
+      let e : length looked ≡ length (smallBits r seen ++ rest) = ap length (begins .0) in
+      omega (arith, e, look-length, length-append (smallBits r seen) rest)
 
   pub look-ahead : (v : ℕ) → v ≡ value looked →
       oneOf (smallBits r) (codesTo r) s ≡ cond (leb (lengthSeen r v) (length s)) (ok (codeSeen r v) (drop (lengthSeen r v) s)) (bad 13 (length s))
-  unfolding lengthSeen
-  look-ahead v e = rw e (go begins)
+  look-ahead v e = rw (e, seen-length) (go rest begins)
     where
-      go : (t : List Bool) × (looked ≡ smallBits r seen ++ t) × (natAbs seen ≤ r) →
+      go : (t : List Bool) → (looked ≡ smallBits r seen ++ t) × (natAbs seen ≤ r) →
           oneOf (smallBits r) (codesTo r) s ≡ cond (leb (length (smallBits r seen)) (length s)) (ok seen (drop (length (smallBits r seen)) s)) (bad 13 (length s))
-      go (t, q, m) =
+      go t (q, m) =
           let k = wordBits r in
           let u : List Bool = t ++ drop k (s ++ zeros k) in
           let z : s ++ zeros k ≡ smallBits r seen ++ u =

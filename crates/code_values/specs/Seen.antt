@@ -1,8 +1,9 @@
 -- **Frame**: below resolution 8 a code is one of a prefix code's words, and one look ahead finds it: which code a looked-at number begins with,
 -- and how many bits it has.
 use mathlib.Core.Path.{_≡_}
-use mathlib.Core.Bool.{true}
-use Prim.Native.Nat.{ℕ}
+use mathlib.Core.List.{List, []}
+use mathlib.Core.Bool.{Bool, true}
+use Prim.Native.Nat.{ℕ, _-_}
 use lib.Dec.{eqb}
 use lib.IntN.{ℤ, pos, _+ℤ_, natAbs}
 use lib.ListN.{length, getD}
@@ -22,11 +23,15 @@ abbrev pub codeIn : Read ℤ → ℤ
 codeIn (ok c t) = c
 codeIn (bad n l) = pos 0
 
+abbrev pub leftIn : Read ℤ → List Bool
+leftIn (ok c t) = t
+leftIn (bad n l) = []
+
 unfoldable pub codeSeen : ℕ → ℕ → ℤ
 codeSeen r v = codeIn (oneOf (smallBits r) (codesTo r) (bits (wordBits r) v))
 
 unfoldable pub lengthSeen : ℕ → ℕ → ℕ
-lengthSeen r v = length (smallBits r (codeSeen r v))
+lengthSeen r v = wordBits r - length (leftIn (oneOf (smallBits r) (codesTo r) (bits (wordBits r) v)))
 
 -- a code as an entry of a row: 8 + code
 unfoldable pub placeSeen : ℕ → ℕ → ℕ

@@ -74,19 +74,25 @@ module _ (l : Layout) (s : ℕ) (frame rs : List ℕ) (codes₀ : List ℤ) (at�
       Row ys r = Stored frame (each readCode (resolutionsIn l rs n) (leftAt frame at)) (codedAt l n) ys r
 
       -- a row that is cut
-      pub upto-stop : (ys after : List ℤ) (f : Fault) → Row ys (step.Refused f) → Subframe l frame (readSubframe l rs (leftAt frame at₀)) s codes₀ after (step.Refused f)
-      upto-stop ys after f t = record {
-        done = record {
-          is = w .is ∙ each-stop (each readCode) (codedRows l rs) [] (upTo l s codes n) n (leftAt frame at) (f .number) _ (omega (arith, length-coded l rs)) (rw (coded-at l rs n h) (t .done .is));
-          within = t .done .within;
-          numbered = t .done .numbered;
-        };
-        blank = tt;
-        kept = tt;
-      }
+      pub upto-stop : {ys after : List ℤ} {r : Step} {f : Fault} → r ≡ step.Refused f → Row ys r → Subframe l frame (readSubframe l rs (leftAt frame at₀)) s codes₀ after r
+      upto-stop {ys} {after} {r} {f} z told =
+          let t = subst (Row ys) z told in
+          subst (Subframe l frame (readSubframe l rs (leftAt frame at₀)) s codes₀ after) (sym z)
+          (record {
+            done = record {
+              is = w .is ∙ each-stop (each readCode) (codedRows l rs) [] (upTo l s codes n) n (leftAt frame at) (f .number) _ (omega (arith, length-coded l rs)) (rw (coded-at l rs n h) (t .done .is));
+              within = t .done .within;
+              numbered = t .done .numbered;
+            };
+            blank = tt;
+            kept = tt;
+          })
 
       -- a row more
-      module _ (hs : s < 8) (size : length codes₀ ≡ spectrumLength l) (ys : List ℤ) (e : length ys ≡ 128) (q : Place) (t : Row ys (step.At q)) where
+      module _ (hs : s < 8) (size : length codes₀ ≡ spectrumLength l) (ys : List ℤ) (e : length ys ≡ 128) {q : Place} {r : Step} (z : r ≡ step.At q) (told : Row ys r) where
+        t : Row ys (step.At q)
+        t = subst (Row ys) z told
+
         fits : (n * 8 + s) * 128 + 128 ≤ length codes
         fits = omega (arith, w .same)
 

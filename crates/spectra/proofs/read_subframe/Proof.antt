@@ -1,5 +1,5 @@
 -- `spectra::read_subframe` meets its contract. The invariant is `Upto` of `Channels.antt`. Assumes nothing.
-use mathlib.Core.Path.{_≡_, sym, _∙_, subst}
+use mathlib.Core.Path.{_≡_, _∙_}
 use Prim.Native.Nat.{_+_, _-_, _*_, _≤_}
 use native.Mathlib.Omega.{arith}
 use borrow.Author.Needs.{needs}
@@ -10,7 +10,6 @@ use Rattle.rules.specs.Format.{each}
 use Rattle.rules.specs.Layout.{codedAt, part}
 use Rattle.rules.specs.Reading.{readCode}
 use Rattle.spectra.specs.Rows.{Stored}
-use Rattle.spectra.specs.Rows.{Subframe}
 use Rattle.spectra.proofs.Channels.{Upto, upto-none, upto-all, upto-stop, upto-more}
 use Rattle.rules.proofs.Cuts.{renewed-length}
 use Rattle.buffers.proofs.Most.{part-most}
@@ -31,49 +30,57 @@ coded-count-requires : tie.Need-coded-count-requires Inv-loop μ-loop
 coded-count-requires c κs = search needs
 
 mul-from : tie.Need-mul-from Inv-loop μ-loop
-mul-from c = search needs
+mul-from c = omega arith
 
 mul-to : tie.Need-mul-to Inv-loop μ-loop
-mul-to c = search needs
+mul-to c = omega arith
 
 add-to : tie.Need-add-to Inv-loop μ-loop
-add-to c = search needs
+add-to c = omega arith
 
 mul-to-2 : tie.Need-mul-to-2 Inv-loop μ-loop
-mul-to-2 c = search needs
+mul-to-2 c = omega arith
 
 add-read-spectra : tie.Need-add-read-spectra Inv-loop μ-loop
-add-read-spectra c = search needs
+add-read-spectra c = omega arith
 
 sub-read-spectra : tie.Need-sub-read-spectra Inv-loop μ-loop
-sub-read-spectra c = search needs
+sub-read-spectra c = omega arith
 
 part-read-spectra-start : tie.Need-part-read-spectra-start Inv-loop μ-loop
-part-read-spectra-start c = search needs
+part-read-spectra-start c = omega arith
 
 part-read-spectra-end : tie.Need-part-read-spectra-end Inv-loop μ-loop
-part-read-spectra-end c = search needs
+part-read-spectra-end c = omega arith
 
 add-read-spectra-2 : tie.Need-add-read-spectra-2 Inv-loop μ-loop
-add-read-spectra-2 c = search needs
+add-read-spectra-2 c = omega arith
 
 mul-read-spectra : tie.Need-mul-read-spectra Inv-loop μ-loop
-mul-read-spectra c = search needs
+mul-read-spectra c = omega arith
 
 sub-read-spectra-2 : tie.Need-sub-read-spectra-2 Inv-loop μ-loop
-sub-read-spectra-2 c = search needs
+sub-read-spectra-2 c = omega arith
 
 part-read-spectra-start-2 : tie.Need-part-read-spectra-start-2 Inv-loop μ-loop
-part-read-spectra-start-2 c = search needs
+part-read-spectra-start-2 c = omega arith
 
 part-read-spectra-end-2 : tie.Need-part-read-spectra-end-2 Inv-loop μ-loop
-part-read-spectra-end-2 c = search needs
+part-read-spectra-end-2 c = omega arith
 
 read-spectra-requires : tie.Need-read-spectra-requires Inv-loop μ-loop
 read-spectra-requires c κs =
     let a = c .before .before .before .before .before .before .before in
-    let at = c .before .before .before .before .loop .c * 128 in
-    ((search needs, search needs), (search needs, search needs, search needs, part-most 15 at (at + 128 - at) (a .args .resolutions .now) (a .pre .1 .1 .2)))
+    let l = c .before .before .before .before .loop in
+    let from = l .c * 128 in (
+      (omega arith, l .inv .within),
+      (
+        omega arith,
+        lent-length from 128 (a .args .resolutions .now) (omega arith),
+        lent-length ((l .c * 8 + a .args .subframe) * 128) 128 (l .codes) (omega (arith, l .inv .same)),
+        part-most 15 from (from + 128 - from) (a .args .resolutions .now) (a .pre .1 .1 .2),
+      ),
+    )
 
 -- the row's place in the buffer, its length, and what it told
 fits : (c : tie.After-read-spectra Inv-loop μ-loop) → let n = c .before .before .before .before .before .loop in let a = c .before .before .before .before .before .before .before .before .args in
@@ -108,23 +115,21 @@ returns c =
     let r = c .before .before .before in
     let l = r .before .before .before .before .before .loop in
     let a = r .before .before .before .before .before .before .before .before .args in
-    subst (Subframe _ _ _ _ _ _) (sym (c .enum-told .given .1))
-    (upto-stop (a .layout) (a .subframe) (a .part .now) (a .resolutions .now) (a .codes .now) (a .place .at) (l .codes) (l .at) (l .c) (l .inv) (omega arith) _ _ _
-    (subst (Stored _ _ _ _) (c .enum-told .given .1) (told r)))
+    upto-stop (a .layout) (a .subframe) (a .part .now) (a .resolutions .now) (a .codes .now) (a .place .at) (l .codes) (l .at) (l .c) (l .inv) (omega arith) (c .enum-told .given .1) (told r)
 
 add-c : tie.Need-add-c Inv-loop μ-loop
-add-c c = search needs
+add-c c = omega arith
 
 loop-less : tie.Need-loop-less Inv-loop μ-loop
-loop-less c = search needs
+loop-less c = omega arith
 
 loop-again : tie.Need-loop-again Inv-loop μ-loop
 loop-again c =
     let r = c .before .before .before .before in
     let l = r .before .before .before .before .before .loop in
     let a = r .before .before .before .before .before .before .before .before in
-    upto-more _ _ _ _ _ _ (l .codes) (l .at) (l .c) (l .inv) (omega arith) (omega arith) (a .pre .1 .1 .1) _ (long r) (c .before .step .given .0 .0)
-    (subst (Stored _ _ _ _) (c .before .step .given .1) (told r))
+    upto-more (a .args .layout) (a .args .subframe) (a .args .part .now) (a .args .resolutions .now) (a .args .codes .now) (a .args .place .at) (l .codes) (l .at) (l .c) (l .inv) (omega arith)
+    (omega arith) (a .pre .1 .1 .1) (r .read-spectra .last .1 .1 .1 .1 .0) (long r) (c .before .step .given .1) (told r)
 
 same-length-2 : tie.Need-same-length-2 Inv-loop μ-loop
 same-length-2 c = c .before .loop .inv .same
