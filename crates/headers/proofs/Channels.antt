@@ -2,24 +2,22 @@
 -- Assumes nothing.
 use mathlib.Core.Path.{_≡_, refl, sym, _∙_, ap, ap₂, subst}
 use mathlib.Core.List.{List, [], _∷_, _++_, append-nil}
-use mathlib.Core.Bool.{true, false, _&&_, _||_}
 use mathlib.Core.Logic.{⊎-elim}
 use Prim.Native.Nat.{ℕ, _+_, _*_, _≤_, _<_}
 use native.Mathlib.Nat.{eq-or-lt-of-le}
 use native.Mathlib.Numerals.{add-one}
 use native.Mathlib.Omega.{arith}
-use lib.Dec.{leb, eqb}
-use lib.ListN.{length, take, drop, getD, drop-of-length-le}
+use lib.ListN.{length, drop, getD, drop-of-length-le}
 use lib.Seq.{drop-cons}
 use Rattle.bits.specs.Place.{leftAt}
 use Rattle.bits.specs.declared.Place.{Place}
 use Rattle.buffers.specs.Walk.{build}
 use Rattle.buffers.proofs.Build.{build-none, build-more, length-build, build-at}
-use Rattle.rules.specs.Format.{Read, ok, check, stay, each, times, number}
+use Rattle.rules.specs.Format.{Read, ok, stay, each, times, number}
 use Rattle.rules.specs.Layout.{kindAt, kindsOf, codedAt, sidesAt, sideWidth, factorLength, sideLength, part}
 use Rattle.rules.specs.Width.{width}
 use Rattle.rules.specs.Record.{Chan, Rec, chanIn, chanOf, pad, noChan, storeFactors, storeSide}
-use Rattle.rules.specs.Reading.{readFactors, readWidth, readChannel}
+use Rattle.rules.specs.Reading.{readWidth, readChannel}
 use Rattle.rules.specs.declared.Layout.{Layout}
 use Rattle.rules.proofs.Cuts.{build-same, blocks-same, parts-all, renewed, renewed-length, row-new, row-old}
 use Rattle.rules.proofs.Turns.{onto, onto-none, walk-turn, walk-stop}

@@ -7,7 +7,7 @@ use lib.ListN.{length, drop, length-replicate}
 use Rattle.rules.specs.Layout.{factorLength, sideLength, spectrumLength}
 use Rattle.rules.specs.Reading.{Scanned, accepted, faulty}
 use Rattle.rules.specs.Refusals.{Outcome}
-use Rattle.rules.specs.Stage.{FrameLent, RecordLeft, recordLeft, readLeft, noFactors, noSide, noCodes}
+use Rattle.rules.specs.Stage.{FrameLent, RecordLeft, recordLeft, readLeft}
 use Rattle.rules.specs.declared.Layout.{Layout}
 use Rattle.rules.specs.declared.ReadAnswer.{ReadAnswer}
 use Rattle.rules.proofs.Stores.{length-factors, length-side, length-codes}

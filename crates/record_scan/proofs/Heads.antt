@@ -18,12 +18,11 @@ use Rattle.header_values.specs.declared.Value.{Value}
 use Rattle.header_values.specs.declared.Value.the-variants as value
 use Rattle.faults.specs.declared.Step.{Step}
 use Rattle.faults.specs.declared.Step.the-variants as step
-use Rattle.header_values.specs.Values.{Told}
+use Rattle.header_values.specs.Values.{Told, valueFault}
 use Rattle.headers.specs.Answers.{StoredChannels}
 use Rattle.header_values.proofs.Answered.{told-of}
 use Rattle.record_scan.specs.declared.Head.{Head}
 use Rattle.record_scan.specs.declared.Head.the-variants as head
-use Rattle.header_values.specs.Values.{valueFault}
 use Rattle.faults.specs.Steps.{stepFault}
 use Rattle.record_scan.specs.Headed.{headFault, Headed}
 

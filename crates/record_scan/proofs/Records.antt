@@ -24,16 +24,14 @@ use Rattle.faults.specs.declared.Step.{Step}
 use Rattle.faults.specs.declared.Step.the-variants as step
 use Rattle.frame_end.specs.declared.Fill.{Fill}
 use Rattle.frame_end.specs.declared.Fill.the-variants as fill
-use Rattle.faults.specs.Steps.{stepRead, stepFault}
-use Rattle.frame_end.specs.Filled.{Filled}
+use Rattle.faults.specs.Steps.{stepRead, stepFault, later}
+use Rattle.frame_end.specs.Filled.{Filled, FillIn, finished}
 use Rattle.spectra.specs.Rows.{readSubframes, Subframes}
 use Rattle.spectra.proofs.Resolved.{coded-rows, codes-stored}
 use Rattle.record_scan.specs.declared.Head.the-variants as head
 use Rattle.frame_end.specs.declared.Found.{Found}
 use Rattle.frame_end.specs.declared.Found.the-variants as found
-use Rattle.faults.specs.Steps.{later}
 use Rattle.record_scan.specs.Headed.{Headed}
-use Rattle.frame_end.specs.Filled.{FillIn, finished}
 use Rattle.record_scan.specs.Scans.{scanPart, Refusal, Scans}
 
 -- a bit of the part, counted from the frame's first by the bits that are left there

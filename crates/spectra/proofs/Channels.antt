@@ -16,8 +16,7 @@ use Rattle.rules.specs.Reading.{readCode}
 use Rattle.rules.specs.declared.Layout.{Layout}
 use Rattle.rules.proofs.Cuts.{by-order, build-same, renewed, renewed-length, row-new, row-old}
 use Rattle.rules.proofs.Turns.{onto, onto-none, each-turn, each-stop, each-end}
-use Rattle.spectra.specs.Rows.{Blank, Stored}
-use Rattle.spectra.specs.Rows.{codedRows, readSubframe, rowOf, Subframe}
+use Rattle.spectra.specs.Rows.{Blank, Stored, codedRows, readSubframe, rowOf, Subframe}
 use Rattle.faults.specs.declared.Fault.{Fault}
 use Rattle.faults.specs.declared.Step.{Step}
 use Rattle.faults.specs.declared.Step.the-variants as step

@@ -15,8 +15,7 @@ use Rattle.rules.specs.Record.{codesIn, pad}
 use Rattle.rules.specs.declared.Layout.{Layout}
 use Rattle.rules.proofs.Cuts.{by-order, build-same, blocks-same, length-part, parts-all, subframe-cut}
 use Rattle.rules.proofs.Turns.{onto, onto-none, each-turn, each-stop, each-end}
-use Rattle.spectra.specs.Rows.{Blank}
-use Rattle.spectra.specs.Rows.{readSubframe, readSubframes, rowOf, subframeIn, Subframe, Subframes}
+use Rattle.spectra.specs.Rows.{Blank, readSubframe, readSubframes, rowOf, subframeIn, Subframe, Subframes}
 use Rattle.faults.specs.declared.Fault.{Fault}
 use Rattle.faults.specs.declared.Step.the-variants as step
 
