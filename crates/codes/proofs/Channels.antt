@@ -16,7 +16,7 @@ use Rattle.rules.specs.Resolution.{resolutionAt, bandResolution, channelResolut
 use Rattle.rules.specs.Code.{codeOf, codeAt, channelCodes, allCodes}
 use Rattle.rules.specs.declared.Layout.{Layout}
 use Rattle.rules.proofs.Cuts.{build-same, blocks-same, block-part}
-use Rattle.quantizer.proofs.Bands.{band-le, channel-size, resolutionsAt}
+use Rattle.resolutions.proofs.Bands.{band-le, channel-size, resolutionsAt}
 use Rattle.codes.specs.Subframe.{codeIn, subframeCodes, codesBy}
 
 pub subframe-size : (rs : List ℕ) (sc : List Float) (s : ℕ) → length (subframeCodes rs sc s) ≡ 128

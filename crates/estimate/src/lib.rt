@@ -7,8 +7,8 @@ ghost use Rattle.rules.specs.Estimate.{bandBits, channelBits, headerBits, fixed
 use quantizer::counts::marks_of;
 use quantizer::counts::small_bits;
 use quantizer::counts::wide_bits;
-use quantizer::resolutions::calculate_resolution;
-use quantizer::resolutions::noise_at;
+use resolutions::calculate_resolution;
+use resolutions::noise_at;
 use quantizer::tables::dead_zone;
 use quantizer::tables::magnitude_bits;
 use rules::Layout;

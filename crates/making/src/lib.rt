@@ -21,7 +21,7 @@ use factors::scale_spectra;
 use factors::scaling_table;
 use hfr::fill_side;
 use packing::pack_frame;
-use quantizer::resolutions::frame_resolutions;
+use resolutions::frame_resolutions;
 use rules::Layout;
 use rules::StageAnswer;
 

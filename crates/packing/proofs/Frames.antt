@@ -22,7 +22,7 @@ use Rattle.rules.specs.Record.{Rec, chanOf, resolutionsIn, codesIn, recOf}
 use Rattle.rules.specs.Fields.{channelFields, codeBits, fields}
 use Rattle.rules.specs.Frame.{payload, payloadBits, frameOf}
 use Rattle.rules.specs.declared.Layout.{Layout}
-use Rattle.quantizer.proofs.Bands.{resolutions-are}
+use Rattle.resolutions.proofs.Bands.{resolutions-are}
 
 regroup : (a b c d : List Bool) → a ++ (b ++ (c ++ d)) ≡ (a ++ (b ++ c)) ++ d
 regroup a b c d = simp append-assoc

@@ -3,19 +3,19 @@ use mathlib.Core.Path.{_≡_, refl, sym, ap, _∙_}
 use mathlib.Core.Bool.{Bool, true, cond, _&&_}
 use mathlib.Core.List.{List, []}
 use mathlib.Core.Logic.{⊎-elim}
-use Prim.Native.Nat.{ℕ, zero, suc, _+_, _-_, _*_, _/_, _%_, _^_, _≤_, _<_}
+use Prim.Native.Nat.{ℕ, zero, suc, _+_, _-_, _*_, _%_, _^_, _≤_, _<_}
 use native.Mathlib.Nat.{eq-or-lt-of-le}
 use native.Mathlib.Omega.{arith}
 use borrow.Author.Tests.{leb-true, ltb-true, le-ltb}
 use lib.Dec.{leb, ltb}
 use lib.IntN.{pos, natAbs}
 use lib.Ieee.{binary32, ofBits, ofInt, add, sub, toSigned}
-use lib.ListN.{getD, take, drop}
+use lib.ListN.{getD}
 use Rattle.buffers.specs.Walk.{build, every}
 use Rattle.buffers.proofs.Build.{build-at}
 use Rattle.buffers.proofs.Every.{every-at}
 use Rattle.buffers.proofs.Tests.{and-fst, and-snd}
-use Rattle.rules.specs.Tables.{resolutionCurve, stepTable, maxBitTable, spectrumBits, spectrumValue}
+use Rattle.rules.specs.Tables.{stepTable, maxBitTable, spectrumBits, spectrumValue}
 use Rattle.rules.specs.Code.{stepOf, stepShift, magnitudeBits, codeLimit}
 use Rattle.quantizer.specs.Packed.{packed, entryOf}
 
@@ -32,17 +32,6 @@ pub last-arm : (n r : ℕ) → r ≤ n → Others n r → r ≡ n
 last-arm zero r h o = omega arith
 last-arm (suc n) r h o =
     ⊎-elim (λ (e : r ≡ suc n). e) (λ (l : r < suc n). absurd (o .1 (last-arm n r (omega arith) (o .0)))) (eq-or-lt-of-le h)
-
--- ---- SCALE_TO_RESOLUTION_CURVE
-abbrev pub curveRow : ℕ → ℕ
-curveRow i = packed (take 16 (drop (16 * i) resolutionCurve))
-
-curve-test : build (λ (i : ℕ). entryOf (curveRow (i / 16)) (i % 16)) 59 ≡ build (λ (i : ℕ). getD resolutionCurve i 0) 59
-unfolding build packed resolutionCurve
-curve-test = refl
-
-pub curve-entry : (i : ℕ) → i ≤ 58 → entryOf (curveRow (i / 16)) (i % 16) ≡ getD resolutionCurve i 0
-curve-entry i h = alike _ _ 59 curve-test i (omega arith)
 
 -- ---- the rows of the spectrum tables
 module _ (t : List (List ℕ)) where

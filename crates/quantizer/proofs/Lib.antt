@@ -1,4 +1,3 @@
 pub mod Signs
 pub mod Entries
 pub mod Reaching
-pub mod Bands

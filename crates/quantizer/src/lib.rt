@@ -1,4 +1,4 @@
-// Document 01, **Resolution**, **Code** and **Estimate**, one value at a time: what estimate, quantiser, packer and reader share.
+// Document 01, **Code** and **Estimate**, one value at a time: what estimate, quantiser, packer and reader share.
 ghost use mathlib.Core.Path.{_≡_};
 ghost use Prim.Native.Nat.{_≤_};
 ghost use Rattle.rules.specs.Signed.{heldZ};
@@ -9,7 +9,6 @@ use self::tables::step_of;
 use floats::truncate;
 
 pub mod counts;
-pub mod resolutions;
 pub mod tables;
 
 // z held within low and high.

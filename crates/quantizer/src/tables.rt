@@ -2,11 +2,11 @@
 // bits, and are shifted out: an array would be copied to the stack at each read.
 ghost use mathlib.Core.Path.{_≡_};
 ghost use mathlib.Core.List.{[]};
-ghost use Prim.Native.Nat.{_*_, _/_, _%_, _^_, _≤_, _<_};
+ghost use Prim.Native.Nat.{_^_, _≤_, _<_};
 ghost use lib.IntN.{pos};
 ghost use lib.Ieee.{nan};
-ghost use lib.ListN.{getD, take, drop};
-ghost use Rattle.rules.specs.Tables.{resolutionCurve, deadZoneTable, spectrumBits, spectrumValue};
+ghost use lib.ListN.{getD};
+ghost use Rattle.rules.specs.Tables.{deadZoneTable, spectrumBits, spectrumValue};
 ghost use Rattle.rules.specs.Code.{stepOf, stepShift, magnitudeBits, codeLimit};
 ghost use Rattle.quantizer.specs.Packed.{packed, entryOf};
 
@@ -16,26 +16,6 @@ pub fn digit(row: u64, place: usize) -> u32
     ensures { λ r. ⌜ r ≡ entryOf row place ⌝ }
 {
     ((row >> (4 * place)) % 16) as u32
-}
-
-// SCALE_TO_RESOLUTION_CURVE.
-fn curve_row(i: usize) -> u64
-    requires { ⌜ i ≤ 3 ⌝ }
-    ensures { λ r. ⌜ r ≡ packed (take 16 (drop (16 * i) resolutionCurve)) ⌝ }
-{
-    match i {
-        0 => 0xCCCD_DDDD_DEEE_EEEF,
-        1 => 0xAAAA_AAAB_BBBB_BCCC,
-        2 => 0x5667_8888_8899_9999,
-        _ => 0x0000_0122_2233_3444,
-    }
-}
-
-pub fn curve(at: usize) -> u8
-    requires { ⌜ at ≤ 58 ⌝ }
-    ensures { λ r. ⌜ (r ≡ getD resolutionCurve at 0) × (r ≤ 15) ⌝ }
-{
-    digit(curve_row(at / 16), at % 16) as u8
 }
 
 // MAX_BIT_TABLE - 1, not below 0.

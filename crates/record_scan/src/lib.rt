@@ -21,7 +21,7 @@ use header_values::read_boundary;
 use header_values::read_level;
 use header_values::value_fault;
 use headers::read_channels;
-use quantizer::resolutions::frame_resolutions;
+use resolutions::frame_resolutions;
 use rules::Layout;
 use spectra::read_all_spectra;
 

@@ -18,7 +18,7 @@ use Rattle.rules.specs.declared.Layout.{Layout}
 use Rattle.rules.proofs.Cuts.{every-same, block-part}
 use Rattle.rules.proofs.Legality.{row-code}
 use Rattle.buffers.proofs.Build.{build-at}
-use Rattle.quantizer.proofs.Bands.{channel-size, resolutionsAt}
+use Rattle.resolutions.proofs.Bands.{channel-size, resolutionsAt}
 use Rattle.records.specs.Judged.{subframeLegal, codesLegal, channelLegal, channelsLegal}
 
 pub range-past : (r : ℕ) → 15 < r → codeRange r ≡ 0

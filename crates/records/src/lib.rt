@@ -9,7 +9,7 @@ ghost use Rattle.rules.specs.Layout.{Sizes, kindAt, sideWidth};
 ghost use Rattle.rules.specs.Resolution.{allResolutions};
 ghost use Rattle.rules.specs.Record.{legalHead, legalRow, codeRange, legalRecord};
 ghost use Rattle.records.specs.Judged.{subframeLegal, codesLegal, channelLegal, channelsLegal};
-use quantizer::resolutions::frame_resolutions;
+use resolutions::frame_resolutions;
 use quantizer::tables::limit_of;
 use rules::Layout;
 use rules::coded_count;

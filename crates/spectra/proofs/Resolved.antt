@@ -11,7 +11,7 @@ use Rattle.rules.specs.Resolution.{allResolutions}
 use Rattle.rules.specs.Record.{resolutions, chanOf, codesIn, recOf, pad, storeCodes}
 use Rattle.rules.specs.declared.Layout.{Layout}
 use Rattle.rules.proofs.Cuts.{blocks-same}
-use Rattle.quantizer.proofs.Bands.{resolutions-are}
+use Rattle.resolutions.proofs.Bands.{resolutions-are}
 use Rattle.spectra.specs.Rows.{codedRows}
 
 module _ (l : Layout) (level boundary : ℕ) (factors side : List ℕ) where

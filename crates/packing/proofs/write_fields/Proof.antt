@@ -4,7 +4,7 @@ use native.Mathlib.Omega.{arith}
 use lib.ListN.{length}
 use Rattle.bits.proofs.Runs.{writes-then}
 use Rattle.buffers.specs.Walk.{AtMost}
-use Rattle.quantizer.proofs.Bands.{resolutions-most, resolutions-long}
+use Rattle.resolutions.proofs.Bands.{resolutions-most, resolutions-long}
 use Rattle.packing.proofs.Frames.{fields-are}
 use borrow.Author.Needs.{needs}
 use Rattle.packing.proofs.write_fields.Statement.{statement}

@@ -2,7 +2,7 @@
 use mathlib.Core.Path.{sym, _∙_, subst}
 use borrow.Author.Needs.{needs}
 use Rattle.buffers.specs.Walk.{AtMost}
-use Rattle.quantizer.proofs.Bands.{resolutions-most}
+use Rattle.resolutions.proofs.Bands.{resolutions-most}
 use Rattle.record_scan.proofs.Records.{resolved}
 use Rattle.record_scan.proofs.read_resolved.Statement.{statement}
 use Rattle.record_scan.proofs.read_resolved.Tie as tie

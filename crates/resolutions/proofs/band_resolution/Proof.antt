@@ -1,12 +1,12 @@
--- `quantizer::resolutions::band_resolution` meets its contract. Assumes nothing.
+-- `resolutions::band_resolution` meets its contract. Assumes nothing.
 use mathlib.Core.Path.{_∙_, ap}
 use Prim.Native.Nat.{ℕ}
 use native.Mathlib.Omega.{arith}
 use borrow.Author.Needs.{needs}
 use borrow.Author.Tests.{lt-ltb, le-ltb}
 use Rattle.rules.specs.Resolution.{resolution}
-use Rattle.quantizer.proofs.resolutions.band_resolution.Statement.{statement}
-use Rattle.quantizer.proofs.resolutions.band_resolution.Tie as tie
+use Rattle.resolutions.proofs.band_resolution.Statement.{statement}
+use Rattle.resolutions.proofs.band_resolution.Tie as tie
 
 noise-at-requires : tie.Need-noise-at-requires
 noise-at-requires c κs = search needs

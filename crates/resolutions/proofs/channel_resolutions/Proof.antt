@@ -1,11 +1,11 @@
--- `quantizer::resolutions::channel_resolutions` meets its contract. The invariant: the first b are stored. Assumes nothing.
+-- `resolutions::channel_resolutions` meets its contract. The invariant: the first b are stored. Assumes nothing.
 use Prim.Native.Nat.{_≤_, _-_}
 use native.Mathlib.Omega.{arith}
 use borrow.Author.Needs.{needs}
 use Rattle.buffers.proofs.Build.{Filled, filled-none, filled-more, filled-all}
 use Rattle.rules.specs.Resolution.{bandResolution, resolutionAt, channelResolutions}
-use Rattle.quantizer.proofs.resolutions.channel_resolutions.Statement.{statement}
-use Rattle.quantizer.proofs.resolutions.channel_resolutions.Tie as tie
+use Rattle.resolutions.proofs.channel_resolutions.Statement.{statement}
+use Rattle.resolutions.proofs.channel_resolutions.Tie as tie
 
 abbrev Inv-loop : tie.InvT-loop
 Inv-loop level boundary factors coded resolutions₀ b₀ resolutions b = (b ≤ 128) × Filled (bandResolution level boundary factors coded) resolutions₀ b resolutions

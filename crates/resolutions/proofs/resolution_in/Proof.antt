@@ -1,4 +1,4 @@
--- `quantizer::resolutions::resolution_in` meets its contract. Assumes nothing.
+-- `resolutions::resolution_in` meets its contract. Assumes nothing.
 use mathlib.Core.Path.{ap, _∙_}
 use Prim.Native.Nat.{ℕ, min, max}
 use native.Mathlib.Omega.{arith}
@@ -7,8 +7,8 @@ use borrow.Author.Needs.{needs}
 use borrow.Author.Tests.{eq-eqb, ne-eqb}
 use Rattle.rules.specs.Tables.{resolutionCurve}
 use Rattle.rules.specs.Resolution.{resolutionIn}
-use Rattle.quantizer.proofs.resolutions.resolution_in.Statement.{statement}
-use Rattle.quantizer.proofs.resolutions.resolution_in.Tie as tie
+use Rattle.resolutions.proofs.resolution_in.Statement.{statement}
+use Rattle.resolutions.proofs.resolution_in.Tie as tie
 
 returns : tie.Need-returns
 unfolding resolutionIn

@@ -1,4 +1,4 @@
--- `quantizer::resolutions::frame_resolutions` meets its contract. The invariant: the first c channels are stored. Assumes nothing.
+-- `resolutions::frame_resolutions` meets its contract. The invariant: the first c channels are stored. Assumes nothing.
 use mathlib.Core.Path.{_∙_}
 use Prim.Native.Nat.{_≤_, _-_, _*_}
 use native.Mathlib.Omega.{arith}
@@ -6,9 +6,9 @@ use borrow.Author.Needs.{needs}
 use Rattle.buffers.proofs.Build.{back-width}
 use Rattle.buffers.proofs.Blocks.{Blocked, blocked-none, blocked-more, blocked-exact}
 use Rattle.rules.specs.Resolution.{allResolutions}
-use Rattle.quantizer.proofs.Bands.{resolutionsAt, channel-size}
-use Rattle.quantizer.proofs.resolutions.frame_resolutions.Statement.{statement}
-use Rattle.quantizer.proofs.resolutions.frame_resolutions.Tie as tie
+use Rattle.resolutions.proofs.Bands.{resolutionsAt, channel-size}
+use Rattle.resolutions.proofs.frame_resolutions.Statement.{statement}
+use Rattle.resolutions.proofs.frame_resolutions.Tie as tie
 
 abbrev Inv-loop : tie.InvT-loop
 Inv-loop layout level boundary factors resolutions₀ channels c₀ resolutions c =

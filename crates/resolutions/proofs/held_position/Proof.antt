@@ -1,4 +1,4 @@
--- `quantizer::resolutions::held_position` meets its contract. The position lies far inside an i64. Assumes nothing.
+-- `resolutions::held_position` meets its contract. The position lies far inside an i64. Assumes nothing.
 use mathlib.Core.Path.{_≡_, sym, ap, ap₂, _∙_, subst}
 use Prim.Native.Nat.{ℕ, _*_, _/_, _≤_}
 use native.Mathlib.Nat.{lt-of-le-of-lt}
@@ -14,9 +14,9 @@ use borrow.Author.Needs.{needs}
 use Rattle.rules.specs.Signed.{heldZ}
 use Rattle.rules.specs.Resolution.{curvePosition, heldPosition}
 use Rattle.floats.proofs.SignedLaws.{mag-sub, mag-add}
 use Rattle.quantizer.proofs.Signs.{held-nat}
-use Rattle.quantizer.proofs.resolutions.held_position.Statement.{statement}
-use Rattle.quantizer.proofs.resolutions.held_position.Tie as tie
+use Rattle.resolutions.proofs.held_position.Statement.{statement}
+use Rattle.resolutions.proofs.held_position.Tie as tie
 
 mul-down : tie.Need-mul-down
 mul-down c = search needs

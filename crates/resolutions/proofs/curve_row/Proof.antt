@@ -1,10 +1,10 @@
--- `quantizer::tables::curve_row` meets its contract: each number is its part of the curve. Assumes nothing.
+-- `resolutions::curve_row` meets its contract: each number is its part of the curve. Assumes nothing.
 use mathlib.Core.Path.{_≡_}
 use native.Mathlib.Omega.{arith}
 use Rattle.rules.specs.Tables.{resolutionCurve}
 use Rattle.quantizer.specs.Packed.{packed}
-use Rattle.quantizer.proofs.tables.curve_row.Statement.{statement}
-use Rattle.quantizer.proofs.tables.curve_row.Tie as tie
+use Rattle.resolutions.proofs.curve_row.Statement.{statement}
+use Rattle.resolutions.proofs.curve_row.Tie as tie
 
 returns : tie.Need-returns
 unfolding packed resolutionCurve

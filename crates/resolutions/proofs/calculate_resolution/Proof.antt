@@ -1,8 +1,8 @@
--- `quantizer::resolutions::calculate_resolution` meets its contract. Assumes nothing.
+-- `resolutions::calculate_resolution` meets its contract. Assumes nothing.
 use borrow.Author.Needs.{needs}
 use Rattle.rules.specs.Resolution.{resolution}
-use Rattle.quantizer.proofs.resolutions.calculate_resolution.Statement.{statement}
-use Rattle.quantizer.proofs.resolutions.calculate_resolution.Tie as tie
+use Rattle.resolutions.proofs.calculate_resolution.Statement.{statement}
+use Rattle.resolutions.proofs.calculate_resolution.Tie as tie
 
 resolution-in-requires : tie.Need-resolution-in-requires
 resolution-in-requires c κs = search needs

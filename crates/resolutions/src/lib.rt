@@ -3,11 +3,13 @@ ghost use mathlib.Core.Path.{_≡_};
 ghost use mathlib.Core.Bool.{cond};
 ghost use Prim.Native.Nat.{_*_, _≤_, min, max};
 ghost use lib.Dec.{ltb};
-ghost use lib.ListN.{length};
+ghost use lib.ListN.{length, getD, take, drop};
+ghost use Rattle.rules.specs.Tables.{resolutionCurve};
 ghost use Rattle.rules.specs.Layout.{Sizes};
 ghost use Rattle.rules.specs.Resolution.{noiseAt, heldPosition, resolutionIn, resolution, channelResolutions, allResolutions};
-use super::held;
-use super::tables::curve;
+ghost use Rattle.quantizer.specs.Packed.{packed};
+use quantizer::held;
+use quantizer::tables::digit;
 use rules::Layout;
 use rules::coded_count;
 
@@ -31,6 +33,26 @@ fn held_position(noise: usize, factor: u8) -> usize
     let down = 5 * (factor as usize) / 2;
     let position = noise as i64 - down as i64 + 2;
     held(position, 0, 58) as usize
+}
+
+// SCALE_TO_RESOLUTION_CURVE, sixteen entries in a number as in the quantizer's tables.
+fn curve_row(i: usize) -> u64
+    requires { ⌜ i ≤ 3 ⌝ }
+    ensures { λ r. ⌜ r ≡ packed (take 16 (drop (16 * i) resolutionCurve)) ⌝ }
+{
+    match i {
+        0 => 0xCCCD_DDDD_DEEE_EEEF,
+        1 => 0xAAAA_AAAB_BBBB_BCCC,
+        2 => 0x5667_8888_8899_9999,
+        _ => 0x0000_0122_2233_3444,
+    }
+}
+
+fn curve(at: usize) -> u8
+    requires { ⌜ at ≤ 58 ⌝ }
+    ensures { λ r. ⌜ (r ≡ getD resolutionCurve at 0) × (r ≤ 15) ⌝ }
+{
+    digit(curve_row(at / 16), at % 16) as u8
 }
 
 fn larger(a: u8, b: u8) -> u8

@@ -1,12 +1,12 @@
--- `quantizer::tables::curve` meets its contract. Assumes nothing.
+-- `resolutions::curve` meets its contract. Assumes nothing.
 use mathlib.Core.Path.{_∙_, ap}
 use Prim.Native.Nat.{ℕ, _%_}
 use native.Mathlib.Omega.{arith}
 use borrow.Author.Needs.{needs}
 use Rattle.quantizer.specs.Packed.{entryOf}
-use Rattle.quantizer.proofs.Entries.{curve-entry}
-use Rattle.quantizer.proofs.tables.curve.Statement.{statement}
-use Rattle.quantizer.proofs.tables.curve.Tie as tie
+use Rattle.resolutions.proofs.CurveEntries.{curve-entry}
+use Rattle.resolutions.proofs.curve.Statement.{statement}
+use Rattle.resolutions.proofs.curve.Tie as tie
 
 curve-row-requires : tie.Need-curve-row-requires
 curve-row-requires c κs = search needs

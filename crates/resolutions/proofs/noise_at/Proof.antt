@@ -1,10 +1,10 @@
--- `quantizer::resolutions::noise_at` meets its contract. Assumes nothing.
+-- `resolutions::noise_at` meets its contract. Assumes nothing.
 use native.Mathlib.Omega.{arith}
 use borrow.Author.Needs.{needs}
 use borrow.Author.Tests.{lt-ltb, le-ltb}
 use Rattle.rules.specs.Resolution.{noiseAt}
-use Rattle.quantizer.proofs.resolutions.noise_at.Statement.{statement}
-use Rattle.quantizer.proofs.resolutions.noise_at.Tie as tie
+use Rattle.resolutions.proofs.noise_at.Statement.{statement}
+use Rattle.resolutions.proofs.noise_at.Tie as tie
 
 returns : tie.Need-returns
 unfolding noiseAt

@@ -1,0 +1,2 @@
+pub mod CurveEntries
+pub mod Bands
