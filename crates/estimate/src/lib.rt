@@ -7,10 +7,10 @@ ghost use Rattle.rules.specs.Estimate.{bandBits, channelBits, headerBits, fixed
 use quantizer::counts::marks_of;
 use quantizer::counts::small_bits;
 use quantizer::counts::wide_bits;
-use resolutions::calculate_resolution;
-use resolutions::noise_at;
 use quantizer::tables::dead_zone;
 use quantizer::tables::magnitude_bits;
+use resolutions::calculate_resolution;
+use resolutions::noise_at;
 use rules::Layout;
 use rules::coded_count;
 use widths::calculate_optimal_delta_length;

@@ -3,9 +3,9 @@ ghost use mathlib.Core.Path.{_≡_};
 ghost use Prim.Native.Nat.{suc, _*_, _≤_, _<_, min};
 ghost use lib.ListN.{length};
 ghost use Rattle.rules.specs.Layout.{Sizes, spectrumLength, sideLength};
-ghost use Rattle.rules.specs.Hfr.{spectrumAverage, sourceAverage, groupValue, hfrScale, channelSide, allSide};
+ghost use Rattle.rules.specs.Hfr.{spectrumAverage, sourceAverage, groupValue, hfrScale, allSide};
 ghost use Rattle.factors.specs.Scaling.{IsScaling};
-ghost use Rattle.hfr.specs.Side.{intensitySide, scaleSide};
+ghost use Rattle.hfr.specs.Side.{intensitySide, scaleSide, sideAt};
 use floats::Average;
 use rules::Layout;
 
@@ -117,7 +117,7 @@ fn fill_scales(layout: Layout, table: &[f32; 64], spectra: &[f32], scaled: &[f32
     }
 }
 
-// A channel's eight side values.
+// A channel's eight side values, of the buffers of all channels.
 pub fn channel_side(
     layout: Layout,
     channel: usize,
@@ -129,13 +129,22 @@ pub fn channel_side(
 )
     requires { ⌜ Sizes layout ⌝ }
     requires { ⌜ IsScaling (now table) ⌝ }
-    requires { ⌜ (channel < 16) × (length (now spectra) ≡ 1024) × (length (now scaled) ≡ 1024) × (length (now intensities) ≡ 8) × (length (now side) ≡ 8) ⌝ }
-    ensures { λ _. ⌜ now (side .exit) ≡ channelSide layout channel (now (spectra .entry)) (now (scaled .entry)) (now (intensities .entry)) ⌝ }
+    requires { ⌜ (channel < layout .channels) × (length (now spectra) ≡ spectrumLength layout) × (length (now scaled) ≡ spectrumLength layout) ⌝ }
+    requires { ⌜ (length (now intensities) ≡ sideLength layout) × (length (now side) ≡ 8) ⌝ }
+    ensures { λ _. ⌜ now (side .exit) ≡ sideAt layout (now (spectra .entry)) (now (scaled .entry)) (now (intensities .entry)) channel ⌝ }
 {
     if rules::is_secondary(layout, channel) {
-        copy_intensities(intensities, side);
+        let s = channel * 8;
+        copy_intensities(&intensities[s..s + 8], side);
     } else {
-        fill_scales(layout, table, spectra, scaled, side);
+        let a = channel * 1024;
+        fill_scales(
+            layout,
+            table,
+            &spectra[a..a + 1024],
+            &scaled[a..a + 1024],
+            side,
+        );
     }
 }
 
@@ -156,15 +165,14 @@ pub fn fill_side(
     let channels = layout.channels;
     let mut c = 0;
     while c < channels {
-        let a = c * 1024;
         let s = c * 8;
         channel_side(
             layout,
             c,
             table,
-            &spectra[a..a + 1024],
-            &scaled[a..a + 1024],
-            &intensities[s..s + 8],
+            spectra,
+            scaled,
+            intensities,
             &mut side[s..s + 8],
         );
         c += 1;
