@@ -1,3 +1,2 @@
 pub mod Count
 pub mod Small
-pub mod Scaled

@@ -3,17 +3,13 @@ use mathlib.Core.List.{List}
 use Prim.Native.Nat.{ℕ, _<_}
 use native.Mathlib.Omega.{arith}
 use lib.Ieee.{Float}
-use lib.ListN.{getD, take, drop}
+use lib.ListN.{getD}
 use Rattle.buffers.specs.Walk.{AtMost}
-use Rattle.buffers.proofs.Most.{part-most, build-most, blocks-most}
+use Rattle.buffers.proofs.Most.{build-most, blocks-most}
 use Rattle.rules.specs.Layout.{codedAt, part}
 use Rattle.rules.specs.Factor.{channelFactors, allFactors}
 use Rattle.rules.specs.declared.Layout.{Layout}
 use Rattle.rules.proofs.Made.{band-held}
-
--- of a part
-pub part-small : (a k : ℕ) (xs : List ℕ) → ((i : ℕ) → getD xs i 0 < 64) → (i : ℕ) → getD (take k (drop a xs)) i 0 < 64
-part-small a k xs h i = omega (arith, part-most 63 a k xs (λ j. omega (arith, h j)) i)
 
 factors-most : (l : Layout) (xs : List Float) → AtMost 63 (allFactors l xs)
 unfolding allFactors channelFactors

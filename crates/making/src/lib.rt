@@ -17,13 +17,13 @@ use buffers::clear_i32;
 use buffers::clear_u8;
 use codes::quantize_spectra;
 use factors::calculate_scale_factors;
-use factors::scale_spectra;
 use factors::scaling_table;
 use hfr::fill_side;
 use packing::pack_frame;
 use resolutions::frame_resolutions;
 use rules::Layout;
 use rules::StageAnswer;
+use scaling::scale_spectra;
 
 // Factors, scaled values and side values. The table is taken once and lent.
 fn prepare(

@@ -1,6 +1,7 @@
 -- laws that code and theorems cite
 pub mod Layouts
 pub mod Cuts
+pub mod LentRows
 pub mod Signs
 pub mod Levels
 pub mod Boundaries

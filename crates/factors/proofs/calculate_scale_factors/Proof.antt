@@ -1,8 +1,7 @@
 -- `factors::calculate_scale_factors` meets its contract. The invariant: the first c channels are done. Assumes nothing.
-use mathlib.Core.Path.{_∙_}
+use mathlib.Core.Path.{refl, _∙_}
 use mathlib.Core.List.{List}
 use Prim.Native.Nat.{ℕ, _≤_, _-_, _*_}
-use native.Mathlib.Omega.{arith}
 use borrow.Author.Needs.{needs}
 use lib.Ieee.{Float}
 use Rattle.buffers.proofs.Build.{back-width}
@@ -10,6 +9,7 @@ use Rattle.buffers.proofs.Blocks.{Blocked, blocked-none, blocked-more, blocked-
 use Rattle.rules.specs.Layout.{codedAt, part}
 use Rattle.rules.specs.Factor.{channelFactors, allFactors}
 use Rattle.rules.specs.declared.Layout.{Layout}
+use Rattle.rules.proofs.LentRows.{next-le, nearer, below, next-fits, start-fits, end-fits, bytes-fits, starts, ends, next-ends, lent-long}
 use Rattle.rules.proofs.Made.{factors-size}
 use Rattle.factors.proofs.calculate_scale_factors.Statement.{statement}
 use Rattle.factors.proofs.calculate_scale_factors.Tie as tie
@@ -27,59 +27,86 @@ loop-holds : tie.Need-loop-holds Inv-loop μ-loop
 loop-holds c = (search needs, blocked-none _ 128 _)
 
 coded-count-requires : tie.Need-coded-count-requires Inv-loop μ-loop
-coded-count-requires c κs = search needs
+coded-count-requires c κs =
+    let start = c .before .before .before .before in
+    let h = c .loop-test .taken in
+    (start .pre .0, below _ _ h 16 (start .pre .0 .few))
 
 mul-a : tie.Need-mul-a Inv-loop μ-loop
-mul-a c = search needs
+mul-a c = start-fits 1024 16 refl _ _ (c .before .loop-test .taken) (c .before .before .before .before .before .pre .0 .few)
 
 mul-f : tie.Need-mul-f Inv-loop μ-loop
-mul-f c = search needs
+mul-f c = start-fits 128 16 refl _ _ (c .before .loop-test .taken) (c .before .before .before .before .before .pre .0 .few)
 
 add-channel-factors : tie.Need-add-channel-factors Inv-loop μ-loop
-add-channel-factors c = search needs
+add-channel-factors c =
+    let start = c .before .before .before .before .before in
+    let h = c .before .loop-test .taken in
+    end-fits 1024 16 refl _ _ h (start .pre .0 .few)
 
 mul-channel-factors : tie.Need-mul-channel-factors Inv-loop μ-loop
-mul-channel-factors c = search needs
+mul-channel-factors c =
+    let start = c .before .before .before .before .before in
+    let h = c .before .loop-test .taken in
+    bytes-fits 1024 16 refl _ _ h (start .pre .0 .few)
 
 sub-channel-factors : tie.Need-sub-channel-factors Inv-loop μ-loop
-sub-channel-factors c = search needs
+sub-channel-factors c = starts _ 1024
 
 part-channel-factors-start : tie.Need-part-channel-factors-start Inv-loop μ-loop
-part-channel-factors-start c = search needs
+part-channel-factors-start c = starts _ 1024
 
 part-channel-factors-end : tie.Need-part-channel-factors-end Inv-loop μ-loop
-part-channel-factors-end c = search needs
+part-channel-factors-end c =
+    let start = c .before .before .before .before .before in
+    let h = c .before .loop-test .taken in
+    ends 1024 _ _ _ h (start .pre .1 .1 .0)
 
 add-channel-factors-2 : tie.Need-add-channel-factors-2 Inv-loop μ-loop
-add-channel-factors-2 c = search needs
+add-channel-factors-2 c =
+    let start = c .before .before .before .before .before .before in
+    let h = c .before .before .loop-test .taken in
+    end-fits 128 16 refl _ _ h (start .pre .0 .few)
 
 sub-channel-factors-2 : tie.Need-sub-channel-factors-2 Inv-loop μ-loop
-sub-channel-factors-2 c = search needs
+sub-channel-factors-2 c = starts _ 128
 
 part-channel-factors-start-2 : tie.Need-part-channel-factors-start-2 Inv-loop μ-loop
-part-channel-factors-start-2 c = search needs
+part-channel-factors-start-2 c = starts _ 128
 
 part-channel-factors-end-2 : tie.Need-part-channel-factors-end-2 Inv-loop μ-loop
-part-channel-factors-end-2 c = search needs
+part-channel-factors-end-2 c =
+    let start = c .before .before .before .before .before .before in
+    let s = c .before .before .before in
+    let h = c .before .before .loop-test .taken in
+    ends 128 _ _ _ h (s .loop .inv .1 .0 ∙ start .pre .1 .1 .1)
 
 channel-factors-requires : tie.Need-channel-factors-requires Inv-loop μ-loop
-channel-factors-requires c κs = search needs
+channel-factors-requires c κs =
+    let start = c .before .before .before .before .before .before .before in
+    let s = c .before .before .before .before in
+    let h = c .before .before .before .loop-test .taken in
+    (start .pre .1 .0, (lent-long 1024 _ _ _ h (start .pre .1 .1 .0), lent-long 128 _ _ _ h (s .loop .inv .1 .0 ∙ start .pre .1 .1 .1)))
 
 add-c : tie.Need-add-c Inv-loop μ-loop
-add-c c = search needs
+add-c c =
+    let start = c .before .before .before .before .before .before .before .before .before .before in
+    let h = c .before .before .before .before .before .before .loop-test .taken in
+    next-fits _ _ h 16 refl (start .pre .0 .few)
 
 loop-less : tie.Need-loop-less Inv-loop μ-loop
-loop-less c = search needs
+loop-less c = nearer _ _ (c .before .before .before .before .before .before .loop-test .taken)
 
 loop-again : tie.Need-loop-again Inv-loop μ-loop
 loop-again c =
     let s = c .before .before .before .before .before .before .before in
     let start = s .before .before .before in
     let l = start .args .layout in
-    let xs = start .args .spectra .now in (
-      search needs,
+    let xs = start .args .spectra .now in
+    let h = c .before .before .before .before .before .before .loop-test .taken in (
+      next-le _ _ h,
       blocked-more (factorsAt l xs) 128 (l .channels) (start .args .factors .now) (λ i h. factors-size _ _) (s .loop .c) (s .loop .factors)
-          (c .before .before .before .before .before .before .loop-test .taken) (s .loop .inv .1) (c .before .before .channel-factors .last .1 .1 .1 .0) (omega arith)
+          h (s .loop .inv .1) (c .before .before .channel-factors .last .1 .1 .1 .0) (next-ends 128 _ _ _ h (start .pre .1 .1 .1))
           (c .before .before .channel-factors .ensures ∙ rw (back-width (s .loop .c * 1024) 1024, c .before .before .before .before .before .coded-count .ensures .0)),
     )
 

@@ -1,68 +1,104 @@
 -- `hfr::channel_side` meets its contract. Assumes nothing.
-use mathlib.Core.Path.{sym, _∙_}
+use mathlib.Core.Path.{refl, sym, _∙_}
 use Prim.Native.Nat.{_*_}
 use borrow.Author.Needs.{needs}
 use Rattle.buffers.proofs.Build.{back-width}
+use Rattle.rules.proofs.LentRows.{below, start-fits, end-fits, bytes-fits, starts, ends, lent-long}
 use Rattle.hfr.proofs.Side.{of-secondary, of-other}
 use Rattle.hfr.proofs.channel_side.Statement.{statement}
 use Rattle.hfr.proofs.channel_side.Tie as tie
 
 is-secondary-requires : tie.Need-is-secondary-requires
-is-secondary-requires c κs = search needs
+is-secondary-requires c κs =
+    let start = c .before .before .before .before in
+    below _ _ (start .pre .1 .1 .0 .0) 16 (start .pre .0 .few)
 
 mul-s : tie.Need-mul-s
-mul-s c = search needs
+mul-s c =
+    let start = c .before .before .before .before .before .before in
+    start-fits 8 16 refl _ _ (start .pre .1 .1 .0 .0) (start .pre .0 .few)
 
 add-copy-intensities : tie.Need-add-copy-intensities
-add-copy-intensities c = search needs
+add-copy-intensities c =
+    let start = c .before .before .before .before .before .before in
+    end-fits 8 16 refl _ _ (start .pre .1 .1 .0 .0) (start .pre .0 .few)
 
 sub-copy-intensities : tie.Need-sub-copy-intensities
-sub-copy-intensities c = search needs
+sub-copy-intensities c = starts _ 8
 
 part-copy-intensities-start : tie.Need-part-copy-intensities-start
-part-copy-intensities-start c = search needs
+part-copy-intensities-start c = starts _ 8
 
 part-copy-intensities-end : tie.Need-part-copy-intensities-end
-part-copy-intensities-end c = search needs
+part-copy-intensities-end c =
+    let start = c .before .before .before .before .before .before in
+    ends 8 _ _ _ (start .pre .1 .1 .0 .0) (start .pre .1 .1 .1 .0)
 
 copy-intensities-requires : tie.Need-copy-intensities-requires
-copy-intensities-requires c κs = search needs
+copy-intensities-requires c κs =
+    let start = c .before .before .before .before .before .before .before .before in
+    (lent-long 8 _ _ _ (start .pre .1 .1 .0 .0) (start .pre .1 .1 .1 .0), (start .pre .1 .1 .1 .1))
 
 mul-a : tie.Need-mul-a
-mul-a c = search needs
+mul-a c =
+    let start = c .before .before .before .before .before .before in
+    start-fits 1024 16 refl _ _ (start .pre .1 .1 .0 .0) (start .pre .0 .few)
 
 add-fill-scales : tie.Need-add-fill-scales
-add-fill-scales c = search needs
+add-fill-scales c =
+    let start = c .before .before .before .before .before .before in
+    end-fits 1024 16 refl _ _ (start .pre .1 .1 .0 .0) (start .pre .0 .few)
 
 mul-fill-scales : tie.Need-mul-fill-scales
-mul-fill-scales c = search needs
+mul-fill-scales c =
+    let start = c .before .before .before .before .before .before in
+    bytes-fits 1024 16 refl _ _ (start .pre .1 .1 .0 .0) (start .pre .0 .few)
 
 sub-fill-scales : tie.Need-sub-fill-scales
-sub-fill-scales c = search needs
+sub-fill-scales c = starts _ 1024
 
 part-fill-scales-start : tie.Need-part-fill-scales-start
-part-fill-scales-start c = search needs
+part-fill-scales-start c = starts _ 1024
 
 part-fill-scales-end : tie.Need-part-fill-scales-end
-part-fill-scales-end c = search needs
+part-fill-scales-end c =
+    let start = c .before .before .before .before .before .before in
+    ends 1024 _ _ _ (start .pre .1 .1 .0 .0) (start .pre .1 .1 .0 .1)
 
 add-fill-scales-2 : tie.Need-add-fill-scales-2
-add-fill-scales-2 c = search needs
+add-fill-scales-2 c =
+    let start = c .before .before .before .before .before .before .before in
+    end-fits 1024 16 refl _ _ (start .pre .1 .1 .0 .0) (start .pre .0 .few)
 
 mul-fill-scales-2 : tie.Need-mul-fill-scales-2
-mul-fill-scales-2 c = search needs
+mul-fill-scales-2 c =
+    let start = c .before .before .before .before .before .before .before in
+    bytes-fits 1024 16 refl _ _ (start .pre .1 .1 .0 .0) (start .pre .0 .few)
 
 sub-fill-scales-2 : tie.Need-sub-fill-scales-2
-sub-fill-scales-2 c = search needs
+sub-fill-scales-2 c = starts _ 1024
 
 part-fill-scales-start-2 : tie.Need-part-fill-scales-start-2
-part-fill-scales-start-2 c = search needs
+part-fill-scales-start-2 c = starts _ 1024
 
 part-fill-scales-end-2 : tie.Need-part-fill-scales-end-2
-part-fill-scales-end-2 c = search needs
+part-fill-scales-end-2 c =
+    let start = c .before .before .before .before .before .before .before in
+    ends 1024 _ _ _ (start .pre .1 .1 .0 .0) (start .pre .1 .1 .0 .2)
 
 fill-scales-requires : tie.Need-fill-scales-requires
-fill-scales-requires c κs = (search needs, (search needs, (search needs, search needs, search needs)))
+fill-scales-requires c κs =
+    let start = c .before .before .before .before .before .before .before .before .before in (
+      start .pre .0,
+      (
+        start .pre .1 .0,
+        (
+          lent-long 1024 _ _ _ (start .pre .1 .1 .0 .0) (start .pre .1 .1 .0 .1),
+          lent-long 1024 _ _ _ (start .pre .1 .1 .0 .0) (start .pre .1 .1 .0 .2),
+          (start .pre .1 .1 .1 .1),
+        ),
+      ),
+    )
 
 same-length : tie.Need-same-length
 same-length c = search needs

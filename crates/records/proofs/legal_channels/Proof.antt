@@ -1,5 +1,5 @@
 -- `records::legal_channels` meets its contract. The invariant: the first c channels are legal. Assumes nothing.
-use mathlib.Core.Path.{_≡_, sym, ap, _∙_}
+use mathlib.Core.Path.{_≡_, refl, sym, ap, _∙_}
 use mathlib.Core.Bool.{Bool, true}
 use mathlib.Core.List.{List}
 use Prim.Native.Nat.{ℕ, _≤_, _-_, _*_}
@@ -11,6 +11,7 @@ use Rattle.buffers.proofs.Build.{back-width}
 use Rattle.buffers.proofs.Every.{every-none, every-more, every-fails}
 use Rattle.rules.specs.Layout.{part}
 use Rattle.rules.specs.declared.Layout.{Layout}
+use Rattle.rules.proofs.LentRows.{next-le, nearer, below, next-fits, start-fits, end-fits, bytes-fits, starts, ends, lent-long}
 use Rattle.records.specs.Judged.{channelLegal, channelsLegal}
 use Rattle.records.proofs.legal_channels.Statement.{statement}
 use Rattle.records.proofs.legal_channels.Tie as tie
@@ -28,73 +29,108 @@ loop-holds : tie.Need-loop-holds Inv-loop μ-loop
 loop-holds c = (search needs, every-none _)
 
 mul-f : tie.Need-mul-f Inv-loop μ-loop
-mul-f c = search needs
+mul-f c = start-fits 128 16 refl _ _ (c .loop-test .taken) (c .before .before .before .before .before .pre .0 .few)
 
 mul-s : tie.Need-mul-s Inv-loop μ-loop
-mul-s c = search needs
+mul-s c = start-fits 8 16 refl _ _ (c .loop-test .taken) (c .before .before .before .before .before .pre .0 .few)
 
 mul-k : tie.Need-mul-k Inv-loop μ-loop
-mul-k c = search needs
+mul-k c = start-fits 1024 16 refl _ _ (c .loop-test .taken) (c .before .before .before .before .before .pre .0 .few)
 
 add-legal-channel : tie.Need-add-legal-channel Inv-loop μ-loop
-add-legal-channel c = search needs
+add-legal-channel c = end-fits 128 16 refl _ _ (c .loop-test .taken) (c .before .before .before .before .before .pre .0 .few)
 
 sub-legal-channel : tie.Need-sub-legal-channel Inv-loop μ-loop
-sub-legal-channel c = search needs
+sub-legal-channel c = starts _ 128
 
 part-legal-channel-start : tie.Need-part-legal-channel-start Inv-loop μ-loop
-part-legal-channel-start c = search needs
+part-legal-channel-start c = starts _ 128
 
 part-legal-channel-end : tie.Need-part-legal-channel-end Inv-loop μ-loop
-part-legal-channel-end c = search needs
+part-legal-channel-end c = ends 128 _ _ _ (c .loop-test .taken) (c .before .before .before .before .before .pre .1 .0)
 
 add-legal-channel-2 : tie.Need-add-legal-channel-2 Inv-loop μ-loop
-add-legal-channel-2 c = search needs
+add-legal-channel-2 c =
+    let start = c .before .before .before .before .before .before in
+    let h = c .before .loop-test .taken in
+    end-fits 8 16 refl _ _ h (start .pre .0 .few)
 
 sub-legal-channel-2 : tie.Need-sub-legal-channel-2 Inv-loop μ-loop
-sub-legal-channel-2 c = search needs
+sub-legal-channel-2 c = starts _ 8
 
 part-legal-channel-start-2 : tie.Need-part-legal-channel-start-2 Inv-loop μ-loop
-part-legal-channel-start-2 c = search needs
+part-legal-channel-start-2 c = starts _ 8
 
 part-legal-channel-end-2 : tie.Need-part-legal-channel-end-2 Inv-loop μ-loop
-part-legal-channel-end-2 c = search needs
+part-legal-channel-end-2 c =
+    let start = c .before .before .before .before .before .before in
+    let h = c .before .loop-test .taken in
+    ends 8 _ _ _ h (start .pre .1 .1)
 
 add-legal-channel-3 : tie.Need-add-legal-channel-3 Inv-loop μ-loop
-add-legal-channel-3 c = search needs
+add-legal-channel-3 c =
+    let start = c .before .before .before .before .before .before .before in
+    let h = c .before .before .loop-test .taken in
+    end-fits 1024 16 refl _ _ h (start .pre .0 .few)
 
 mul-legal-channel : tie.Need-mul-legal-channel Inv-loop μ-loop
-mul-legal-channel c = search needs
+mul-legal-channel c =
+    let start = c .before .before .before .before .before .before .before in
+    let h = c .before .before .loop-test .taken in
+    bytes-fits 1024 16 refl _ _ h (start .pre .0 .few)
 
 sub-legal-channel-3 : tie.Need-sub-legal-channel-3 Inv-loop μ-loop
-sub-legal-channel-3 c = search needs
+sub-legal-channel-3 c = starts _ 1024
 
 part-legal-channel-start-3 : tie.Need-part-legal-channel-start-3 Inv-loop μ-loop
-part-legal-channel-start-3 c = search needs
+part-legal-channel-start-3 c = starts _ 1024
 
 part-legal-channel-end-3 : tie.Need-part-legal-channel-end-3 Inv-loop μ-loop
-part-legal-channel-end-3 c = search needs
+part-legal-channel-end-3 c =
+    let start = c .before .before .before .before .before .before .before in
+    let h = c .before .before .loop-test .taken in
+    ends 1024 _ _ _ h (start .pre .1 .2)
 
 add-legal-channel-4 : tie.Need-add-legal-channel-4 Inv-loop μ-loop
-add-legal-channel-4 c = search needs
+add-legal-channel-4 c =
+    let start = c .before .before .before .before .before .before .before .before in
+    let h = c .before .before .before .loop-test .taken in
+    end-fits 128 16 refl _ _ h (start .pre .0 .few)
 
 sub-legal-channel-4 : tie.Need-sub-legal-channel-4 Inv-loop μ-loop
-sub-legal-channel-4 c = search needs
+sub-legal-channel-4 c = starts _ 128
 
 part-legal-channel-start-4 : tie.Need-part-legal-channel-start-4 Inv-loop μ-loop
-part-legal-channel-start-4 c = search needs
+part-legal-channel-start-4 c = starts _ 128
 
 part-legal-channel-end-4 : tie.Need-part-legal-channel-end-4 Inv-loop μ-loop
-part-legal-channel-end-4 c = search needs
+part-legal-channel-end-4 c =
+    let start = c .before .before .before .before .before .before .before .before in
+    let h = c .before .before .before .loop-test .taken in
+    ends 128 _ _ _ h (start .pre .1 .3)
 
 legal-channel-requires : tie.Need-legal-channel-requires Inv-loop μ-loop
-legal-channel-requires c κs = search needs
+legal-channel-requires c κs =
+    let start = c .before .before .before .before .before .before .before .before .before in
+    let h = c .before .before .before .before .loop-test .taken in (
+      start .pre .0,
+      (
+        below _ _ h 16 (start .pre .0 .few),
+        lent-long 128 _ _ _ h (start .pre .1 .0),
+        lent-long 8 _ _ _ h (start .pre .1 .1),
+        lent-long 1024 _ _ _ h (start .pre .1 .2),
+        lent-long 128 _ _ _ h (start .pre .1 .3),
+      ),
+    )
 
 add-c : tie.Need-add-c Inv-loop μ-loop
-add-c c = search needs
+add-c c =
+    let start = c .before .before .before .before .before .before .before .before .before .before .before in
+    let h = c .before .before .before .before .before .before .loop-test .taken in
+    next-fits _ _ h 16 refl (start .pre .0 .few)
 
 loop-less : tie.Need-loop-less Inv-loop μ-loop
-loop-less c = search needs
+loop-less c = nearer _ _ (c .before .before .before .before .before .before .loop-test .taken)
 
 judged : (c : tie.After-legal-channel Inv-loop μ-loop) →
     let s = c .before .before .before .before .before .before in
@@ -107,7 +143,7 @@ judged c =
 loop-again : tie.Need-loop-again Inv-loop μ-loop
 loop-again c =
     let s = c .before .before .before .before .before .before .before in
-    (search needs, every-more _ _ (s .loop .inv .1) (sym (judged (c .before)) ∙ c .if1 .taken))
+    (next-le _ _ (c .before .before .before .before .before .before .loop-test .taken), every-more _ _ (s .loop .inv .1) (sym (judged (c .before)) ∙ c .if1 .taken))
 
 returns : tie.Need-returns Inv-loop μ-loop
 unfolding channelsLegal

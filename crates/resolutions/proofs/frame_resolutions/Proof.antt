@@ -1,11 +1,11 @@
 -- `resolutions::frame_resolutions` meets its contract. The invariant: the first c channels are stored. Assumes nothing.
-use mathlib.Core.Path.{_∙_}
+use mathlib.Core.Path.{refl, _∙_}
 use Prim.Native.Nat.{_≤_, _-_, _*_}
-use native.Mathlib.Omega.{arith}
 use borrow.Author.Needs.{needs}
 use Rattle.buffers.proofs.Build.{back-width}
 use Rattle.buffers.proofs.Blocks.{Blocked, blocked-none, blocked-more, blocked-exact}
 use Rattle.rules.specs.Resolution.{allResolutions}
+use Rattle.rules.proofs.LentRows.{next-le, nearer, below, next-fits, start-fits, end-fits, starts, ends, next-ends, lent-long}
 use Rattle.resolutions.proofs.Bands.{resolutionsAt, channel-size}
 use Rattle.resolutions.proofs.frame_resolutions.Statement.{statement}
 use Rattle.resolutions.proofs.frame_resolutions.Tie as tie
@@ -21,52 +21,77 @@ loop-holds : tie.Need-loop-holds Inv-loop μ-loop
 loop-holds c = (search needs, blocked-none _ 128 _)
 
 mul-at : tie.Need-mul-at Inv-loop μ-loop
-mul-at c = search needs
+mul-at c = start-fits 128 16 refl _ _ (c .loop-test .taken) (c .before .before .before .before .pre .0 .few)
 
 coded-count-requires : tie.Need-coded-count-requires Inv-loop μ-loop
-coded-count-requires c κs = search needs
+coded-count-requires c κs =
+    let start = c .before .before .before .before in
+    let h = c .loop-test .taken in
+    (start .pre .0, below _ _ h 16 (start .pre .0 .few))
 
 add-channel-resolutions : tie.Need-add-channel-resolutions Inv-loop μ-loop
-add-channel-resolutions c = search needs
+add-channel-resolutions c =
+    let start = c .before .before .before .before .before in
+    let h = c .before .loop-test .taken in
+    end-fits 128 16 refl _ _ h (start .pre .0 .few)
 
 sub-channel-resolutions : tie.Need-sub-channel-resolutions Inv-loop μ-loop
-sub-channel-resolutions c = search needs
+sub-channel-resolutions c = starts _ 128
 
 part-channel-resolutions-start : tie.Need-part-channel-resolutions-start Inv-loop μ-loop
-part-channel-resolutions-start c = search needs
+part-channel-resolutions-start c = starts _ 128
 
 part-channel-resolutions-end : tie.Need-part-channel-resolutions-end Inv-loop μ-loop
-part-channel-resolutions-end c = search needs
+part-channel-resolutions-end c =
+    let start = c .before .before .before .before .before in
+    let h = c .before .loop-test .taken in
+    ends 128 _ _ _ h (start .pre .1 .1 .0)
 
 add-channel-resolutions-2 : tie.Need-add-channel-resolutions-2 Inv-loop μ-loop
-add-channel-resolutions-2 c = search needs
+add-channel-resolutions-2 c =
+    let start = c .before .before .before .before .before .before in
+    let h = c .before .before .loop-test .taken in
+    end-fits 128 16 refl _ _ h (start .pre .0 .few)
 
 sub-channel-resolutions-2 : tie.Need-sub-channel-resolutions-2 Inv-loop μ-loop
-sub-channel-resolutions-2 c = search needs
+sub-channel-resolutions-2 c = starts _ 128
 
 part-channel-resolutions-start-2 : tie.Need-part-channel-resolutions-start-2 Inv-loop μ-loop
-part-channel-resolutions-start-2 c = search needs
+part-channel-resolutions-start-2 c = starts _ 128
 
 part-channel-resolutions-end-2 : tie.Need-part-channel-resolutions-end-2 Inv-loop μ-loop
-part-channel-resolutions-end-2 c = search needs
+part-channel-resolutions-end-2 c =
+    let start = c .before .before .before .before .before .before in
+    let s = c .before .before .before in
+    let h = c .before .before .loop-test .taken in
+    ends 128 _ _ _ h (s .loop .inv .1 .0 ∙ start .pre .1 .1 .1)
 
 channel-resolutions-requires : tie.Need-channel-resolutions-requires Inv-loop μ-loop
-channel-resolutions-requires c κs = search needs
+channel-resolutions-requires c κs =
+    let start = c .before .before .before .before .before .before .before in
+    let s = c .before .before .before .before in
+    let h = c .before .before .before .loop-test .taken in
+    (start .pre .1 .0, (lent-long 128 _ _ _ h (start .pre .1 .1 .0), lent-long 128 _ _ _ h (s .loop .inv .1 .0 ∙ start .pre .1 .1 .1)))
 
 add-c : tie.Need-add-c Inv-loop μ-loop
-add-c c = search needs
+add-c c =
+    let start = c .before .before .before .before .before .before .before .before .before .before in
+    let h = c .before .before .before .before .before .before .loop-test .taken in
+    next-fits _ _ h 16 refl (start .pre .0 .few)
 
 loop-less : tie.Need-loop-less Inv-loop μ-loop
-loop-less c = search needs
+loop-less c = nearer _ _ (c .before .before .before .before .before .before .loop-test .taken)
 
 loop-again : tie.Need-loop-again Inv-loop μ-loop
 loop-again c =
     let s = c .before .before .before .before .before .before .before in
-    let a = s .before .before .before .args in (
-      search needs,
+    let start = s .before .before .before in
+    let a = start .args in
+    let h = c .before .before .before .before .before .before .loop-test .taken in (
+      next-le _ _ h,
       blocked-more (resolutionsAt (a .layout) (a .level) (a .boundary) (a .factors .now)) 128 (a .layout .channels) (a .resolutions .now)
-          (λ i q. channel-size _ _ _ _) (s .loop .c) (s .loop .resolutions) (c .before .before .before .before .before .before .loop-test .taken) (s .loop .inv .1)
-          (c .before .before .channel-resolutions .last .1 .1 .1 .1 .0) (omega arith)
+          (λ i q. channel-size _ _ _ _) (s .loop .c) (s .loop .resolutions) h (s .loop .inv .1)
+          (c .before .before .channel-resolutions .last .1 .1 .1 .1 .0) (next-ends 128 _ _ _ h (start .pre .1 .1 .1))
           (c .before .before .channel-resolutions .ensures ∙ rw (back-width (s .loop .c * 128) 128, c .before .before .before .before .before .coded-count .ensures .0)),
     )
 

@@ -11,7 +11,8 @@ use Rattle.buffers.specs.Walk.{build}
 use Rattle.buffers.proofs.Build.{build-const, length-build}
 use Rattle.floats.specs.Single.{heldF, zeroF}
 use Rattle.rules.specs.Scaling.{clip, scaleOf, scaledValue, scaledBand}
-use Rattle.factors.specs.Scaling.{IsScaling, codedFactor, bandScaled}
+use Rattle.factors.specs.Scaling.{IsScaling}
+use Rattle.scaling.specs.Bands.{codedFactor, bandScaled}
 
 -- factor 0
 pub band-clear : (xs : List Float) (factor b : ℕ) → factor ≡ 0 → bandScaled xs factor b ≡ replicate 8 zeroF

@@ -1,4 +1,4 @@
--- `factors::scale_band` meets its contract. The invariant: the first s values are scaled. Assumes nothing.
+-- `scaling::scale_band` meets its contract. The invariant: the first s values are scaled. Assumes nothing.
 use mathlib.Core.Path.{_≡_, sym, _∙_}
 use Prim.Native.Nat.{ℕ, _≤_, _+_, _-_, _*_}
 use native.Mathlib.Omega.{arith}
@@ -7,10 +7,10 @@ use lib.Ieee.{nan}
 use lib.ListN.{length, getD}
 use Rattle.buffers.proofs.Build.{Filled, filled-none, filled-more, filled-all}
 use Rattle.rules.specs.Scaling.{scaledValue}
-use Rattle.factors.specs.Scaling.{bandScaled}
-use Rattle.factors.proofs.Scaled.{band-clear, scaled-is}
-use Rattle.factors.proofs.scale_band.Statement.{statement}
-use Rattle.factors.proofs.scale_band.Tie as tie
+use Rattle.scaling.specs.Bands.{bandScaled}
+use Rattle.scaling.proofs.Scaled.{band-clear, scaled-is}
+use Rattle.scaling.proofs.scale_band.Statement.{statement}
+use Rattle.scaling.proofs.scale_band.Tie as tie
 
 abbrev Inv-loop : tie.InvT-loop
 Inv-loop table spectra factor b band₀ scale clip s₀ band s =

@@ -1,10 +1,10 @@
--- `factors::coded_factor` meets its contract. Assumes nothing.
+-- `scaling::coded_factor` meets its contract. Assumes nothing.
 use native.Mathlib.Omega.{arith}
 use borrow.Author.Needs.{needs}
 use borrow.Author.Tests.{lt-ltb, le-ltb}
-use Rattle.factors.specs.Scaling.{codedFactor}
-use Rattle.factors.proofs.coded_factor.Statement.{statement}
-use Rattle.factors.proofs.coded_factor.Tie as tie
+use Rattle.scaling.specs.Bands.{codedFactor}
+use Rattle.scaling.proofs.coded_factor.Statement.{statement}
+use Rattle.scaling.proofs.coded_factor.Tie as tie
 
 shared-slice-read-result : tie.Need-shared-slice-read-result
 shared-slice-read-result c = search needs
