@@ -71,11 +71,13 @@ loop-less c = nearer _ _ (c .before .before .before .before .loop-test .taken)
 loop-again : tie.Need-loop-again Inv-loop μ-loop
 loop-again c =
     let s = c .before .before .before .before .before in
-    let a = s .before .before .before .before .before .args in
+    let start = s .before .before .before .before .before in
+    let a = start .args in
     let h = c .before .before .before .before .loop-test .taken in (
       next-le _ _ h,
-      blocked-more (sideAt (a .layout) (a .spectra .now) (a .scaled .now) (a .intensities .now)) 8 (a .layout .channels) (a .side .now) (λ i h. side-size (a .layout) i _ _ _)
-          (s .loop .c) (s .loop .side) h (s .loop .inv .1) (c .before .before .channel-side .last .1 .1 .1 .1 .1 .1 .0) (next-ends 8 _ _ _ h (s .before .before .before .before .before .pre .1 .1 .1 .1))
+      blocked-more (sideAt (a .layout) (a .spectra .now) (a .scaled .now) (a .intensities .now)) 8 (a .layout .channels) (a .side .now)
+          (λ i _. side-size (a .layout) i _ _ _) (s .loop .c) (s .loop .side) h (s .loop .inv .1) (c .before .before .channel-side .last .1 .1 .1 .1 .1 .1 .0)
+          (next-ends 8 _ _ _ h (start .pre .1 .1 .1 .1))
           (c .before .before .channel-side .ensures),
     )
 

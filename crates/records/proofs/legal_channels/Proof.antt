@@ -2,10 +2,11 @@
 use mathlib.Core.Path.{_≡_, refl, sym, ap, _∙_}
 use mathlib.Core.Bool.{Bool, true}
 use mathlib.Core.List.{List}
-use Prim.Native.Nat.{ℕ, _≤_, _-_, _*_}
+use Prim.Native.Nat.{ℕ, _≤_, _+_, _-_, _*_}
 use native.Mathlib.Omega.{arith}
 use borrow.Author.Needs.{needs}
 use lib.IntN.{ℤ}
+use lib.ListN.{take, drop}
 use Rattle.buffers.specs.Walk.{every}
 use Rattle.buffers.proofs.Build.{back-width}
 use Rattle.buffers.proofs.Every.{every-none, every-more, every-fails}
@@ -18,6 +19,14 @@ use Rattle.records.proofs.legal_channels.Tie as tie
 
 abbrev legal : Layout → List ℕ → List ℕ → List ℤ → List ℕ → ℕ → Bool
 legal l F S C R c = channelLegal l c (part 128 F c) (part 8 S c) (part 1024 C c) (part 128 R c)
+
+abbrev lent : {A : Type 0} → ℕ → List A → ℕ → List A
+lent k xs c = take (c * k + k - c * k) (drop (c * k) xs)
+
+-- the channel's parts as they are lent
+lent-legal : (l : Layout) (F S : List ℕ) (C : List ℤ) (R : List ℕ) (c : ℕ)
+    → channelLegal l c (lent 128 F c) (lent 8 S c) (lent 1024 C c) (lent 128 R c) ≡ legal l F S C R c
+lent-legal l F S C R c = rw (back-width (c * 128) 128, back-width (c * 8) 8, back-width (c * 1024) 1024)
 
 abbrev Inv-loop : tie.InvT-loop
 Inv-loop layout factors side codes resolutions channels c₀ c = (c ≤ channels) × (every (legal layout factors side codes resolutions) c ≡ true)
@@ -137,13 +146,15 @@ judged : (c : tie.After-legal-channel Inv-loop μ-loop) →
     let a = s .before .before .before .before .args in
     c .legal-channel .result ≡ legal (a .layout) (a .factors .now) (a .side .now) (a .codes .now) (a .resolutions .now) (s .loop .c)
 judged c =
-    let n = c .before .before .before .before .before .before .loop .c in
-    c .legal-channel .ensures ∙ rw (back-width (n * 128) 128, back-width (n * 8) 8, back-width (n * 1024) 1024)
+    let s = c .before .before .before .before .before .before in
+    let a = s .before .before .before .before .args in
+    c .legal-channel .ensures ∙ lent-legal (a .layout) (a .factors .now) (a .side .now) (a .codes .now) (a .resolutions .now) (s .loop .c)
 
 loop-again : tie.Need-loop-again Inv-loop μ-loop
 loop-again c =
     let s = c .before .before .before .before .before .before .before in
-    (next-le _ _ (c .before .before .before .before .before .before .loop-test .taken), every-more _ _ (s .loop .inv .1) (sym (judged (c .before)) ∙ c .if1 .taken))
+    let h = c .before .before .before .before .before .before .loop-test .taken in
+    (next-le _ _ h, every-more _ _ (s .loop .inv .1) (sym (judged (c .before)) ∙ c .if1 .taken))
 
 returns : tie.Need-returns Inv-loop μ-loop
 unfolding channelsLegal
