@@ -27,8 +27,8 @@ use Rattle.rules.proofs.Layouts.{legal-sizes}
 use Rattle.demands.proofs.Frames.{sound}
 use Rattle.demands.proofs.Deliveries.{front-length}
 use Rattle.rules.proofs.Made.{made-pairs, made-boundary}
-use Rattle.interface.specs.Outcomes.{Small}
-use Rattle.interface.proofs.Fitting.{small-refused, small-three, small-four}
+use Rattle.telling.specs.Outcomes.{Small}
+use Rattle.telling.proofs.Fitting.{small-refused, small-three, small-four}
 
 -- ---- the stage
 

@@ -13,9 +13,9 @@ use Rattle.rules.specs.declared.Layout.{Layout}
 use Rattle.rules.specs.declared.ReadAnswer.{ReadAnswer}
 use Rattle.rules.specs.declared.StageAnswer.{StageAnswer}
 use Rattle.rules.specs.declared.WriteAnswer.{WriteAnswer}
-use Rattle.interface.specs.Layouts.{layoutOf, named}
-use Rattle.interface.specs.Outcomes.{resultOf, Told}
-use Rattle.interface.proofs.Places.{told-short}
+use Rattle.naming.specs.Layouts.{layoutOf, named}
+use Rattle.telling.specs.Outcomes.{resultOf, Told}
+use Rattle.telling.proofs.Places.{told-short}
 use Rattle.hca.specs.Interface.{Encoded, encodedAs, encodedTold, encoded, Wrote, wroteAs, wroteTold, wrote, Returned, returnedAs, returnedTold, returned}
 
 -- ---- the stage's call

@@ -8,8 +8,8 @@ use lib.Ieee.{Float}
 use lib.ListN.{length, getD}
 use Rattle.rules.specs.Refusals.{refused}
 use Rattle.rules.specs.Stage.{Lent, Left, kept, stage, FrameLeft, recordLent, written, FrameLent, RecordLeft, untouched, read}
-use Rattle.interface.specs.Layouts.{layoutOf, named}
-use Rattle.interface.specs.Outcomes.{resultOf, toldIn}
+use Rattle.naming.specs.Layouts.{layoutOf, named}
+use Rattle.telling.specs.Outcomes.{resultOf, toldIn}
 
 -- ---- the stage
 

@@ -4,14 +4,14 @@ ghost use Prim.Native.Nat.{_<_};
 ghost use Rattle.crc.specs.Check.{checksum};
 ghost use Rattle.rules.specs.Stage.{stageLent, stage, recordLent, written, frameLent, read};
 ghost use Rattle.hca.specs.Interface.{encodedAs, encodedTold, encoded, wroteAs, wroteTold, wrote, returnedAs, returnedTold, returned};
-use interface::names::is_named;
-use interface::names::layout_of;
-use interface::names::wide;
-use interface::told::refuse;
-use interface::told::tell_read;
-use interface::told::tell_stage;
-use interface::told::tell_write;
+use naming::is_named;
+use naming::layout_of;
+use naming::wide;
 use rules::Layout;
+use telling::refuse;
+use telling::tell_read;
+use telling::tell_stage;
+use telling::tell_write;
 
 // The stage of a layout that is named, and its answer told.
 fn encode_told(

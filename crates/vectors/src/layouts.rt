@@ -17,7 +17,7 @@ pub fn layout_of(body: &[u8]) -> Layout {
     let kinds = bytes_at(body, 20);
     let a = kinds.start;
     let e = kinds.end;
-    interface::names::layout_of(&numbers, &body[a..e])
+    naming::layout_of(&numbers, &body[a..e])
 }
 
 // The place past a body's layout and kinds.

@@ -2,7 +2,7 @@
 use mathlib.Core.Path.{sym, ap, subst}
 use borrow.Author.Needs.{needs}
 use Rattle.rules.specs.Stage.{Left}
-use Rattle.interface.specs.Outcomes.{Small}
+use Rattle.telling.specs.Outcomes.{Small}
 use Rattle.hca.proofs.Tellings.{encode-tells}
 use Rattle.hca.proofs.Bounds.{stage-small}
 use Rattle.hca.proofs.encode_told.Statement.{statement}

@@ -3,8 +3,8 @@ use mathlib.Core.Path.{_≡_, sym, _∙_}
 use mathlib.Core.Bool.{true}
 use borrow.Author.Needs.{needs}
 use borrow.Author.Tests.{not-true, not-false}
-use Rattle.interface.specs.Layouts.{named}
-use Rattle.interface.proofs.Naming.{named-five}
+use Rattle.naming.specs.Layouts.{named}
+use Rattle.naming.proofs.Naming.{named-five}
 use Rattle.hca.proofs.Tellings.{read-unnamed, read-short, read-done}
 use Rattle.hca.proofs.hca_read_frame.Statement.{statement}
 use Rattle.hca.proofs.hca_read_frame.Tie as tie

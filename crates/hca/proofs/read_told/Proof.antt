@@ -2,7 +2,7 @@
 use mathlib.Core.Path.{sym, ap, subst}
 use borrow.Author.Needs.{needs}
 use Rattle.rules.specs.Stage.{RecordLeft}
-use Rattle.interface.specs.Outcomes.{Small}
+use Rattle.telling.specs.Outcomes.{Small}
 use Rattle.hca.proofs.Tellings.{read-tells}
 use Rattle.hca.proofs.Bounds.{read-small}
 use Rattle.hca.proofs.read_told.Statement.{statement}

@@ -2,7 +2,7 @@
 use mathlib.Core.Path.{sym, ap, subst}
 use borrow.Author.Needs.{needs}
 use Rattle.rules.specs.Stage.{FrameLeft}
-use Rattle.interface.specs.Outcomes.{Small}
+use Rattle.telling.specs.Outcomes.{Small}
 use Rattle.hca.proofs.Tellings.{write-tells}
 use Rattle.hca.proofs.Bounds.{written-small}
 use Rattle.hca.proofs.write_told.Statement.{statement}

@@ -1,3 +1,0 @@
-pub mod Naming
-pub mod Places
-pub mod Fitting
