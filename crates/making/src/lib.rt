@@ -1,29 +1,26 @@
 // The stage behind its gate, on buffers of exactly document 01's lengths.
 ghost use mathlib.Core.Path.{_≡_};
-ghost use Prim.Native.Nat.{_≤_};
 ghost use lib.IntN.{pos};
 ghost use lib.ListN.{length, replicate};
 ghost use Rattle.floats.specs.Single.{zeroF};
-ghost use Rattle.rules.specs.Layout.{Sizes, frameSize, spectrumLength, factorLength, sideLength};
+ghost use Rattle.rules.specs.Layout.{Sizes, spectrumLength, factorLength, sideLength};
 ghost use Rattle.rules.specs.Factor.{allFactors};
 ghost use Rattle.rules.specs.Scaling.{allScaled};
 ghost use Rattle.rules.specs.Hfr.{allSide};
 ghost use Rattle.rules.specs.Stage.{made, stageLeft};
-ghost use Rattle.making.specs.Ended.{Exact, Delivers, foundAs, madeOf, sent, ended};
-use budget::boundary::calculate_evaluation_boundary;
-use budget::level::calculate_noise_level;
+ghost use Rattle.rules.specs.declared.Layout.{Layout};
+ghost use Rattle.settling.specs.Ended.{Sized, wiped, ended};
+ghost use Rattle.making.specs.Lengths.{Exact};
 use buffers::clear_f32;
 use buffers::clear_i32;
 use buffers::clear_u8;
-use codes::quantize_spectra;
 use factors::calculate_scale_factors;
 use factors::scaling_table;
 use hfr::fill_side;
-use packing::pack_frame;
-use resolutions::frame_resolutions;
 use rules::Layout;
 use rules::StageAnswer;
 use scaling::scale_spectra;
+use settling::settle;
 
 // Factors, scaled values and side values. The table is taken once and lent.
 fn prepare(
@@ -47,70 +44,6 @@ fn prepare(
     fill_side(layout, &table, spectra, scaled, intensities, side);
 }
 
-// Codes and frame. Resolutions are worked out once, for the quantiser and the packer. Answers how many bits the fields are.
-fn quantize(
-    layout: Layout,
-    level: usize,
-    boundary: usize,
-    scaled: &[f32],
-    factors: &[u8],
-    side: &[u8],
-    resolutions: &mut [u8],
-    codes: &mut [i32],
-    frame: &mut [u8],
-) -> usize
-    requires { ⌜ Sizes layout ⌝ }
-    requires { ⌜ (level ≤ 511) × (boundary ≤ 127) ⌝ }
-    requires { ⌜ (length (now scaled) ≡ spectrumLength layout) × (length (now factors) ≡ factorLength layout) × (length (now side) ≡ sideLength layout) ⌝ }
-    requires { ⌜ (length (now resolutions) ≡ factorLength layout) × (length (now codes) ≡ spectrumLength layout) × (length (now frame) ≡ frameSize layout) ⌝ }
-    ensures { λ r. ⌜ Delivers layout level boundary (now (scaled .entry)) (now (factors .entry)) (now (side .entry)) r (now (codes .exit)) (now (frame .exit)) ⌝ }
-{
-    frame_resolutions(layout, level, boundary, factors, resolutions);
-    quantize_spectra(layout, level, boundary, factors, resolutions, scaled, codes);
-    pack_frame(
-        layout,
-        level,
-        boundary,
-        factors,
-        side,
-        codes,
-        resolutions,
-        frame,
-    )
-}
-
-// Room for the resolutions of sixteen channels, of which the layout's are lent.
-fn deliver(
-    layout: Layout,
-    level: usize,
-    boundary: usize,
-    scaled: &[f32],
-    factors: &[u8],
-    side: &[u8],
-    codes: &mut [i32],
-    frame: &mut [u8],
-) -> usize
-    requires { ⌜ Sizes layout ⌝ }
-    requires { ⌜ (level ≤ 511) × (boundary ≤ 127) ⌝ }
-    requires { ⌜ (length (now scaled) ≡ spectrumLength layout) × (length (now factors) ≡ factorLength layout) × (length (now side) ≡ sideLength layout) ⌝ }
-    requires { ⌜ (length (now codes) ≡ spectrumLength layout) × (length (now frame) ≡ frameSize layout) ⌝ }
-    ensures { λ r. ⌜ Delivers layout level boundary (now (scaled .entry)) (now (factors .entry)) (now (side .entry)) r (now (codes .exit)) (now (frame .exit)) ⌝ }
-{
-    let n = layout.channels * 128;
-    let mut resolutions = [0u8; 2048];
-    quantize(
-        layout,
-        level,
-        boundary,
-        scaled,
-        factors,
-        side,
-        &mut resolutions[..n],
-        codes,
-        frame,
-    )
-}
-
 // After a late refusal every written buffer is zero.
 fn clear_all(
     scaled: &mut [f32],
@@ -132,32 +65,23 @@ fn clear_all(
     clear_u8(frame);
 }
 
-// The boundary, the codes and the frame of a level; zeros where the fields pass the payload's end, **refusal 7**.
-fn finish(
-    layout: Layout,
-    level: usize,
-    pairs: usize,
+// Clears where the answer is a refusal.
+fn clear_refused(
+    answer: StageAnswer,
     scaled: &mut [f32],
     codes: &mut [i32],
     factors: &mut [u8],
     side: &mut [u8],
     frame: &mut [u8],
-) -> StageAnswer
-    requires { ⌜ Sizes layout ⌝ }
-    requires { ⌜ level ≤ 254 ⌝ }
-    requires { ⌜ (length (now scaled) ≡ spectrumLength layout) × (length (now codes) ≡ spectrumLength layout) × (length (now factors) ≡ factorLength layout) × (length (now side) ≡ sideLength layout) × (length (now frame) ≡ frameSize layout) ⌝ }
-    ensures { λ r. ⌜ stageLeft r (now (scaled .exit)) (now (codes .exit)) (now (factors .exit)) (now (side .exit)) (now (frame .exit)) ≡ sent layout (madeOf layout (now (scaled .entry)) (now (side .entry)) (foundAs level pairs (now (factors .entry)))) ⌝ }
+)
+    ensures { λ _. ⌜ ((l : Layout) → Sized l (length (now (scaled .entry))) (length (now (codes .entry))) (length (now (factors .entry))) (length (now (side .entry))) (length (now (frame .entry))) → stageLeft answer (now (scaled .exit)) (now (codes .exit)) (now (factors .exit)) (now (side .exit)) (now (frame .exit)) ≡ wiped l (stageLeft answer (now (scaled .entry)) (now (codes .entry)) (now (factors .entry)) (now (side .entry)) (now (frame .entry)))) ⌝ }
 {
-    let boundary = calculate_evaluation_boundary(layout, scaled, factors, level);
-    let bits = deliver(layout, level, boundary, scaled, factors, side, codes, frame);
-    if 8 * (layout.frame_size - 2) < bits {
+    let StageAnswer::Delivered(_, _, _, _) = answer else {
         clear_all(scaled, codes, factors, side, frame);
-        return StageAnswer::TooLong;
-    }
-    StageAnswer::Delivered(level, boundary, pairs, bits)
+        return;
+    };
 }
 
-// The boundary is at most 127, so that of the late refusals only 5 and 7 can come.
 pub fn run(
     layout: Layout,
     spectra: &[f32],
@@ -173,12 +97,7 @@ pub fn run(
     ensures { λ r. ⌜ stageLeft r (now (scaled .exit)) (now (codes .exit)) (now (factors .exit)) (now (side .exit)) (now (frame .exit)) ≡ ended layout (made layout (now (spectra .entry)) (now (intensities .entry))) ⌝ }
 {
     prepare(layout, spectra, intensities, scaled, factors, side);
-    let removal = calculate_noise_level(layout, scaled, factors);
-    let level = removal.level;
-    let pairs = removal.pairs;
-    if 254 < level {
-        clear_all(scaled, codes, factors, side, frame);
-        return StageAnswer::NoLevel(pairs);
-    }
-    finish(layout, level, pairs, scaled, codes, factors, side, frame)
+    let answer = settle(layout, scaled, codes, factors, side, frame);
+    clear_refused(answer, scaled, codes, factors, side, frame);
+    answer
 }

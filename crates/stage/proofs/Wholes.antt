@@ -15,7 +15,7 @@ use Rattle.rules.specs.declared.Layout.{Layout}
 use Rattle.rules.specs.declared.StageAnswer.{StageAnswer}
 use Rattle.rules.proofs.Made.{made-boundary}
 use Rattle.gate.proofs.Rooms.{under}
-use Rattle.making.specs.Ended.{sent, ended}
+use Rattle.settling.specs.Ended.{sent, ended}
 use Rattle.stage.specs.Longer.{over}
 
 -- `settled` lays what is left over what was lent

@@ -1,12 +1,12 @@
--- `making::deliver` meets its contract. Assumes nothing.
+-- `settling::deliver` meets its contract. Assumes nothing.
 use mathlib.Core.Path.{_≡_, sym}
 use Prim.Native.Nat.{ℕ, _≤_}
 use native.Mathlib.Omega.{arith}
 use lib.ListN.{length, take, replicate, length-replicate}
 use lib.Seq.{length-take-le}
 use borrow.Author.Needs.{needs}
-use Rattle.making.proofs.deliver.Statement.{statement}
-use Rattle.making.proofs.deliver.Tie as tie
+use Rattle.settling.proofs.deliver.Statement.{statement}
+use Rattle.settling.proofs.deliver.Tie as tie
 
 -- the array has room for the part that is lent
 front : (m n v : ℕ) → n ≤ m → length (take n (replicate m v)) ≡ n

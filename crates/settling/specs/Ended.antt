@@ -17,10 +17,8 @@ use Rattle.rules.specs.Refusals.{Outcome, delivered, refused}
 use Rattle.rules.specs.Stage.{Left, Made, noFloats, noCodes, noFactors, noSide, noFrame, boundaryFor, madeRecord}
 use Rattle.rules.specs.declared.Layout.{Layout}
 
--- the lengths of document 01
-pub record Exact (l : Layout) (xs is sc co fa si fr : ℕ) : Type 0 where
-  pub spectra : xs ≡ spectrumLength l
-  pub intensities : is ≡ sideLength l
+-- the lengths of what is written
+pub record Sized (l : Layout) (sc co fa si fr : ℕ) : Type 0 where
   pub scaled : sc ≡ spectrumLength l
   pub codes : co ≡ spectrumLength l
   pub factors : fa ≡ factorLength l
@@ -32,6 +30,18 @@ pub record Delivers (l : Layout) (level boundary : ℕ) (scaled : List Float) (f
   pub coded : codes ≡ allCodes l level boundary scaled factors
   pub bits : n ≡ length (fields l (recOf l level boundary factors side codes))
   pub stored : frame ≡ cond (ltb (payload l) n) (noFrame l) (frameOf l (recOf l level boundary factors side codes))
+
+-- refusals 5 and 7
+abbrev pub blank : Layout → Outcome → Left
+blank l o = record { outcome = o; scaled = noFloats l; codes = noCodes l; factors = noFactors l; side = noSide l; frame = noFrame l }
+
+-- a late refusal leaves zeros, a success what it made
+unfoldable pub wipedBy : Layout → Outcome → Left → Left
+wipedBy l (delivered ns) x = x
+wipedBy l (refused number beside) x = blank l (refused number beside)
+
+unfoldable pub wiped : Layout → Left → Left
+wiped l x = wipedBy l (x .outcome) x
 
 abbrev pub foundAs : ℕ → ℕ → List ℕ → Found
 foundAs level pairs factors = record { level = level; pairs = pairs; factors = factors }
@@ -45,10 +55,6 @@ madeOf l scaled side f = record {
   boundary = boundaryFor l scaled f;
   codes = allCodes l (f .level) (boundaryFor l scaled f) scaled (f .factors);
 }
-
--- refusals 5 and 7
-abbrev pub blank : Layout → Outcome → Left
-blank l o = record { outcome = o; scaled = noFloats l; codes = noCodes l; factors = noFactors l; side = noSide l; frame = noFrame l }
 
 -- a success
 abbrev pub whole : Layout → Made → Left

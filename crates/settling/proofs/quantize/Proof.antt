@@ -1,8 +1,8 @@
--- `making::quantize` meets its contract. Assumes nothing.
+-- `settling::quantize` meets its contract. Assumes nothing.
 use mathlib.Core.Path.{_∙_}
 use borrow.Author.Needs.{needs}
-use Rattle.making.proofs.quantize.Statement.{statement}
-use Rattle.making.proofs.quantize.Tie as tie
+use Rattle.settling.proofs.quantize.Statement.{statement}
+use Rattle.settling.proofs.quantize.Tie as tie
 
 frame-resolutions-requires : tie.Need-frame-resolutions-requires
 frame-resolutions-requires c κs = search needs

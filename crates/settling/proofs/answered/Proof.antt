@@ -1,0 +1,16 @@
+-- `settling::answered` meets its contract. Assumes nothing.
+use borrow.Author.Tests.{lt-ltb, le-ltb}
+use Rattle.rules.specs.Refusals.{stageNumber}
+use Rattle.settling.proofs.answered.Statement.{statement}
+use Rattle.settling.proofs.answered.Tie as tie
+
+returns : tie.Need-returns
+unfolding stageNumber
+returns c = rw (lt-ltb _ _ (c .if1 .taken))
+
+returns-2 : tie.Need-returns-2
+unfolding stageNumber
+returns-2 c = rw (le-ltb _ _ (c .if1 .left))
+
+pub answered-spec : {M : Type 1} → statement M
+answered-spec = tie.close (tie.spec returns returns-2)
