@@ -16,7 +16,7 @@ refuse-requires : tie.Need-refuse-requires
 refuse-requires c κs = search needs
 
 same-length : tie.Need-same-length
-same-length c = search needs
+same-length c = c .before .before .refuse .kept .1 .1 .0
 
 returns : tie.Need-returns
 returns c = read-unnamed _ _ _ _ _ _ (sym (c .before .before .before .before .before .is-named .ensures) ∙ not-true _ (c .before .before .before .before .if1 .taken)) (c .before .before .refuse .ensures)
@@ -34,16 +34,16 @@ read-told-requires : tie.Need-read-told-requires
 read-told-requires c κs = search needs
 
 same-length-2 : tie.Need-same-length-2
-same-length-2 c = search needs
+same-length-2 c = c .before .before .before .before .before .before .before .read-told .kept .1 .1 .0
 
 same-length-3 : tie.Need-same-length-3
-same-length-3 c = search needs
+same-length-3 c = c .before .before .before .before .before .before .before .read-told .kept .1 .1 .1 .0
 
 same-length-4 : tie.Need-same-length-4
-same-length-4 c = search needs
+same-length-4 c = c .before .before .before .before .before .before .before .read-told .kept .1 .1 .1 .1 .0
 
 same-length-5 : tie.Need-same-length-5
-same-length-5 c = search needs
+same-length-5 c = c .before .before .before .before .before .before .before .read-told .kept .1 .1 .1 .1 .1 .0
 
 returns-3 : tie.Need-returns-3
 returns-3 c = read-done _ _ _ _ (lawful (c .before .before .before .before .before .before .before .before .before .before .before .before .before .before)) _ _ (c .before .before .before .before .before .before .before .before .before .before .before .before .layout-of .ensures) (c .before .before .before .before .before .before .before .before .before .before .before .before .before .if2 .left) (c .before .before .before .before .before .before .before .read-told .ensures)

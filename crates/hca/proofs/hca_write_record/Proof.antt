@@ -16,7 +16,7 @@ refuse-requires : tie.Need-refuse-requires
 refuse-requires c κs = search needs
 
 same-length : tie.Need-same-length
-same-length c = search needs
+same-length c = c .before .before .refuse .kept .1 .1 .0
 
 returns : tie.Need-returns
 returns c = write-unnamed _ _ _ _ _ _ _ _ _ _ (sym (c .before .before .before .before .before .is-named .ensures) ∙ not-true _ (c .before .before .before .before .if1 .taken)) (c .before .before .refuse .ensures)
@@ -31,7 +31,7 @@ refuse-requires-2 : tie.Need-refuse-requires-2
 refuse-requires-2 c κs = search needs
 
 same-length-2 : tie.Need-same-length-2
-same-length-2 c = search needs
+same-length-2 c = c .before .before .refuse2 .kept .1 .1 .0
 
 returns-3 : tie.Need-returns-3
 returns-3 c = write-headless _ _ _ _ _ _ _ _ (lawful (c .before .before .before .before .before .before)) (c .before .before .before .before .before .if2 .left) _ _ (c .before .before .before .before .if3 .taken) (c .before .before .refuse2 .ensures)
@@ -55,10 +55,10 @@ write-told-requires : tie.Need-write-told-requires
 write-told-requires c κs = search needs
 
 same-length-3 : tie.Need-same-length-3
-same-length-3 c = search needs
+same-length-3 c = c .before .before .before .before .write-told .kept .1 .1 .1 .1 .1 .1 .0
 
 same-length-4 : tie.Need-same-length-4
-same-length-4 c = search needs
+same-length-4 c = c .before .before .before .before .write-told .kept .1 .1 .1 .1 .1 .1 .1 .0
 
 returns-4 : tie.Need-returns-4
 returns-4 c =

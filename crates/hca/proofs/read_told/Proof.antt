@@ -15,16 +15,16 @@ tell-read-requires : tie.Need-tell-read-requires
 tell-read-requires c κs = subst Small (sym (ap (λ (x : RecordLeft). x .outcome) (c .before .before .before .before .before .before .read-frame .ensures))) (read-small _ _)
 
 same-length : tie.Need-same-length
-same-length c = search needs
+same-length c = c .before .before .before .before .before .before .before .before .before .read-frame .kept .1 .1 .0
 
 same-length-2 : tie.Need-same-length-2
-same-length-2 c = search needs
+same-length-2 c = c .before .before .before .before .before .before .before .before .before .read-frame .kept .1 .1 .1 .0
 
 same-length-3 : tie.Need-same-length-3
-same-length-3 c = search needs
+same-length-3 c = c .before .before .before .before .before .before .before .before .before .read-frame .kept .1 .1 .1 .1 .0
 
 same-length-4 : tie.Need-same-length-4
-same-length-4 c = search needs
+same-length-4 c = c .before .before .tell-read .kept .1 .0
 
 returns : tie.Need-returns
 returns c = read-tells _ _ _ _ _ _ _ _ (c .before .before .before .before .before .before .before .before .before .read-frame .ensures) (c .before .before .tell-read .ensures)

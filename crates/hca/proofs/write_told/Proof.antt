@@ -15,10 +15,10 @@ tell-write-requires : tie.Need-tell-write-requires
 tell-write-requires c κs = subst Small (sym (ap (λ (x : FrameLeft). x .outcome) (c .before .before .before .write-record .ensures))) (written-small _ _)
 
 same-length : tie.Need-same-length
-same-length c = search needs
+same-length c = c .before .before .before .before .before .before .write-record .kept .1 .1 .1 .1 .1 .1 .0
 
 same-length-2 : tie.Need-same-length-2
-same-length-2 c = search needs
+same-length-2 c = c .before .before .tell-write .kept .1 .0
 
 returns : tie.Need-returns
 returns c = write-tells _ _ _ _ _ _ (c .before .before .before .before .before .before .write-record .ensures) (c .before .before .tell-write .ensures)
