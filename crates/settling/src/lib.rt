@@ -13,7 +13,7 @@ use budget::boundary::calculate_evaluation_boundary;
 use budget::level::calculate_noise_level;
 use codes::quantize_spectra;
 use packing::pack_frame;
-use quantizer::resolutions::frame_resolutions;
+use resolutions::frame_resolutions;
 use rules::Layout;
 use rules::StageAnswer;
 
