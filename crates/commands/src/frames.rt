@@ -1,41 +1,35 @@
 // Frame after frame, for every command.
-use calls::checking::check_next;
-use calls::checking::say_tally;
-use calls::encoding::at_both_ends;
-use calls::encoding::encode_next;
-use calls::reading::read_next;
-use calls::writing::write_next;
-use files::blocks::Block;
+use calls::encode_next;
+use calls::read_next;
+use calls::write_next;
 use files::blocks::next_block;
+use jobs::outcomes::say_first;
+use jobs::outcomes::say_last;
 use jobs::progress::Job;
 use jobs::progress::Run;
-use jobs::progress::at_end;
 use jobs::progress::at_start;
 use jobs::progress::end_progress;
-use jobs::progress::say_total;
+use jobs::progress::is_whole;
+use jobs::progress::without_block;
 use manual::complain;
-use reports::table::say_record_head;
-use reports::table::say_stage_head;
 
 fn do_frame(job: Job, run: Run, block: &[u8]) -> Run {
     let command = job.command;
     match command {
         1 => encode_next(job, run, block),
-        2 => read_next(job, run, block),
         3 => write_next(job, run, block),
-        _ => check_next(job, run, block),
+        _ => read_next(job, run, block),
     }
 }
 
 // Room for the longest block, a record of 16 channels.
 fn do_next(job: Job, run: Run) -> Run {
     let mut block = [0u8; 67720];
-    match next_block(job.input, job.size, &mut block) {
-        Block::Whole => do_frame(job, run, &block),
-        Block::End => at_both_ends(job, run),
-        Block::Short(n) => at_end(run, Block::Short(n), job.size),
-        Block::Failed => at_end(run, Block::Failed, job.size),
+    let got = next_block(job.input, job.size, &mut block);
+    if is_whole(got) {
+        return do_frame(job, run, &block);
     }
+    without_block(job, run, got)
 }
 
 // A proved loop has to end, and nothing says that a file does: the turns are counted down from a number that no run uses up.
@@ -47,23 +41,6 @@ fn do_all(job: Job) -> Run {
         turns -= 1;
     }
     run
-}
-
-// The first line.
-fn say_first(command: usize) -> bool {
-    match command {
-        1 => say_stage_head(),
-        3 => say_record_head(),
-        _ => true,
-    }
-}
-
-// The last line.
-fn say_last(command: usize, run: Run) -> bool {
-    if command == 4 {
-        return say_tally(run);
-    }
-    say_total(run)
 }
 
 // Every frame, with what is said around them. Answers the status.

@@ -1,33 +1,22 @@
 // The commands of hcaframe: files of spectra, frames and records, over the three public calls.
-use self::setting::do_command;
+use self::frames::do_frames;
 use files::names::is_same;
+use forms::tables::entry_of;
+use jobs::setting::ended;
+use jobs::setting::opened;
 use manual::help;
 use manual::say_usage;
+use words::options::Options;
+use words::options::UNKNOWN_COMMAND;
 use words::options::none_yet;
 use words::options::refuse_word;
 use words::sources::all_words;
 
 mod frames;
-mod setting;
 
-// The command's number, 5 for help, 0 for none.
+// The command's number; 5 and 6 are help, 0 is none.
 fn command_of(word: &[u8]) -> usize {
-    if is_same(word, b"encode") {
-        return 1;
-    }
-    if is_same(word, b"read") {
-        return 2;
-    }
-    if is_same(word, b"write") {
-        return 3;
-    }
-    if is_same(word, b"check") {
-        return 4;
-    }
-    if is_same(word, b"--help") || is_same(word, b"help") {
-        return 5;
-    }
-    0
+    entry_of(b"\nencode\nread\nwrite\ncheck\n--help\nhelp\n", word)
 }
 
 fn is_help(i: usize) -> bool {
@@ -36,12 +25,21 @@ fn is_help(i: usize) -> bool {
     is_same(&word[..n], b"--help")
 }
 
+// The command that the words say; answers the status.
+fn do_command(options: Options) -> i32 {
+    let job = opened(options);
+    if !job.is_ready {
+        return ended(job, 2);
+    }
+    ended(job, do_frames(job))
+}
+
 fn run_command(command: usize, word: &[u8]) -> i32 {
-    if command == 5 {
+    if 4 < command {
         return help(0);
     }
     if command == 0 {
-        refuse_word(none_yet(0), word, b" is an unknown command\n");
+        refuse_word(none_yet(0), word, UNKNOWN_COMMAND);
         return 2;
     }
     if is_help(2) {

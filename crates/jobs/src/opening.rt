@@ -1,30 +1,28 @@
 // Files of whole frames, opened, and files that are to be whole, begun and ended.
 use files::blocks::Length;
 use files::blocks::length_of;
-use files::lines::put_number;
-use files::lines::put_text;
 use files::lines::say;
-use files::lines::say_line;
 use files::output;
+use forms::lines::say_form;
 use manual::complain;
-
-// A file that ends within a frame.
-pub fn say_over(length: usize, size: usize) {
-    let mut line = [0u8; 256];
-    let a = put_number(&mut line, 0, length);
-    let b = put_text(&mut line, a, b" bytes are no whole number of frames of ");
-    let c = put_number(&mut line, b, size);
-    let d = put_text(&mut line, c, b" bytes; bytes over: ");
-    let over = if size == 0 { length } else { length % size };
-    let e = put_number(&mut line, d, over);
-    say_line(2, &mut line, e);
-}
 
 fn is_multiple(length: usize, size: usize) -> bool {
     if size == 0 {
         return false;
     }
     length % size == 0
+}
+
+// Of a file that ends within a frame.
+fn say_over(path: &[u8], length: usize, size: usize) {
+    let over = if size == 0 { length } else { length % size };
+    say(2, b"hcaframe: ");
+    say(2, path);
+    say_form(
+        2,
+        b": # bytes are no whole number of frames of # bytes; bytes over: #\n",
+        &[length, size, over],
+    );
 }
 
 fn is_whole(path: &[u8], length: Length, size: usize) -> bool {
@@ -38,10 +36,7 @@ fn is_whole(path: &[u8], length: Length, size: usize) -> bool {
             if is_multiple(n, size) {
                 return true;
             }
-            say(2, b"hcaframe: ");
-            say(2, path);
-            say(2, b": ");
-            say_over(n, size);
+            say_over(path, n, size);
             false
         }
     }

@@ -1,17 +1,18 @@
 // What a command works on, and how far it is.
 use answers::Refusal;
 use files::blocks::Block;
-use files::lines::put_number;
-use files::lines::put_out;
-use files::lines::put_text;
+use files::blocks::is_at_end;
+use files::blocks::next_block;
 use files::lines::say;
-use files::lines::say_line;
 use files::places::more;
+use forms::lines::say_form;
 use manual::complain;
 use reports::refusals::say_refusal;
 use rules::Layout;
+use words::layouts::side_count;
 
-// The command by its number; the input's block of a frame, in bytes; the files by their descriptors, -1 for none.
+// The command by its number; the input's block of a frame, in bytes; the files by their descriptors, -1 for none; the argument
+// that names the output; whether all of them could be opened.
 pub struct Job {
     pub command: usize,
     pub layout: Layout,
@@ -19,6 +20,8 @@ pub struct Job {
     pub input: i32,
     pub intensities: i32,
     pub output: i32,
+    pub output_name: usize,
+    pub is_ready: bool,
     pub is_watched: bool,
 }
 
@@ -55,11 +58,7 @@ pub fn is_terminal() -> bool {
 // On a terminal only, every 64 frames. The next line that is written there covers it.
 fn say_progress(job: Job, done: usize) {
     if job.is_watched && done % 64 == 0 {
-        let mut line = [0u8; 64];
-        let a = put_text(&mut line, 0, b"frame ");
-        let b = put_number(&mut line, a, done);
-        let c = put_text(&mut line, b, b"\r");
-        put_out(2, &line, c);
+        say_form(2, b"frame #\r", &[done]);
     }
 }
 
@@ -91,18 +90,11 @@ pub fn ended_by(run: Run, told: Refusal) -> Run {
 
 // Of a file whose length was not known before.
 fn say_cut(frame: usize, n: usize, size: usize) {
-    let mut line = [0u8; 128];
-    let a = put_text(&mut line, 0, b"hcaframe: the input ends within frame ");
-    let b = put_number(&mut line, a, frame);
-    let c = put_text(&mut line, b, b"; bytes of it: ");
-    let d = put_number(&mut line, c, n);
-    say_of(&mut line, d, size);
-}
-
-fn say_of(line: &mut [u8], at: usize, size: usize) {
-    let a = put_text(line, at, b" of ");
-    let b = put_number(line, a, size);
-    say_line(2, line, b);
+    say_form(
+        2,
+        b"hcaframe: the input ends within frame #; bytes of it: # of #\n",
+        &[frame, n, size],
+    );
 }
 
 // A block that is not whole: the file's end, a short one, or a failed read.
@@ -121,12 +113,45 @@ pub fn at_end(run: Run, block: Block, size: usize) -> Run {
     }
 }
 
-// The last line: frames and their bytes.
-pub fn say_total(run: Run) -> bool {
-    let mut line = [0u8; 128];
-    let a = put_number(&mut line, 0, run.done);
-    let b = put_text(&mut line, a, b" frames, ");
-    let c = put_number(&mut line, b, run.bytes);
-    let d = put_text(&mut line, c, b" bytes");
-    say_line(1, &mut line, d)
+// The intensities of the next frame; zeros where no file has them.
+pub fn take_intensities(job: Job, intensities: &mut [u8]) -> Block {
+    if job.intensities < 0 {
+        return Block::Whole;
+    }
+    next_block(job.intensities, side_count(job.layout), intensities)
+}
+
+// Of intensities that are not whole.
+pub fn without_intensities(job: Job, run: Run, block: Block) -> Run {
+    match block {
+        Block::End => {
+            say(2, b"hcaframe: the intensities end before the spectra\n");
+            stopped(run, 2)
+        }
+        _ => at_end(run, block, side_count(job.layout)),
+    }
+}
+
+// The spectra's end must be that of the intensities, too.
+fn at_both_ends(job: Job, run: Run) -> Run {
+    if job.intensities < 0 || is_at_end(job.intensities) {
+        return stopped(run, 0);
+    }
+    say(2, b"hcaframe: the spectra end before the intensities\n");
+    stopped(run, 2)
+}
+
+// Of an input's block that is not whole.
+pub fn without_block(job: Job, run: Run, block: Block) -> Run {
+    match block {
+        Block::End => at_both_ends(job, run),
+        _ => at_end(run, block, job.size),
+    }
+}
+
+pub fn is_whole(block: Block) -> bool {
+    match block {
+        Block::Whole => true,
+        _ => false,
+    }
 }

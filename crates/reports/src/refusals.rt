@@ -1,94 +1,47 @@
 // What is told of a refusal.
 use answers::Refusal;
 use answers::refused;
-use files::lines::put_number;
 use files::lines::put_text;
 use files::lines::say_line;
+use forms::lines::put_entry;
+use forms::lines::put_form;
 use rules::Layout;
 use rules::legal;
 
-// What each number means.
-fn put_meaning(line: &mut [u8], at: usize, number: usize) -> usize {
-    match number {
-        1 => put_text(line, at, b"the layout is outside its limits"),
-        2 => put_text(line, at, b"a lent buffer is too short"),
-        3 => put_text(line, at, b"a secondary's intensity is above 15"),
-        4 => put_text(line, at, b"a spectrum value is NaN or infinite"),
-        5 => put_text(
-            line,
-            at,
-            b"no level fits the frame, after every removal of bands",
-        ),
-        6 => put_text(line, at, b"no boundary is found"),
-        7 => put_text(line, at, b"the fields do not fit the frame"),
-        8 => put_text(line, at, b"the check is wrong"),
-        9 => put_text(line, at, b"the sync is not FFFF"),
-        10 => put_text(
-            line,
-            at,
-            b"the level is above 254, or the boundary is not 0 at level 0",
-        ),
-        11 => put_text(
-            line,
-            at,
-            b"the width of the factor deltas is not the one that the writer chooses",
-        ),
-        12 => put_text(
-            line,
-            at,
-            b"an escape is needless, or a factor is outside 0 to 63",
-        ),
-        13 => put_text(line, at, b"a field passes the end of the fields"),
-        14 => put_text(line, at, b"the fill holds a 1"),
-        15 => put_text(line, at, b"the record is not legal"),
-        _ => put_text(line, at, b"unknown"),
-    }
+// The line of each refusal, with its number and, where document 01 has one, the number beside it; line 0 is for any other.
+const FORMS: [u8; 815] = *b"refusal #: unknown\n\
+    refusal #: the layout is outside its limits\n\
+    refusal #: a lent buffer is too short\n\
+    refusal # at #: a secondary's intensity is above 15\n\
+    refusal # at #: a spectrum value is NaN or infinite\n\
+    refusal # with pairs removed: #: no level fits the frame, after every removal of bands\n\
+    refusal # at level #: no boundary is found\n\
+    refusal #: the fields do not fit the frame\n\
+    refusal #: the check is wrong\n\
+    refusal #: the sync is not FFFF\n\
+    refusal # at bit #: the level is above 254, or the boundary is not 0 at level 0\n\
+    refusal # at bit #: the width of the factor deltas is not the one that the writer chooses\n\
+    refusal # at bit #: an escape is needless, or a factor is outside 0 to 63\n\
+    refusal # at bit #: a field passes the end of the fields\n\
+    refusal # at bit #: the fill holds a 1\n\
+    refusal #: the record is not legal\n";
+
+fn line_for(number: usize) -> usize {
+    if 15 < number { 0 } else { number }
 }
 
-// Document 01 has nothing but 0 beside the others.
-fn has_place(number: usize) -> bool {
-    match number {
-        3..=6 => true,
-        10..=14 => true,
-        _ => false,
-    }
-}
-
-// What the number beside it is.
-fn put_word(line: &mut [u8], at: usize, number: usize) -> usize {
-    match number {
-        3..=4 => put_text(line, at, b" at "),
-        5 => put_text(line, at, b" with pairs removed: "),
-        6 => put_text(line, at, b" at level "),
-        _ => put_text(line, at, b" at bit "),
-    }
-}
-
-fn put_beside(line: &mut [u8], at: usize, told: Refusal) -> usize {
-    if !has_place(told.number) {
-        return at;
-    }
-    let next = put_word(line, at, told.number);
-    put_number(line, next, told.beside)
-}
-
-// Refusal, number, place and meaning.
-pub fn put_refusal(line: &mut [u8], at: usize, told: Refusal) -> usize {
-    let a = put_text(line, at, b"refusal ");
-    let b = put_number(line, a, told.number);
-    let c = put_beside(line, b, told);
-    let d = put_text(line, c, b": ");
-    put_meaning(line, d, told.number)
+// Puts the refusal from a place on, and writes the line.
+fn say_told(fd: i32, line: &mut [u8], at: usize, told: Refusal) -> bool {
+    let numbers = [told.number, told.beside];
+    let end = put_entry(line, at, &FORMS, line_for(told.number), &numbers);
+    say_line(fd, line, end)
 }
 
 // A frame's refusal, on the descriptor.
 pub fn say_refusal(fd: i32, frame: usize, told: Refusal) -> bool {
     let mut line = [0u8; 256];
-    let a = put_text(&mut line, 0, b"frame ");
-    let b = put_number(&mut line, a, frame);
-    let c = put_text(&mut line, b, b": ");
-    let d = put_refusal(&mut line, c, told);
-    say_line(fd, &mut line, d)
+    let at = put_form(&mut line, 0, b"frame #: ", &[frame]);
+    say_told(fd, &mut line, at, told)
 }
 
 // Is the layout within its limits? If not, that is said.
@@ -97,8 +50,7 @@ pub fn is_possible(layout: Layout) -> bool {
         return true;
     }
     let mut line = [0u8; 256];
-    let a = put_text(&mut line, 0, b"hcaframe: ");
-    let b = put_refusal(&mut line, a, refused(1, 0));
-    say_line(2, &mut line, b);
+    let at = put_text(&mut line, 0, b"hcaframe: ");
+    say_told(2, &mut line, at, refused(1, 0));
     false
 }

@@ -1,9 +1,9 @@
 // The words of a command. One parser takes those of the command line and those of a layout file.
-ghost use Prim.Native.Nat.{_<_};
 use files::lines::say;
 use files::names::Spelt;
-use files::names::is_same;
 use files::names::number_of;
+use forms::tables::entry_of;
+use forms::tables::say_entry;
 use manual::say_usage;
 use rules::Channel;
 use rules::ChannelType;
@@ -35,77 +35,58 @@ pub fn none_yet(command: usize) -> Options {
     }
 }
 
-fn layout_option(word: &[u8]) -> usize
-    ensures { λ r. ⌜ r < 16 ⌝ }
-{
-    if is_same(word, b"--kinds") {
-        return 1;
-    }
-    if is_same(word, b"--base") {
-        return 2;
-    }
-    if is_same(word, b"--stereo") {
-        return 3;
-    }
-    if is_same(word, b"--total") {
-        return 4;
-    }
-    if is_same(word, b"--frame-size") {
-        return 5;
-    }
-    0
-}
+// An option's number is its line here.
+const NAMES: [u8; 104] = *b"\n\
+    --kinds\n\
+    --base\n\
+    --stereo\n\
+    --total\n\
+    --frame-size\n\
+    --layout\n\
+    --spectra\n\
+    --intensities\n\
+    --out\n\
+    --frames\n\
+    --records\n";
 
-fn file_option(word: &[u8]) -> usize
-    ensures { λ r. ⌜ r < 16 ⌝ }
-{
-    if is_same(word, b"--layout") {
-        return 6;
-    }
-    if is_same(word, b"--spectra") {
-        return 7;
-    }
-    if is_same(word, b"--intensities") {
-        return 8;
-    }
-    if is_same(word, b"--out") {
-        return 9;
-    }
-    if is_same(word, b"--frames") {
-        return 10;
-    }
-    if is_same(word, b"--records") {
-        return 11;
-    }
-    0
-}
+// What is wrong with a word, an option or a value; line 0 is for nothing.
+const FAULTS: [u8; 334] = *b"\n\
+    \x20is an unknown command\n\
+    \x20is an unknown word\n\
+    \x20is not for this command or this file\n\
+    \x20is given twice\n\
+    : its value is missing\n\
+    \x20is missing\n\
+    \x20is missing, and a channel is S\n\
+    \x20is not a number of up to nine digits\n\
+    \x20has another letter than D, P and S\n\
+    it has no letter\n\
+    \x20has more than 16 letters\n\
+    : it cannot be read as a layout of up to 4096 bytes\n";
 
-// The option's number, or 0.
-fn option_of(word: &[u8]) -> usize
-    ensures { λ r. ⌜ r < 16 ⌝ }
-{
-    let k = layout_option(word);
-    if k != 0 {
-        return k;
-    }
-    file_option(word)
-}
+pub const UNKNOWN_COMMAND: usize = 1;
 
-fn say_option(k: usize) -> bool {
-    match k {
-        1 => say(2, b"--kinds"),
-        2 => say(2, b"--base"),
-        3 => say(2, b"--stereo"),
-        4 => say(2, b"--total"),
-        5 => say(2, b"--frame-size"),
-        6 => say(2, b"--layout"),
-        7 => say(2, b"--spectra"),
-        8 => say(2, b"--intensities"),
-        9 => say(2, b"--out"),
-        10 => say(2, b"--frames"),
-        _ => say(2, b"--records"),
-    }
-}
+const UNKNOWN_WORD: usize = 2;
+
+const NOT_WELCOME: usize = 3;
+
+const GIVEN_TWICE: usize = 4;
+
+const NO_VALUE: usize = 5;
+
+const MISSING: usize = 6;
+
+pub const MISSING_FOR_S: usize = 7;
+
+const NO_NUMBER: usize = 8;
+
+const OTHER_LETTER: usize = 9;
+
+const NO_LETTER: usize = 10;
+
+const MANY_LETTERS: usize = 11;
+
+pub const NO_LAYOUT_FILE: usize = 12;
 
 // Does the command take this option? A layout file holds layout words only.
 fn is_taken(command: usize, k: usize) -> bool {
@@ -133,33 +114,36 @@ pub fn spoilt(options: Options) -> Options {
     o
 }
 
-// Says what is wrong with a word, and how the command is called.
-pub fn refuse_word(options: Options, word: &[u8], text: &[u8]) -> Options {
-    say(2, b"hcaframe: ");
-    say(2, word);
-    say(2, text);
+// Ends what is said of a fault, and says how the command is called.
+fn refuse(options: Options, fault: usize) -> Options {
+    say_entry(2, &FAULTS, fault);
+    say(2, b"\n");
     say_usage(2, options.command);
     spoilt(options)
 }
 
-// The same of an option's value.
-fn refuse_value(options: Options, word: &[u8], text: &[u8]) -> Options {
+pub fn refuse_word(options: Options, word: &[u8], fault: usize) -> Options {
     say(2, b"hcaframe: ");
+    say(2, word);
+    refuse(options, fault)
+}
+
+fn say_option(k: usize) {
+    say(2, b"hcaframe: ");
+    say_entry(2, &NAMES, k);
+}
+
+// Of the value that an option waits for.
+fn refuse_value(options: Options, word: &[u8], fault: usize) -> Options {
     say_option(options.waiting);
     say(2, b": ");
     say(2, word);
-    say(2, text);
-    say_usage(2, options.command);
-    spoilt(options)
+    refuse(options, fault)
 }
 
-// The same of an option.
-pub fn refuse_option(options: Options, k: usize, text: &[u8]) -> Options {
-    say(2, b"hcaframe: ");
+pub fn refuse_option(options: Options, k: usize, fault: usize) -> Options {
     say_option(k);
-    say(2, text);
-    say_usage(2, options.command);
-    spoilt(options)
+    refuse(options, fault)
 }
 
 fn kept(options: Options, k: usize, n: usize) -> Options {
@@ -190,7 +174,7 @@ pub fn number(options: Options, k: usize) -> usize {
 fn take_number(options: Options, word: &[u8]) -> Options {
     match number_of(word) {
         Spelt::Number(n) => kept(options, options.waiting, files::places::more(n, 1)),
-        Spelt::Other => refuse_value(options, word, b" is not a number of up to nine digits\n"),
+        Spelt::Other => refuse_value(options, word, NO_NUMBER),
     }
 }
 
@@ -240,15 +224,24 @@ fn kinds_of(word: &[u8]) -> [Channel; 16] {
     kinds
 }
 
-fn take_kinds(options: Options, word: &[u8]) -> Options {
+// What is wrong with the letters; 0 if nothing is.
+fn letters_fault(word: &[u8]) -> usize {
     if !are_letters(word) {
-        return refuse_value(options, word, b" has another letter than D, P and S\n");
+        return OTHER_LETTER;
     }
     if word.len() == 0 {
-        return refuse_value(options, word, b"it has no letter\n");
+        return NO_LETTER;
     }
     if 16 < word.len() {
-        return refuse_value(options, word, b" has more than 16 letters\n");
+        return MANY_LETTERS;
+    }
+    0
+}
+
+fn take_kinds(options: Options, word: &[u8]) -> Options {
+    let fault = letters_fault(word);
+    if fault != 0 {
+        return refuse_value(options, word, fault);
     }
     let mut o = kept(options, 1, 1);
     o.channels = word.len();
@@ -274,16 +267,25 @@ fn is_welcome(options: Options, k: usize) -> bool {
     is_taken(options.command, k)
 }
 
-fn take_option(options: Options, word: &[u8]) -> Options {
-    let k = option_of(word);
+// What is wrong with option k; 0 if nothing is.
+fn option_fault(options: Options, k: usize) -> usize {
     if k == 0 {
-        return refuse_word(options, word, b" is an unknown word\n");
+        return UNKNOWN_WORD;
     }
     if !is_welcome(options, k) {
-        return refuse_word(options, word, b" is not for this command or this file\n");
+        return NOT_WELCOME;
     }
-    if options.values[k] != 0 {
-        return refuse_word(options, word, b" is given twice\n");
+    if value(options, k) != 0 {
+        return GIVEN_TWICE;
+    }
+    0
+}
+
+fn take_option(options: Options, word: &[u8]) -> Options {
+    let k = entry_of(&NAMES, word);
+    let fault = option_fault(options, k);
+    if fault != 0 {
+        return refuse_word(options, word, fault);
     }
     let mut o = options;
     o.waiting = k;
@@ -302,7 +304,7 @@ pub fn closed(options: Options) -> Options {
     if options.is_bad || options.waiting == 0 {
         return options;
     }
-    refuse_option(options, options.waiting, b": its value is missing\n")
+    refuse_option(options, options.waiting, NO_VALUE)
 }
 
 // Everything that the command needs must be there.
@@ -310,7 +312,7 @@ pub fn complete(options: Options) -> Options {
     let mut k = 1;
     while k < 12 {
         if is_needed(options.command, k) && value(options, k) == 0 {
-            return refuse_option(options, k, b" is missing\n");
+            return refuse_option(options, k, MISSING);
         }
         k += 1;
     }

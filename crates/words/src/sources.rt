@@ -1,6 +1,7 @@
 // Where the words come from: the command line, and a layout file.
 ghost use Prim.Native.Nat.{_≤_, _<_};
 ghost use lib.ListN.{length};
+use crate::options::NO_LAYOUT_FILE;
 use crate::options::Options;
 use crate::options::closed;
 use crate::options::complete;
@@ -109,26 +110,26 @@ fn take_words(options: Options, text: &[u8]) -> Options {
 }
 
 // A layout file is short: it must leave room in the buffer.
+fn from_open(options: Options, path: &[u8], fd: i32) -> Options {
+    let mut text = io::buffer();
+    let n = io::read_full(fd, &mut text);
+    let is_whole = files::blocks::is_at_end(fd);
+    libc::close(fd);
+    if !is_whole {
+        return refuse_word(options, path, NO_LAYOUT_FILE);
+    }
+    let mut o = options;
+    o.argument = 0;
+    closed(take_words(o, &text[..n]))
+}
+
 fn from_file(options: Options, path: &[u8]) -> Options {
     let fd = os::open_read(path);
     if fd < 0 {
         complain(path);
         return spoilt(options);
     }
-    let mut text = io::buffer();
-    let n = io::read_full(fd, &mut text);
-    let is_whole = files::blocks::is_at_end(fd);
-    libc::close(fd);
-    if !is_whole {
-        return refuse_word(
-            options,
-            path,
-            b": it cannot be read as a layout of up to 4096 bytes\n",
-        );
-    }
-    let mut o = options;
-    o.argument = 0;
-    closed(take_words(o, &text[..n]))
+    from_open(options, path, fd)
 }
 
 fn from_layout(options: Options) -> Options {

@@ -1,15 +1,14 @@
 -- `words::options::complete` is safe and ends. Nothing has to hold from turn to turn. Assumes nothing.
 use native.Mathlib.Omega.{arith}
 use Prim.Native.Nat.{_-_}
-use borrow.Author.Needs.{needs}
 use Rattle.words.proofs.options.complete.Statement.{statement}
 use Rattle.words.proofs.options.complete.Tie as tie
 
 abbrev Inv-loop : tie.InvT-loop
-Inv-loop options k₀ t3 k = Unit {0}
+Inv-loop options k₀ k = Unit {0}
 
 abbrev μ-loop : tie.MeasureT-loop
-μ-loop options k₀ t3 k = 12 - k
+μ-loop options k₀ k = 12 - k
 
 loop-holds : tie.Need-loop-holds Inv-loop μ-loop
 loop-holds c = tt
@@ -19,9 +18,6 @@ is-needed-requires c κs = tt
 
 value-requires : tie.Need-value-requires Inv-loop μ-loop
 value-requires c κs = tt
-
-slice-aggregate-refuse-option : tie.Need-slice-aggregate-refuse-option Inv-loop μ-loop
-slice-aggregate-refuse-option c = search needs
 
 refuse-option-requires : tie.Need-refuse-option-requires Inv-loop μ-loop
 refuse-option-requires c κs = tt
@@ -50,7 +46,6 @@ complete-spec =
     loop-holds
     is-needed-requires
     value-requires
-    slice-aggregate-refuse-option
     refuse-option-requires
     returns
     add-k

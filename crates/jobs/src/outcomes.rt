@@ -1,0 +1,103 @@
+// What is told of a frame, and before the first and behind the last of them.
+use crate::progress::Job;
+use crate::progress::Run;
+use crate::progress::counted;
+use crate::progress::ended_by;
+use crate::records::keep_record;
+use answers::Refusal;
+use answers::read_refusal;
+use answers::stage_refusal;
+use answers::write_refusal;
+use files::lines::put_out;
+use files::places::more;
+use forms::lines::say_form;
+use reports::dump::say_frame;
+use reports::refusals::say_refusal;
+use reports::table::say_record_head;
+use reports::table::say_record_row;
+use reports::table::say_stage_head;
+use reports::table::say_stage_row;
+use rules::ReadAnswer;
+use rules::StageAnswer;
+use rules::WriteAnswer;
+
+// The frame's bytes, behind its line.
+fn with_bytes(job: Job, run: Run, is_told: bool, frame: &[u8]) -> Run {
+    let is_written = put_out(job.output, frame, job.layout.frame_size);
+    counted(job, run, is_told && is_written)
+}
+
+pub fn encoded(job: Job, run: Run, answer: StageAnswer, frame: &[u8]) -> Run {
+    let StageAnswer::Delivered(level, boundary, pairs, bits) = answer else {
+        return ended_by(run, stage_refusal(answer));
+    };
+    let is_told = say_stage_row(&[run.done, level, boundary, pairs, bits]);
+    with_bytes(job, run, is_told, frame)
+}
+
+pub fn written(job: Job, run: Run, answer: WriteAnswer, frame: &[u8]) -> Run {
+    let WriteAnswer::Delivered(level, boundary, bits) = answer else {
+        return ended_by(run, write_refusal(answer));
+    };
+    let is_told = say_record_row(&[run.done, level, boundary, bits]);
+    with_bytes(job, run, is_told, frame)
+}
+
+// What a frame holds, told in words and kept as a record.
+fn told(job: Job, run: Run, answer: ReadAnswer, factors: &[u8], side: &[u8], codes: &[i32]) -> Run {
+    let ReadAnswer::Delivered(level, boundary, bits) = answer else {
+        return ended_by(run, read_refusal(answer));
+    };
+    let head = [run.done, level, boundary, bits];
+    let is_told = say_frame(&head, job.layout, factors, side, codes);
+    let is_kept = keep_record(job, level, boundary, factors, side, codes);
+    counted(job, run, is_told && is_kept)
+}
+
+// Whether a frame is good. A refused one is counted, and the run goes on.
+fn checked(job: Job, run: Run, told: Refusal) -> Run {
+    if told.number == 0 {
+        return counted(job, run, say_form(1, b"frame #: good\n", &[run.done]));
+    }
+    let mut r = run;
+    r.refused = more(run.refused, 1);
+    counted(job, r, say_refusal(1, run.done, told))
+}
+
+pub fn read(
+    job: Job,
+    run: Run,
+    answer: ReadAnswer,
+    factors: &[u8],
+    side: &[u8],
+    codes: &[i32],
+) -> Run {
+    if job.command == 4 {
+        return checked(job, run, read_refusal(answer));
+    }
+    told(job, run, answer, factors, side, codes)
+}
+
+// The first line.
+pub fn say_first(command: usize) -> bool {
+    match command {
+        1 => say_stage_head(),
+        3 => say_record_head(),
+        _ => true,
+    }
+}
+
+fn good(run: Run) -> usize {
+    if run.done < run.refused {
+        return 0;
+    }
+    run.done - run.refused
+}
+
+// The last line.
+pub fn say_last(command: usize, run: Run) -> bool {
+    if command == 4 {
+        return say_form(1, b"# good, # refused\n", &[good(run), run.refused]);
+    }
+    say_form(1, b"# frames, # bytes\n", &[run.done, run.bytes])
+}
