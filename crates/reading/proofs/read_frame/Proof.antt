@@ -1,13 +1,13 @@
--- `hca::hca_read_frame` meets its contract. Assumes nothing.
+-- `reading::read_frame` meets its contract. Assumes nothing.
 use mathlib.Core.Path.{_≡_, sym, _∙_}
 use mathlib.Core.Bool.{true}
 use borrow.Author.Needs.{needs}
 use borrow.Author.Tests.{not-true, not-false}
 use Rattle.naming.specs.Layouts.{named}
 use Rattle.naming.proofs.Naming.{named-five}
-use Rattle.hca.proofs.Tellings.{read-unnamed, read-short, read-done}
-use Rattle.hca.proofs.hca_read_frame.Statement.{statement}
-use Rattle.hca.proofs.hca_read_frame.Tie as tie
+use Rattle.reading.proofs.Tellings.{read-unnamed, read-short, read-done}
+use Rattle.reading.proofs.read_frame.Statement.{statement}
+use Rattle.reading.proofs.read_frame.Tie as tie
 
 is-named-requires : tie.Need-is-named-requires
 is-named-requires c κs = search needs
@@ -48,8 +48,8 @@ same-length-5 c = c .before .before .before .before .before .before .before .rea
 returns-3 : tie.Need-returns-3
 returns-3 c = read-done _ _ _ _ (lawful (c .before .before .before .before .before .before .before .before .before .before .before .before .before .before)) _ _ (c .before .before .before .before .before .before .before .before .before .before .before .before .layout-of .ensures) (c .before .before .before .before .before .before .before .before .before .before .before .before .before .if2 .left) (c .before .before .before .before .before .before .before .read-told .ensures)
 
-pub hca-read-frame-spec : {M : Type 1} → statement M
-hca-read-frame-spec =
+pub read-frame-spec : {M : Type 1} → statement M
+read-frame-spec =
     tie.close
     (tie.spec
     is-named-requires

@@ -1,13 +1,13 @@
--- `hca::hca_write_record` meets its contract. Assumes nothing.
+-- `writing::write_record` meets its contract. Assumes nothing.
 use mathlib.Core.Path.{_≡_, sym, _∙_}
 use mathlib.Core.Bool.{true}
 use borrow.Author.Needs.{needs}
 use borrow.Author.Tests.{not-true, not-false}
 use Rattle.naming.specs.Layouts.{named}
 use Rattle.naming.proofs.Naming.{named-five}
-use Rattle.hca.proofs.Tellings.{write-unnamed, write-short, write-headless, write-done}
-use Rattle.hca.proofs.hca_write_record.Statement.{statement}
-use Rattle.hca.proofs.hca_write_record.Tie as tie
+use Rattle.writing.proofs.Tellings.{write-unnamed, write-short, write-headless, write-done}
+use Rattle.writing.proofs.write_record.Statement.{statement}
+use Rattle.writing.proofs.write_record.Tie as tie
 
 is-named-requires : tie.Need-is-named-requires
 is-named-requires c κs = search needs
@@ -65,8 +65,8 @@ returns-4 c =
     write-done _ _ _ _ _ _ _ _ (lawful (c .before .before .before .before .before .before .before .before .before .before .before .before .before .before)) (c .before .before .before .before .before .before .before .before .before .before .before .before .before .if2 .left) (c .before .before .before .before .before .before .before .before .before .before .before .before .if3 .left) _ _ _ _ (c .before .before .before .before .before .before .before .before .before .before .before .layout-of .ensures) (c .before .before .before .before .before .before .before .before .before .wide .ensures) (c .before .before .before .before .before .before .before .wide2 .ensures)
     (c .before .before .before .before .write-told .ensures)
 
-pub hca-write-record-spec : {M : Type 1} → statement M
-hca-write-record-spec =
+pub write-record-spec : {M : Type 1} → statement M
+write-record-spec =
     tie.close
     (tie.spec
     is-named-requires

@@ -1,12 +1,12 @@
--- `hca::write_told` meets its contract. Assumes nothing.
+-- `writing::write_told` meets its contract. Assumes nothing.
 use mathlib.Core.Path.{sym, ap, subst}
 use borrow.Author.Needs.{needs}
 use Rattle.rules.specs.Stage.{FrameLeft}
 use Rattle.telling.specs.Outcomes.{Small}
-use Rattle.hca.proofs.Tellings.{write-tells}
-use Rattle.hca.proofs.Bounds.{written-small}
-use Rattle.hca.proofs.write_told.Statement.{statement}
-use Rattle.hca.proofs.write_told.Tie as tie
+use Rattle.writing.proofs.Tellings.{write-tells}
+use Rattle.writing.proofs.Bounds.{written-small}
+use Rattle.writing.proofs.write_told.Statement.{statement}
+use Rattle.writing.proofs.write_told.Tie as tie
 
 write-record-requires : tie.Need-write-record-requires
 write-record-requires c κs = search needs

@@ -1,12 +1,12 @@
--- `hca::encode_told` meets its contract. Assumes nothing.
+-- `encoding::encode_told` meets its contract. Assumes nothing.
 use mathlib.Core.Path.{sym, ap, subst}
 use borrow.Author.Needs.{needs}
 use Rattle.rules.specs.Stage.{Left}
 use Rattle.telling.specs.Outcomes.{Small}
-use Rattle.hca.proofs.Tellings.{encode-tells}
-use Rattle.hca.proofs.Bounds.{stage-small}
-use Rattle.hca.proofs.encode_told.Statement.{statement}
-use Rattle.hca.proofs.encode_told.Tie as tie
+use Rattle.encoding.proofs.Tellings.{encode-tells}
+use Rattle.encoding.proofs.Bounds.{stage-small}
+use Rattle.encoding.proofs.encode_told.Statement.{statement}
+use Rattle.encoding.proofs.encode_told.Tie as tie
 
 encode-frame-requires : tie.Need-encode-frame-requires
 encode-frame-requires c κs = search needs

@@ -1,13 +1,13 @@
--- `hca::hca_encode_frame` meets its contract. Assumes nothing.
+-- `encoding::encode_frame` meets its contract. Assumes nothing.
 use mathlib.Core.Path.{_≡_, sym, _∙_}
 use mathlib.Core.Bool.{true}
 use borrow.Author.Needs.{needs}
 use borrow.Author.Tests.{not-true, not-false}
 use Rattle.naming.specs.Layouts.{named}
 use Rattle.naming.proofs.Naming.{named-five}
-use Rattle.hca.proofs.Tellings.{encode-unnamed, encode-short, encode-done}
-use Rattle.hca.proofs.hca_encode_frame.Statement.{statement}
-use Rattle.hca.proofs.hca_encode_frame.Tie as tie
+use Rattle.encoding.proofs.Tellings.{encode-unnamed, encode-short, encode-done}
+use Rattle.encoding.proofs.encode_frame.Statement.{statement}
+use Rattle.encoding.proofs.encode_frame.Tie as tie
 
 is-named-requires : tie.Need-is-named-requires
 is-named-requires c κs = search needs
@@ -54,8 +54,8 @@ same-length-7 c = c .before .before .before .before .before .before .before .bef
 returns-3 : tie.Need-returns-3
 returns-3 c = encode-done _ _ _ _ (lawful (c .before .before .before .before .before .before .before .before .before .before .before .before .before .before .before .before .before .before .before .before)) _ _ (c .before .before .before .before .before .before .before .before .before .before .before .before .before .before .before .before .before .before .layout-of .ensures) (c .before .before .before .before .before .before .before .before .before .before .before .before .before .before .before .before .before .before .before .if2 .left) (c .before .before .before .before .before .before .before .before .before .before .before .encode-told .ensures)
 
-pub hca-encode-frame-spec : {M : Type 1} → statement M
-hca-encode-frame-spec =
+pub encode-frame-spec : {M : Type 1} → statement M
+encode-frame-spec =
     tie.close
     (tie.spec
     is-named-requires

@@ -1,12 +1,12 @@
--- `hca::read_told` meets its contract. Assumes nothing.
+-- `reading::read_told` meets its contract. Assumes nothing.
 use mathlib.Core.Path.{sym, ap, subst}
 use borrow.Author.Needs.{needs}
 use Rattle.rules.specs.Stage.{RecordLeft}
 use Rattle.telling.specs.Outcomes.{Small}
-use Rattle.hca.proofs.Tellings.{read-tells}
-use Rattle.hca.proofs.Bounds.{read-small}
-use Rattle.hca.proofs.read_told.Statement.{statement}
-use Rattle.hca.proofs.read_told.Tie as tie
+use Rattle.reading.proofs.Tellings.{read-tells}
+use Rattle.reading.proofs.Bounds.{read-small}
+use Rattle.reading.proofs.read_told.Statement.{statement}
+use Rattle.reading.proofs.read_told.Tie as tie
 
 read-frame-requires : tie.Need-read-frame-requires
 read-frame-requires c κs = search needs
