@@ -1,7 +1,7 @@
 // Frame after frame, for every command.
-use calls::encode_next;
-use calls::read_next;
-use calls::write_next;
+use crate::calls::encode_next;
+use crate::calls::read_next;
+use crate::calls::write_next;
 use files::blocks::next_block;
 use jobs::outcomes::say_first;
 use jobs::outcomes::say_last;

@@ -12,6 +12,7 @@ use words::options::none_yet;
 use words::options::refuse_word;
 use words::sources::all_words;
 
+mod calls;
 mod frames;
 
 // The command's number; 5 and 6 are help, 0 is none.

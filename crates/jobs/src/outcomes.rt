@@ -43,15 +43,25 @@ pub fn written(job: Job, run: Run, answer: WriteAnswer, frame: &[u8]) -> Run {
     with_bytes(job, run, is_told, frame)
 }
 
-// What a frame holds, told in words and kept as a record.
-fn told(job: Job, run: Run, answer: ReadAnswer, factors: &[u8], side: &[u8], codes: &[i32]) -> Run {
+// What a frame holds, told in words and kept as a record. The head is frame, level, boundary and bits.
+fn say_and_keep(job: Job, head: &[usize; 4], factors: &[u8], side: &[u8], codes: &[i32]) -> bool {
+    let is_said = say_frame(head, job.layout, factors, side, codes);
+    keep_record(job, head[1], head[2], factors, side, codes) && is_said
+}
+
+fn found(
+    job: Job,
+    run: Run,
+    answer: ReadAnswer,
+    factors: &[u8],
+    side: &[u8],
+    codes: &[i32],
+) -> Run {
     let ReadAnswer::Delivered(level, boundary, bits) = answer else {
         return ended_by(run, read_refusal(answer));
     };
     let head = [run.done, level, boundary, bits];
-    let is_told = say_frame(&head, job.layout, factors, side, codes);
-    let is_kept = keep_record(job, level, boundary, factors, side, codes);
-    counted(job, run, is_told && is_kept)
+    counted(job, run, say_and_keep(job, &head, factors, side, codes))
 }
 
 // Whether a frame is good. A refused one is counted, and the run goes on.
@@ -75,7 +85,7 @@ pub fn read(
     if job.command == 4 {
         return checked(job, run, read_refusal(answer));
     }
-    told(job, run, answer, factors, side, codes)
+    found(job, run, answer, factors, side, codes)
 }
 
 // The first line.

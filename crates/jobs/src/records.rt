@@ -12,6 +12,11 @@ use words::layouts::record_size;
 use words::layouts::side_count;
 use words::layouts::value_count;
 
+fn put_head(out: &mut [u8], level: usize, boundary: usize) {
+    put_word(out, 0, level);
+    put_word(out, 4, boundary);
+}
+
 fn put_record(
     out: &mut [u8],
     layout: Layout,
@@ -21,8 +26,7 @@ fn put_record(
     side: &[u8],
     codes: &[i32],
 ) {
-    put_word(out, 0, level);
-    put_word(out, 4, boundary);
+    put_head(out, level, boundary);
     let a = put_bytes(out, 8, factors, factor_count(layout));
     let b = put_bytes(out, a, side, side_count(layout));
     put_ints(out, b, codes, value_count(layout));

@@ -1,16 +1,36 @@
 // Replays fixed calls of the frame stage, the strict reader, the record writer and the checksum, and compares what they leave.
-use cases::run_case;
+use self::frames::stage_case;
+use self::records::check_case;
+use self::records::read_case;
+use self::records::write_case;
 use files::lines::say;
 use files::places::ahead;
 use files::words::word;
 use files::words::word_past;
+use forms::lines::say_form;
 use vectors::data::bytes_at;
+use vectors::lines::Outcome;
 use vectors::lines::Tally;
 use vectors::lines::Word;
 use vectors::lines::counted;
+use vectors::lines::is_damaged;
+use vectors::lines::not_run;
 use vectors::lines::say_outcome;
 use vectors::lines::say_tally;
-use vectors::lines::say_with;
+
+mod frames;
+mod records;
+
+// Runs the call that a case's body says. A kind that there is not is damage.
+fn run_case(kind: usize, body: &[u8]) -> Outcome {
+    match kind {
+        1 => stage_case(body),
+        2 => read_case(body),
+        3 => write_case(body),
+        4 => check_case(body),
+        _ => not_run(Word::Damaged),
+    }
+}
 
 // Runs the case at a place, and says its line.
 fn replay_case(data: &[u8], at: usize, number: usize) -> Word {
@@ -26,15 +46,6 @@ fn replay_case(data: &[u8], at: usize, number: usize) -> Word {
 // The place past the case at a place.
 fn past_case(data: &[u8], at: usize) -> usize {
     ahead(ahead(at, 8), word_past(data, at, 4))
-}
-
-fn is_damaged(word: Word) -> bool {
-    match word {
-        Word::Damaged => true,
-        Word::Same => false,
-        Word::Different => false,
-        Word::Skipped => false,
-    }
 }
 
 // Every case from the head on; the first damaged one ends it.
@@ -65,8 +76,7 @@ fn replay_data(path: &[u8], data: &[u8], tally: Tally) -> Tally {
     let version = word(data, 4);
     if version != 1 {
         say(1, path);
-        say_with(b" damaged: its version is not 1 but", version);
-        say(1, b"\n");
+        say_form(1, b" damaged: its version is not 1 but #\n", &[version]);
         return counted(tally, Word::Damaged);
     }
     replay_cases(data, tally)

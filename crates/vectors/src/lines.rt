@@ -4,12 +4,11 @@ use crate::data::are_same;
 use crate::data::numbers_at;
 use answers::Refusal;
 use answers::refused;
-use files::lines::put_number;
-use files::lines::put_out;
-use files::lines::put_text;
 use files::lines::say;
 use files::places::ahead;
 use files::places::more;
+use forms::lines::say_form;
+use forms::tables::say_entry;
 
 pub enum Word {
     Same,
@@ -105,76 +104,59 @@ pub fn counted(tally: Tally, word: Word) -> Tally {
     t
 }
 
-// A number with a space before it.
-fn say_number(n: usize) {
-    let mut line = [0u8; 32];
-    let a = put_text(&mut line, 0, b" ");
-    let b = put_number(&mut line, a, n);
-    put_out(1, &line, b);
-}
-
-// A text, a space and a number.
-pub fn say_with(text: &[u8], n: usize) {
-    say(1, text);
-    say_number(n);
-}
-
 // Four numbers of the stage, three of the reader and the writer.
 fn say_delivered(kind: usize, answer: Numbers) {
-    say_with(b" delivered", answer.b);
-    say_number(answer.c);
-    say_number(answer.d);
+    let numbers = [answer.b, answer.c, answer.d, answer.e];
     if kind == 1 {
-        say_number(answer.e);
+        say_form(1, b" delivered # # # #", &numbers);
+        return;
     }
+    say_form(1, b" delivered # # #", &numbers);
 }
 
 fn say_answer(kind: usize, answer: Numbers) {
     if answer.a != 0 {
-        say_with(b" refusal", answer.a);
-        say_with(b" beside it", answer.b);
+        say_form(1, b" refusal # beside it #", &[answer.a, answer.b]);
         return;
     }
     if kind == 4 {
-        say_with(b" check", answer.b);
+        say_form(1, b" check #", &[answer.b]);
         return;
     }
     say_delivered(kind, answer);
 }
 
-fn was_run(word: Word) -> bool {
+fn number_of(word: Word) -> usize {
     match word {
-        Word::Same => true,
-        Word::Different => true,
-        Word::Skipped => false,
-        Word::Damaged => false,
+        Word::Same => 0,
+        Word::Different => 1,
+        Word::Skipped => 2,
+        Word::Damaged => 3,
     }
 }
 
-fn say_word(word: Word) -> bool {
-    match word {
-        Word::Same => say(1, b" same\n"),
-        Word::Different => say(1, b" DIFFERENT\n"),
-        Word::Skipped => say(1, b" skipped: only the C interface can say this layout\n"),
-        Word::Damaged => say(1, b" damaged\n"),
-    }
+pub fn is_damaged(word: Word) -> bool {
+    number_of(word) == 3
 }
 
+// Only what was run has an answer. The word's line is that of its number.
 pub fn say_outcome(number: usize, kind: usize, outcome: Outcome) {
     let answer = outcome.answer;
     let word = outcome.word;
-    say_with(b"case", number);
-    say_with(b" kind", kind);
-    if was_run(word) {
+    let n = number_of(word);
+    say_form(1, b"case # kind #", &[number, kind]);
+    if n < 2 {
         say_answer(kind, answer);
     }
-    say_word(word);
+    say_entry(
+        1,
+        b" same\n DIFFERENT\n skipped: only the C interface can say this layout\n damaged\n",
+        n,
+    );
+    say(1, b"\n");
 }
 
 pub fn say_tally(tally: Tally) {
-    say_with(b"same", tally.same);
-    say_with(b" different", tally.different);
-    say_with(b" skipped", tally.skipped);
-    say_with(b" damaged", tally.damaged);
-    say(1, b"\n");
+    let numbers = [tally.same, tally.different, tally.skipped, tally.damaged];
+    say_form(1, b"same # different # skipped # damaged #\n", &numbers);
 }

@@ -1,8 +1,8 @@
--- `cases::records::write_run` is safe. Assumes nothing.
+-- `replay::records::write_run` is safe. Assumes nothing.
 use mathlib.Core.Path.{sym}
 use lib.Seq.{length-take-le}
-use Rattle.cases.proofs.records.write_run.Statement.{statement}
-use Rattle.cases.proofs.records.write_run.Tie as tie
+use Rattle.replay.proofs.records.write_run.Statement.{statement}
+use Rattle.replay.proofs.records.write_run.Tie as tie
 
 layout-of-requires : tie.Need-layout-of-requires
 layout-of-requires c κs = tt

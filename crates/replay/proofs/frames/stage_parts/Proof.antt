@@ -1,9 +1,9 @@
--- `cases::frames::stage_parts` is safe. Assumes nothing.
+-- `replay::frames::stage_parts` is safe. Assumes nothing.
 use mathlib.Core.Path.{sym}
 use lib.Seq.{length-take-le}
 use borrow.Author.Needs.{needs}
-use Rattle.cases.proofs.frames.stage_parts.Statement.{statement}
-use Rattle.cases.proofs.frames.stage_parts.Tie as tie
+use Rattle.replay.proofs.frames.stage_parts.Statement.{statement}
+use Rattle.replay.proofs.frames.stage_parts.Tie as tie
 
 bytes-at-requires : tie.Need-bytes-at-requires
 bytes-at-requires c κs = tt

@@ -1,8 +1,8 @@
--- `cases::frames::stage_call` is safe: each buffer is lent at a length that it has. Assumes nothing.
+-- `replay::frames::stage_call` is safe: each buffer is lent at a length that it has. Assumes nothing.
 use mathlib.Core.Path.{sym}
 use lib.Seq.{length-take-le}
-use Rattle.cases.proofs.frames.stage_call.Statement.{statement}
-use Rattle.cases.proofs.frames.stage_call.Tie as tie
+use Rattle.replay.proofs.frames.stage_call.Statement.{statement}
+use Rattle.replay.proofs.frames.stage_call.Tie as tie
 
 held-requires : tie.Need-held-requires
 held-requires c κs = tt
