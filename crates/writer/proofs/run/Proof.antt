@@ -31,10 +31,10 @@ mul-if2 : tie.Need-mul-if2
 mul-if2 c = search needs
 
 same-length : tie.Need-same-length
-same-length c = search needs
+same-length c = c .before .before .before .before .before .before .before .before .before .before .is-legal .kept .1 .1 .1 .1 .1 .1 .0
 
 same-length-2 : tie.Need-same-length-2
-same-length-2 c = search needs
+same-length-2 c = c .before .before .before .before .pack-frame .kept .1 .1 .1 .1 .1 .1 .1 .0
 
 returns : tie.Need-returns
 returns c =
@@ -44,10 +44,10 @@ returns c =
     run-long _ _ _ _ _ _ _ (s .pre .0) (s .pre .1 .4) (legal t) (p .result) (p .ensures .0) _ (p .ensures .1) (c .if2 .taken)
 
 same-length-3 : tie.Need-same-length-3
-same-length-3 c = search needs
+same-length-3 c = c .before .before .before .before .before .before .before .before .before .before .is-legal .kept .1 .1 .1 .1 .1 .1 .0
 
 same-length-4 : tie.Need-same-length-4
-same-length-4 c = search needs
+same-length-4 c = c .before .before .before .before .pack-frame .kept .1 .1 .1 .1 .1 .1 .1 .0
 
 returns-2 : tie.Need-returns-2
 returns-2 c =
@@ -57,7 +57,7 @@ returns-2 c =
     run-done _ _ _ _ _ _ _ (s .pre .0) (s .pre .1 .4) (legal t) (p .result) (p .ensures .0) _ (p .ensures .1) (c .if2 .left)
 
 same-length-5 : tie.Need-same-length-5
-same-length-5 c = search needs
+same-length-5 c = c .before .before .before .is-legal .kept .1 .1 .1 .1 .1 .1 .0
 
 returns-3 : tie.Need-returns-3
 returns-3 c = run-illegal _ _ _ _ _ _ _ (sym (c .before .before .before .is-legal .ensures .0) ∙ c .if1 .left)
