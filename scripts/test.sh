@@ -4,8 +4,8 @@
 # the model in their small form and the Rust crate's tests. The last line is that of `rt ci`: N passed, M failed.
 set -eu
 cd "$(dirname "$0")/.."
-# rt waits for a whole batch before it starts the next: with six at a time two cores are seldom idle
-export RT_JOBS="${RT_JOBS:-6}"
+# rt waits for a whole batch before it starts the next: with twelve at a time two cores are seldom idle
+export RT_JOBS="${RT_JOBS:-12}"
 rt fmt --check
 log=$(mktemp)
 trap 'rm -f "$log" "$log.status"' EXIT

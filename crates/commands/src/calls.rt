@@ -1,6 +1,4 @@
 // One frame of each command of hcaframe, by the public calls.
-use files::numbers::floats;
-use files::words::word;
 use jobs::outcomes::encoded;
 use jobs::outcomes::read;
 use jobs::outcomes::written;
@@ -10,6 +8,8 @@ use jobs::progress::is_whole;
 use jobs::progress::take_intensities;
 use jobs::progress::without_intensities;
 use jobs::records::take_record;
+use octets::numbers::floats;
+use octets::words::word;
 use rules::Layout;
 use rules::StageAnswer;
 use words::layouts::value_count;

@@ -1,11 +1,11 @@
 // The commands of hcaframe: files of spectra, frames and records, over the three public calls.
 use self::frames::do_frames;
-use files::names::is_same;
 use forms::tables::entry_of;
 use jobs::setting::ended;
 use jobs::setting::opened;
 use manual::help;
 use manual::say_usage;
+use octets::names::is_same;
 use words::options::Options;
 use words::options::UNKNOWN_COMMAND;
 use words::options::none_yet;

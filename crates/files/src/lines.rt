@@ -1,8 +1,8 @@
 // A line of text is put together in a lent buffer, which is cut at its end, and then written with one call.
-use crate::places::ahead;
 use crate::places::within;
-use crate::words::magnitude;
-use crate::words::put_byte;
+use octets::places::ahead;
+use octets::words::magnitude;
+use octets::words::put_byte;
 
 // Puts the text from a place on; answers the place past it.
 pub fn put_text(line: &mut [u8], place: usize, text: &[u8]) -> usize {

@@ -3,7 +3,7 @@ ghost use Rattle.io.specs.Counts.{Counts};
 use crate::lines::put_number;
 use crate::lines::put_text;
 use crate::places::within;
-use crate::words::bits_of;
+use octets::words::bits_of;
 
 // Puts the name that the file has while it is written; answers its length. The process's number keeps two runs apart.
 fn put_name(name: &mut [u8], path: &[u8]) -> usize

@@ -5,8 +5,8 @@ use files::lines::put_column;
 use files::lines::put_number;
 use files::lines::put_out;
 use files::lines::say_line;
-use files::places::ahead;
-use files::words::put_byte;
+use octets::places::ahead;
+use octets::words::put_byte;
 
 fn number_at(numbers: &[usize], k: usize) -> usize {
     if k < numbers.len() { numbers[k] } else { 0 }

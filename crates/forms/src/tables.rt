@@ -2,7 +2,7 @@
 ghost use Prim.Native.Nat.{_≤_};
 ghost use lib.ListN.{length};
 use files::lines::say;
-use files::names::is_same;
+use octets::names::is_same;
 
 // Where line k begins; the table's end if there is none.
 pub fn line_start(table: &[u8], k: usize) -> usize

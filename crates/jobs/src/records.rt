@@ -1,11 +1,11 @@
 // Records in the form of a file: level and boundary, factors from byte 8 on, then side values, then codes.
 use crate::progress::Job;
 use files::lines::put_out;
-use files::numbers::bytes;
-use files::numbers::ints;
-use files::numbers::put_bytes;
-use files::numbers::put_ints;
-use files::words::put_word;
+use octets::numbers::bytes;
+use octets::numbers::ints;
+use octets::numbers::put_bytes;
+use octets::numbers::put_ints;
+use octets::words::put_word;
 use rules::Layout;
 use words::layouts::factor_count;
 use words::layouts::record_size;

@@ -1,9 +1,9 @@
 // Frame-stage cases.
 ghost use Prim.Native.Nat.{_≤_};
 use answers::stage_refusal;
-use files::places::ahead;
-use files::places::clip;
-use files::words::word;
+use octets::places::ahead;
+use octets::places::clip;
+use octets::words::word;
 use rules::Layout;
 use rules::StageAnswer;
 use vectors::data::Numbers;

@@ -2,9 +2,9 @@
 use answers::read_refusal;
 use answers::refused;
 use answers::write_refusal;
-use files::places::ahead;
-use files::places::clip;
-use files::words::word;
+use octets::places::ahead;
+use octets::places::clip;
+use octets::words::word;
 use rules::Layout;
 use rules::ReadAnswer;
 use rules::WriteAnswer;

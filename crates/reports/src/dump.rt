@@ -3,10 +3,10 @@ use files::lines::put_int;
 use files::lines::put_number;
 use files::lines::put_text;
 use files::lines::say_line;
-use files::places::ahead;
-use files::words::byte;
 use forms::lines::put_form;
 use forms::lines::say_form;
+use octets::places::ahead;
+use octets::words::byte;
 use rules::Layout;
 use words::layouts::coded;
 use words::layouts::sides;
@@ -71,7 +71,7 @@ fn say_subframes(codes: &[i32], from: usize, n: usize) -> bool {
 }
 
 fn say_channel(layout: Layout, channel: usize, factors: &[u8], side: &[u8], codes: &[i32]) -> bool {
-    let c = files::places::clip(channel, 16);
+    let c = octets::places::clip(channel, 16);
     let n = coded(layout, c);
     say_channel_head(channel, n)
         && say_values(b"    factors", factors, c * 128, n)

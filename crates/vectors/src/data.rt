@@ -1,11 +1,11 @@
 // Numbers and parts of a file. A read past the end gives 0 and the place goes on: at a case's end the place tells whether the body was whole.
 ghost use Prim.Native.Nat.{_≤_};
 ghost use lib.ListN.{length};
-use files::places::ahead;
-use files::places::clip;
-use files::places::end;
-use files::words::word;
-use files::words::word_past;
+use octets::places::ahead;
+use octets::places::clip;
+use octets::places::end;
+use octets::words::word;
+use octets::words::word_past;
 
 // From a start to an end.
 pub struct Part {

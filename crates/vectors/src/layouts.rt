@@ -1,9 +1,9 @@
 // The layout that a body starts with, and its kinds.
 use crate::data::bytes_at;
-use files::places::ahead;
-use files::places::clip;
-use files::words::byte;
-use files::words::word;
+use octets::places::ahead;
+use octets::places::clip;
+use octets::words::byte;
+use octets::words::word;
 use rules::Layout;
 
 pub fn layout_of(body: &[u8]) -> Layout {

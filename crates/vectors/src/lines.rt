@@ -5,10 +5,10 @@ use crate::data::numbers_at;
 use answers::Refusal;
 use answers::refused;
 use files::lines::say;
-use files::places::ahead;
-use files::places::more;
 use forms::lines::say_form;
 use forms::tables::say_entry;
+use octets::places::ahead;
+use octets::places::more;
 
 pub enum Word {
     Same,

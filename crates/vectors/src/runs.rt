@@ -1,10 +1,10 @@
 // Lists of words that are 0 but for some runs, and what the words stand for.
-use files::numbers::float_of;
-use files::places::ahead;
-use files::places::clip;
-use files::words::int_of;
-use files::words::word;
-use files::words::word_past;
+use octets::numbers::float_of;
+use octets::places::ahead;
+use octets::places::clip;
+use octets::words::int_of;
+use octets::words::word;
+use octets::words::word_past;
 
 // A place past the end is passed over.
 fn put(out: &mut [u32], i: usize, n: u32) {

@@ -1,6 +1,6 @@
 // FNV-1a of 32 bits over a lent buffer's bytes.
-use files::words::bits_of;
-use files::words::wide;
+use octets::words::bits_of;
+use octets::words::wide;
 
 fn mix(sum: usize, byte: usize) -> usize {
     (((sum ^ byte) % 4294967296) * 16777619) % 4294967296

@@ -2,7 +2,7 @@
 ghost use Prim.Native.Nat.{_≤_};
 use crate::options::Options;
 use crate::options::number;
-use files::places::clip;
+use octets::places::clip;
 use rules::Layout;
 use rules::is_secondary;
 use rules::legal;

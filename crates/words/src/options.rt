@@ -1,10 +1,10 @@
 // The words of a command. One parser takes those of the command line and those of a layout file.
 use files::lines::say;
-use files::names::Spelt;
-use files::names::number_of;
 use forms::tables::entry_of;
 use forms::tables::say_entry;
 use manual::say_usage;
+use octets::names::Spelt;
+use octets::names::number_of;
 use rules::Channel;
 use rules::ChannelType;
 
@@ -173,7 +173,7 @@ pub fn number(options: Options, k: usize) -> usize {
 
 fn take_number(options: Options, word: &[u8]) -> Options {
     match number_of(word) {
-        Spelt::Number(n) => kept(options, options.waiting, files::places::more(n, 1)),
+        Spelt::Number(n) => kept(options, options.waiting, octets::places::more(n, 1)),
         Spelt::Other => refuse_value(options, word, NO_NUMBER),
     }
 }

@@ -1,32 +1,26 @@
--- `files::numbers::put_ints` is safe and ends. The buffer keeps its length. Assumes nothing.
+-- `octets::numbers::put_bytes` is safe and ends. The buffer keeps its length. Assumes nothing.
 use lib.ListN.{length}
 use mathlib.Core.Path.{_≡_, refl}
 use native.Mathlib.Omega.{arith}
 use Prim.Native.Nat.{_-_}
 use borrow.Author.Needs.{needs}
-use Rattle.files.proofs.numbers.put_ints.Statement.{statement}
-use Rattle.files.proofs.numbers.put_ints.Tie as tie
+use Rattle.octets.proofs.numbers.put_bytes.Statement.{statement}
+use Rattle.octets.proofs.numbers.put_bytes.Tie as tie
 
 abbrev Inv-loop : tie.InvT-loop
-Inv-loop out₀ place numbers n at₀ i₀ out at i = length out ≡ length out₀
+Inv-loop out₀ place «data» n at₀ i₀ out at i = length out ≡ length out₀
 
 abbrev μ-loop : tie.MeasureT-loop
-μ-loop out₀ place numbers n at₀ i₀ out at i = n - i
+μ-loop out₀ place «data» n at₀ i₀ out at i = n - i
 
 loop-holds : tie.Need-loop-holds Inv-loop μ-loop
 loop-holds c = refl
 
-mul-bits-of : tie.Need-mul-bits-of Inv-loop μ-loop
-mul-bits-of c = search needs
+shared-slice-read-put-byte : tie.Need-shared-slice-read-put-byte Inv-loop μ-loop
+shared-slice-read-put-byte c = search needs
 
-shared-slice-copy-out-bits-of : tie.Need-shared-slice-copy-out-bits-of Inv-loop μ-loop
-shared-slice-copy-out-bits-of c = search needs
-
-bits-of-requires : tie.Need-bits-of-requires Inv-loop μ-loop
-bits-of-requires c κs = tt
-
-put-word-requires : tie.Need-put-word-requires Inv-loop μ-loop
-put-word-requires c κs = tt
+put-byte-requires : tie.Need-put-byte-requires Inv-loop μ-loop
+put-byte-requires c κs = tt
 
 ahead-requires : tie.Need-ahead-requires Inv-loop μ-loop
 ahead-requires c κs = tt
@@ -52,17 +46,15 @@ same-length-2 c = search needs
 returns-2 : tie.Need-returns-2 Inv-loop μ-loop
 returns-2 c = tt
 
-pub put-ints-spec : {M : Type 1} → statement M
-put-ints-spec =
+pub put-bytes-spec : {M : Type 1} → statement M
+put-bytes-spec =
     tie.close
     (tie.spec
     Inv-loop
     μ-loop
     loop-holds
-    mul-bits-of
-    shared-slice-copy-out-bits-of
-    bits-of-requires
-    put-word-requires
+    shared-slice-read-put-byte
+    put-byte-requires
     ahead-requires
     add-i
     loop-less

@@ -3,7 +3,7 @@ ghost use Prim.Native.Nat.{_<_};
 ghost use mathlib.Core.Path.{_≡_};
 ghost use mir.Syntax.{w32};
 ghost use mir.Val.{ofZ};
-ghost use Rattle.files.specs.Signed.{flipped};
+ghost use Rattle.octets.specs.Signed.{flipped};
 use crate::places::ahead;
 
 pub fn wide(b: u8) -> usize

@@ -1,10 +1,10 @@
--- `files::names::is_same` is safe and ends. Nothing has to hold from turn to turn. Assumes nothing.
+-- `octets::names::is_same` is safe and ends. Nothing has to hold from turn to turn. Assumes nothing.
 use lib.ListN.{length}
 use native.Mathlib.Omega.{arith}
 use Prim.Native.Nat.{_-_}
 use borrow.Author.Needs.{needs}
-use Rattle.files.proofs.names.is_same.Statement.{statement}
-use Rattle.files.proofs.names.is_same.Tie as tie
+use Rattle.octets.proofs.names.is_same.Statement.{statement}
+use Rattle.octets.proofs.names.is_same.Tie as tie
 
 abbrev Inv-loop : tie.InvT-loop
 Inv-loop a b i₀ i = Unit {0}

@@ -1,4 +1,4 @@
--- What the contract of `files::words::flip` cites.
+-- What the contract of `octets::words::flip` cites.
 use lib.IntN.{ℤ, pos, negsuc}
 
 -- the number whose bits are those of z, each turned over

@@ -1,9 +1,9 @@
--- `files::numbers::float_of` is safe: the two tests are those of a NaN's bits. Assumes nothing.
+-- `octets::numbers::float_of` is safe: the two tests are those of a NaN's bits. Assumes nothing.
 use lib.Ieee.{nanBits}
 use borrow.Author.Tests.{eq-eqb, ne-eqb}
 use borrow.Author.Needs.{needs}
-use Rattle.files.proofs.numbers.float_of.Statement.{statement}
-use Rattle.files.proofs.numbers.float_of.Tie as tie
+use Rattle.octets.proofs.numbers.float_of.Statement.{statement}
+use Rattle.octets.proofs.numbers.float_of.Tie as tie
 
 float-from-bits-result : tie.Need-float-from-bits-result
 unfolding nanBits

@@ -1,11 +1,11 @@
--- `files::words::up` is safe: a number that is not below 0 has a magnitude of 31 bits. Assumes nothing.
+-- `octets::words::up` is safe: a number that is not below 0 has a magnitude of 31 bits. Assumes nothing.
 use mir.Syntax.{w32, w64}
 use mir.Val.{toZ, ofZ}
 use mir.Facts.{fits-natAbs, sfits-toZ, fits-ofZ}
 use borrow.Author.Needs.{needs}
-use Rattle.files.proofs.Above.{above}
-use Rattle.files.proofs.words.up.Statement.{statement}
-use Rattle.files.proofs.words.up.Tie as tie
+use Rattle.octets.proofs.Above.{above}
+use Rattle.octets.proofs.words.up.Statement.{statement}
+use Rattle.octets.proofs.words.up.Tie as tie
 
 returns : tie.Need-returns
 returns c = search needs

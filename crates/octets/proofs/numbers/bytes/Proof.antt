@@ -1,26 +1,29 @@
--- `files::numbers::put_bytes` is safe and ends. The buffer keeps its length. Assumes nothing.
+-- `octets::numbers::bytes` is safe and ends. The buffer keeps its length. Assumes nothing.
 use lib.ListN.{length}
 use mathlib.Core.Path.{_≡_, refl}
 use native.Mathlib.Omega.{arith}
 use Prim.Native.Nat.{_-_}
 use borrow.Author.Needs.{needs}
-use Rattle.files.proofs.numbers.put_bytes.Statement.{statement}
-use Rattle.files.proofs.numbers.put_bytes.Tie as tie
+use Rattle.octets.proofs.numbers.bytes.Statement.{statement}
+use Rattle.octets.proofs.numbers.bytes.Tie as tie
 
 abbrev Inv-loop : tie.InvT-loop
-Inv-loop out₀ place «data» n at₀ i₀ out at i = length out ≡ length out₀
+Inv-loop «data» place n out₀ at₀ i₀ out at i = length out ≡ length out₀
 
 abbrev μ-loop : tie.MeasureT-loop
-μ-loop out₀ place «data» n at₀ i₀ out at i = n - i
+μ-loop «data» place n out₀ at₀ i₀ out at i = n - i
 
 loop-holds : tie.Need-loop-holds Inv-loop μ-loop
 loop-holds c = refl
 
-shared-slice-read-put-byte : tie.Need-shared-slice-read-put-byte Inv-loop μ-loop
-shared-slice-read-put-byte c = search needs
+byte-requires : tie.Need-byte-requires Inv-loop μ-loop
+byte-requires c κs = tt
 
-put-byte-requires : tie.Need-put-byte-requires Inv-loop μ-loop
-put-byte-requires c κs = tt
+low-requires : tie.Need-low-requires Inv-loop μ-loop
+low-requires c κs = tt
+
+slice-write-out : tie.Need-slice-write-out Inv-loop μ-loop
+slice-write-out c = search needs
 
 ahead-requires : tie.Need-ahead-requires Inv-loop μ-loop
 ahead-requires c κs = tt
@@ -46,15 +49,16 @@ same-length-2 c = search needs
 returns-2 : tie.Need-returns-2 Inv-loop μ-loop
 returns-2 c = tt
 
-pub put-bytes-spec : {M : Type 1} → statement M
-put-bytes-spec =
+pub bytes-spec : {M : Type 1} → statement M
+bytes-spec =
     tie.close
     (tie.spec
     Inv-loop
     μ-loop
     loop-holds
-    shared-slice-read-put-byte
-    put-byte-requires
+    byte-requires
+    low-requires
+    slice-write-out
     ahead-requires
     add-i
     loop-less

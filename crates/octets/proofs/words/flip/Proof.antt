@@ -1,4 +1,4 @@
--- `files::words::flip` meets its contract. Assumes nothing.
+-- `octets::words::flip` meets its contract. Assumes nothing.
 use mathlib.Core.Path.{_≡_, refl, sym, ap, _∙_, subst}
 use Prim.Native.Nat.{zero, suc}
 use native.Mathlib.Omega.{arith}
@@ -7,9 +7,9 @@ use lib.IntN.{ℤ, pos, negsuc, _-ℤ_}
 use mir.Syntax.{w32}
 use mir.Val.{SFits}
 use mir.ValLaws.{toZ-ofZ}
-use Rattle.files.specs.Signed.{flipped}
-use Rattle.files.proofs.words.flip.Statement.{statement}
-use Rattle.files.proofs.words.flip.Tie as tie
+use Rattle.octets.specs.Signed.{flipped}
+use Rattle.octets.proofs.words.flip.Statement.{statement}
+use Rattle.octets.proofs.words.flip.Tie as tie
 
 less : (z : ℤ) → negsuc 0 -ℤ z ≡ flipped z
 less (pos zero) = refl

@@ -1,4 +1,4 @@
--- `files::words::int_of` gives the number that has the bits. Assumes nothing.
+-- `octets::words::int_of` gives the number that has the bits. Assumes nothing.
 use mathlib.Core.Path.{_≡_, sym, ap, _∙_, subst}
 use Prim.Native.Nat.{ℕ, suc, _-_, _<_}
 use native.Mathlib.Omega.{arith}
@@ -9,8 +9,8 @@ use mir.Syntax.{w32, w64}
 use mir.Val.{SFits, toZ, ofZ}
 use mir.ValLaws.{toZ-ofZ}
 use mir.Facts.{toZ-pos}
-use Rattle.files.proofs.words.int_of.Statement.{statement}
-use Rattle.files.proofs.words.int_of.Tie as tie
+use Rattle.octets.proofs.words.int_of.Statement.{statement}
+use Rattle.octets.proofs.words.int_of.Tie as tie
 
 -- 2^32 less
 less : (n : ℕ) → n < 4294967296 → pos n -ℤ pos 4294967296 ≡ negsuc (4294967295 - n)

@@ -1,10 +1,10 @@
--- `files::names::number_of` is safe and ends. Nothing has to hold from turn to turn. Assumes nothing.
+-- `octets::names::number_of` is safe and ends. Nothing has to hold from turn to turn. Assumes nothing.
 use lib.ListN.{length}
 use native.Mathlib.Omega.{arith}
 use Prim.Native.Nat.{_-_}
 use borrow.Author.Needs.{needs}
-use Rattle.files.proofs.names.number_of.Statement.{statement}
-use Rattle.files.proofs.names.number_of.Tie as tie
+use Rattle.octets.proofs.names.number_of.Statement.{statement}
+use Rattle.octets.proofs.names.number_of.Tie as tie
 
 abbrev Inv-loop : tie.InvT-loop
 Inv-loop word n₀ i₀ n i = Unit {0}
