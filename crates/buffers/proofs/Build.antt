@@ -3,11 +3,11 @@ use mathlib.Core.Path.{_≡_, refl, ap, sym, _∙_}
 use mathlib.Core.List.{List, [], _∷_, _++_, map, append-assoc, append-nil, map-append}
 use Prim.Native.Nat.{ℕ, zero, suc, _+_, _-_, _≤_, _<_}
 use mathlib.Core.Logic.{⊎-elim}
-use native.Mathlib.Nat.{zero-add, suc-add, not-suc-le-zero, le-of-suc-le-suc, eq-or-lt-of-le}
+use native.Mathlib.Nat.{not-suc-le-zero, le-of-suc-le-suc, eq-or-lt-of-le}
 use native.Mathlib.Numerals.{add-one}
 use native.Mathlib.Omega.{arith}
-use lib.ListN.{length, take, drop, set, getD, replicate, length-append, length-drop, length-set, drop-of-length-le, take-append-drop, replicate-append-replicate, List·getD-append}
-use lib.Seq.{set-at, drop-cons, length-take-le, getD-at, ext-getD}
+use lib.ListN.{length, drop, set, getD, replicate, length-append, length-set, drop-of-length-le, replicate-append-replicate, List·getD-append}
+use lib.Seq.{set-at, drop-cons, getD-at, ext-getD}
 use Rattle.buffers.specs.Walk.{build}
 
 module _ {A : Type 0} (f : ℕ → A) where
@@ -90,29 +90,6 @@ filled-all f d n m xs e h h′ w =
 pub filled-same : {A : Type 0} (x : A) (d : List A) (n : ℕ) (xs : List A) → length d ≤ n → n ≤ length d → Filled (λ (i : ℕ). x) d n xs → xs ≡ replicate (length d) x
 filled-same x d n xs h h′ w = filled-all (λ (i : ℕ). x) d n (length d) xs refl h h′ w ∙ build-const x (length d)
 
--- the same from a place on, for a loop inside a loop
-abbrev pub FilledAt : {A : Type 0} → (ℕ → A) → ℕ → List A → ℕ → List A → Type 0
-FilledAt f a d n xs = (length xs ≡ length d) × (xs ≡ take a d ++ (build f n ++ drop n (drop a d)))
-
-set-append-add : {A : Type 0} (xs ys : List A) (n : ℕ) (v : A) → set (xs ++ ys) (length xs + n) v ≡ xs ++ set ys n v
-set-append-add [] ys n v = rw zero-add
-set-append-add (x ∷ xs) ys n v = rw suc-add (ap (λ (l : List _). x ∷ l) (set-append-add xs ys n v))
-
 -- the width of a part that starts at n
 pub back-width : (n k : ℕ) → n + k - n ≡ k
 back-width n k = omega arith
-
-pub filledat-none : {A : Type 0} (f : ℕ → A) (a : ℕ) (d : List A) → FilledAt f a d 0 d
-filledat-none f a d = (refl, rw (← build-start f (drop a d)) (sym (take-append-drop a d)))
-
-pub filledat-more : {A : Type 0} (f : ℕ → A) (a : ℕ) (d : List A) (n : ℕ) (xs : List A) (v : A) → a + n < length d → FilledAt f a d n xs → v ≡ f n → FilledAt f a d (n + 1) (set xs (a + n) v)
-filledat-more f a d n xs v h w e =
-    let l : length (take a d) ≡ a = length-take-le a d (omega arith) in
-    let m : n < length (drop a d) = rw length-drop (omega arith) in
-    let q : set (take a d ++ (build f n ++ drop n (drop a d))) (length (take a d) + n) (f n) ≡ take a d ++ (build f (n + 1) ++ drop (n + 1) (drop a d)) =
-    rw (set-append-add (take a d) (build f n ++ drop n (drop a d)) n (f n), build-store f n (drop a d) m) in
-    (length-set xs (a + n) v ∙ w .0, rw (w .1, e) (rw l at q))
-
-pub filledat-all : {A : Type 0} (f : ℕ → A) (a : ℕ) (d : List A) (n k : ℕ) (xs : List A) → n ≡ k → FilledAt f a d n xs →
-    xs ≡ take a d ++ (build f k ++ drop (a + k - a) (drop a d))
-filledat-all f a d n k xs e w = w .1 ∙ rw (e, back-width a k)

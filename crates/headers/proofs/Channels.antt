@@ -15,7 +15,6 @@ use Rattle.buffers.specs.Walk.{build}
 use Rattle.buffers.proofs.Build.{build-none, build-more, length-build, build-at}
 use Rattle.rules.specs.Format.{Read, ok, stay, each, times, number}
 use Rattle.rules.specs.Layout.{kindAt, kindsOf, codedAt, sidesAt, sideWidth, factorLength, sideLength, part}
-use Rattle.rules.specs.Width.{width}
 use Rattle.rules.specs.Record.{Chan, Rec, chanIn, chanOf, pad, noChan, storeFactors, storeSide}
 use Rattle.rules.specs.Reading.{readWidth, readChannel}
 use Rattle.rules.specs.declared.Layout.{Layout}

@@ -6,7 +6,7 @@ use lib.Dec.{ltb}
 use lib.IntN.{ℤ}
 use lib.ListN.{length}
 use Rattle.rules.specs.Refusals.{refused}
-use Rattle.rules.specs.Stage.{kept, FrameLent, RecordLeft, untouched, read}
+use Rattle.rules.specs.Stage.{FrameLent, RecordLeft, untouched, read}
 use Rattle.naming.specs.Layouts.{layoutOf, named}
 use Rattle.telling.specs.Outcomes.{resultOf, toldIn}
 

@@ -1,19 +1,16 @@
--- A delta's tests and its symbol in plain numbers; and `readDelta`, one way through it after the other. Assumes nothing.
+-- A delta's tests and its symbol in plain numbers. Assumes nothing.
 use mathlib.Core.Path.{_≡_, refl, _∙_, ap}
 use mathlib.Core.List.{List}
-use mathlib.Core.Bool.{Bool, true, false, _&&_}
-use mathlib.Core.Logic.{_≢_}
+use mathlib.Core.Bool.{Bool, true, _&&_}
 use Prim.Native.Nat.{ℕ, zero, suc, _+_, _-_, _^_, _≤_, _<_}
 use native.Mathlib.Nat.{pow-suc}
 use native.Mathlib.Omega.{arith}
-use borrow.Author.Tests.{lt-ltb, le-ltb, le-leb, lt-leb, eq-eqb, ne-eqb, leb-true}
+use borrow.Author.Tests.{lt-ltb, le-ltb, le-leb, leb-true}
 use lib.IntN.{ℤ, pos, negsuc, subℕ, _+ℤ_, _-ℤ_, natAbs}
 use lib.Signed.{leZ}
-use lib.ListN.{length}
 use lib.Pow.{pow-pos}
 use lib.Dec.{T, leb, leb→le, leb·zero}
-use Rattle.buffers.proofs.Tests.{not-true-false}
-use Rattle.rules.specs.Format.{ok, bad, number}
+use Rattle.rules.specs.Format.{bad, number}
 use Rattle.rules.specs.Width.{reachOf, deltaOf, near}
 use Rattle.rules.specs.Reading.{deltaFactor, readDelta}
 use Rattle.rules.proofs.Numbers.{leb-case}
@@ -71,14 +68,6 @@ pub near-yes : (d p f : ℕ) → f ≤ p + reachOf d → p ≤ f + reachOf d →
 unfolding near
 near-yes d p f h g = le-leb _ _ (is-abs f p (reachOf d) h g)
 
-pub near-plain : (d p f : ℕ) → near d p f ≡ (leb f (p + reachOf d) && leb p (f + reachOf d))
-near-plain d p f =
-    leb-case (λ b. near d p f ≡ (b && leb p (f + reachOf d))) f (p + reachOf d)
-    (λ h. leb-case (λ b. near d p f ≡ b) p (f + reachOf d)
-    (λ g. near-yes d p f h g)
-    (λ g. not-true-false (near d p f) (λ e. omega (arith, near-is d p f e))))
-    (λ h. not-true-false (near d p f) (λ e. omega (arith, near-is d p f e)))
-
 -- the symbol of a near factor, and the factor that a symbol names
 pub symbol-is : (d p f : ℕ) → p ≤ f + reachOf d → natAbs (pos (reachOf d) +ℤ deltaOf p f) ≡ reachOf d + f - p
 symbol-is d p f h = ap natAbs (shift-up (reachOf d) f p (omega arith))
@@ -98,26 +87,6 @@ within-is d p v =
 pub within-yes : (d p v : ℕ) → reachOf d ≤ p + v → p + v - reachOf d ≤ 63 → T (within (deltaFactor d p v))
 within-yes d p v h g = rw (factor-is d p v h, leb·zero, le-leb _ _ g) tt
 
--- WAYS THROUGH `readDelta`
-module _ (d p : ℕ) (s : List Bool) where
-  pub delta-cut : (n l : ℕ) → number d s ≡ bad n l → readDelta d p s ≡ bad n l
-  delta-cut n l e = rw e refl
-
-module _ (d p : ℕ) (s t : List Bool) (v : ℕ) (e : number d s ≡ ok v t) where
-  pub delta-direct : v ≢ 2 ^ d - 1 → reachOf d ≤ p + v → p + v - reachOf d ≤ 63 → readDelta d p s ≡ ok (p + v - reachOf d) t
-  delta-direct z h g = rw (e, ne-eqb v (2 ^ d - 1) z, factor-is d p v h, leb·zero, le-leb (p + v - reachOf d) 63 g) refl
-
-  pub delta-low : v ≢ 2 ^ d - 1 → p + v < reachOf d → readDelta d p s ≡ bad 12 (length s)
-  delta-low z h = rw (e, ne-eqb v (2 ^ d - 1) z, shift-down p v (reachOf d) h) refl
-
-  pub delta-high : v ≢ 2 ^ d - 1 → reachOf d ≤ p + v → 63 < p + v - reachOf d → readDelta d p s ≡ bad 12 (length s)
-  delta-high z h g = rw (e, ne-eqb v (2 ^ d - 1) z, factor-is d p v h, leb·zero, lt-leb (p + v - reachOf d) 63 g) refl
-
-  pub escape-cut : v ≡ 2 ^ d - 1 → (n l : ℕ) → number 6 t ≡ bad n l → readDelta d p s ≡ bad n l
-  escape-cut z n l q = rw (e, eq-eqb v (2 ^ d - 1) z, q) refl
-
-  pub escape-needless : v ≡ 2 ^ d - 1 → (f : ℕ) (u : List Bool) → number 6 t ≡ ok f u → near d p f ≡ true → readDelta d p s ≡ bad 12 (length s)
-  escape-needless z f u q b = rw (e, eq-eqb v (2 ^ d - 1) z, q, b) refl
-
-  pub escape-right : v ≡ 2 ^ d - 1 → (f : ℕ) (u : List Bool) → number 6 t ≡ ok f u → near d p f ≡ false → readDelta d p s ≡ ok f u
-  escape-right z f u q b = rw (e, eq-eqb v (2 ^ d - 1) z, q, b) refl
+-- a delta that is cut
+pub delta-cut : (d p : ℕ) (s : List Bool) (n l : ℕ) → number d s ≡ bad n l → readDelta d p s ≡ bad n l
+delta-cut d p s n l e = rw e refl

@@ -4,7 +4,7 @@ use mathlib.Core.List.{List, [], _∷_}
 use mathlib.Core.Bool.{Bool, true, false, cond, _&&_}
 use Prim.Native.Nat.{ℕ, zero, suc, _+_, _-_, _*_, _/_, _^_, _≤_, _<_}
 use native.Mathlib.Omega.{arith}
-use borrow.Author.Tests.{eq-eqb, le-ltb, ltb-false}
+use borrow.Author.Tests.{le-ltb, ltb-false}
 use lib.Dec.{ltb}
 use lib.IntN.{ℤ, pos}
 use lib.Ieee.{Float, le}
@@ -20,7 +20,6 @@ use Rattle.rules.specs.Factor.{countLe, factorOf, peakOf, bandFactor, ch
 use Rattle.rules.specs.Scaling.{scaledBand, channelScaled, allScaled}
 use Rattle.rules.specs.Hfr.{hfrScale, channelSide, allSide}
 use Rattle.rules.specs.Level.{clearTwo, clearPair}
-use Rattle.rules.specs.Resolution.{resolutionAt}
 use Rattle.rules.specs.Code.{codeAt, channelCodes, allCodes}
 use Rattle.rules.specs.Record.{legalRecord, CodesInRange}
 use Rattle.rules.specs.Fields.{fields}
@@ -207,11 +206,7 @@ module _ (l : Layout) (level boundary : ℕ) (scaled : List Float) (F : List ℕ
       (sym (row-code (codesOf c) s b k)
       ∙ rw (block-part (λ j. build (codeIn c j) 128) 128 8 s (λ j _. length-build (codeIn c j) 128) g) (build-at (codeIn c s) 128 b (pos 0) k))
 
-  -- at resolution 0 there is none
-  pub code-silent : (c s b : ℕ) → resolutionAt level boundary (part 128 F c) b ≡ 0 → codeIn c s b ≡ pos 0
-  unfolding codeAt
-  code-silent c s b e = rw (eq-eqb _ 0 e) (cond-both (λ v. v ≡ pos 0) (ltb b (codedAt l c)) (λ _. refl) (λ _. refl))
-
+  -- past the coded count there is none
   codes-zero : (c s b : ℕ) → c < l .channels → s < 8 → codedAt l c ≤ b → b < 128 → getD (part 1024 (allCodes l level boundary scaled F) c) (s * 128 + b) (pos 0) ≡ pos 0
   unfolding codeAt
   codes-zero c s b h g q k = code-at c s b h g k ∙ rw (le-ltb b (codedAt l c) q)
@@ -220,19 +215,9 @@ pub scaled-size : (xs : List Float) (fs : List ℕ) (coded : ℕ) → length (ch
 unfolding channelScaled scaledBand
 scaled-size xs fs coded = length-blocks (scaledBand xs fs coded) 8 128 (λ b _. length-build _ 8) 128 (omega arith)
 
-pub scaled-long : (l : Layout) (spectra : List Float) (F : List ℕ) → length (allScaled l spectra F) ≡ spectrumLength l
-unfolding allScaled
-scaled-long l spectra F =
-    length-blocks (λ c. channelScaled (part 1024 spectra c) (part 128 F c) (codedAt l c)) 1024 (l .channels)
-    (λ c _. scaled-size (part 1024 spectra c) (part 128 F c) (codedAt l c)) (l .channels) (omega arith)
-
 -- ---- what is made
 
 module _ (l : Layout) (spectra : List Float) (is : List ℕ) where
-  pub made-scaled : length (made l spectra is .scaled) ≡ spectrumLength l
-  unfolding made
-  made-scaled = scaled-long l spectra (allFactors l spectra)
-
   made-fine : Factors l (made l spectra is .found .factors)
   unfolding made
   made-fine = found-keeps l _ (Factors l) (clear-factors l) (allFactors l spectra) (all-factors l spectra)

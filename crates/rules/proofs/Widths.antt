@@ -1,18 +1,15 @@
 -- Document 01, **Width**: the fold of specs/Width.antt takes what the rule says, and the rule allows one width only. Assumes nothing.
 use mathlib.Core.Path.{_≡_, refl, sym, ap, _∙_}
-use mathlib.Core.List.{List, [], _∷_}
-use mathlib.Core.Bool.{Bool, true, false, cond, _&&_}
+use mathlib.Core.List.{List}
+use mathlib.Core.Bool.{Bool, true, false, cond}
 use mathlib.Core.Logic.{⊎-elim, _⊎_, inl, inr}
-use Prim.Native.Nat.{ℕ, zero, suc, _+_, _*_, _≤_, _<_, zero-le}
-use native.Mathlib.Nat.{eq-or-lt-of-le, suc-mul, add-comm, add-le-add}
-use native.Mathlib.Numerals.{add-one}
+use Prim.Native.Nat.{ℕ, zero, suc, _+_, _*_, _≤_, _<_}
+use native.Mathlib.Nat.{eq-or-lt-of-le}
 use native.Mathlib.Omega.{arith}
 use borrow.Author.Tests.{ltb-true, ltb-false, ne-eqb}
-use lib.Dec.{ltb, eqb}
-use lib.ListN.{length, getD, drop, drop-of-length-le}
-use lib.Seq.{drop-cons}
-use Rattle.buffers.proofs.Tests.{cond-bound}
-use Rattle.rules.specs.Width.{near, laterCost, deltaCost, cost, allZero, cheaper, width, widthCost}
+use lib.Dec.{ltb}
+use lib.ListN.{length}
+use Rattle.rules.specs.Width.{deltaCost, cost, allZero, cheaper, width, widthCost}
 
 -- The rule, of a width w with its cost c, where d in 1..k costs `costs d` and 6 costs `six`: w is 6, or a d that costs strictly less; no d
 -- costs less; and d is the smallest of least cost.
@@ -85,14 +82,6 @@ bestTo fs zero = 6
 bestTo fs (suc k) = cheaper fs (bestTo fs k) (suc k)
 
 module _ (fs : List ℕ) where
-  pub best-none : bestTo fs 0 ≡ 6
-  unfolding bestTo
-  best-none = refl
-
-  pub best-more : (k : ℕ) → bestTo fs (k + 1) ≡ cheaper fs (bestTo fs k) (k + 1)
-  unfolding bestTo
-  best-more k = rw add-one
-
   pub width-best : allZero fs ≡ false → width fs ≡ bestTo fs 5
   unfolding width bestTo
   width-best e = rw e
@@ -136,31 +125,3 @@ module _ (fs : List ℕ) where
   -- width 0 exactly where all factors are zero (the other way is width-silent)
   pub width-zero : width fs ≡ 0 → allZero fs ≡ true
   width-zero z = by-silence (λ e. e) (λ e. absurd (omega (arith, in-range (omega arith) (width-chosen e) .1)))
-
-  pub width-cost-le : widthCost fs ≤ 3 + 6 * length fs
-  width-cost-le = by-silence (λ e. omega (arith, width-silent e .1)) (λ e. at-most (width-chosen e))
-
--- the walks over the factors, as loops take them: a turn, the end, a bound
-module _ (d previous : ℕ) (fs : List ℕ) (i : ℕ) where
-  pub later-turn : i < length fs → laterCost d previous (drop i fs) ≡ cond (near d previous (getD fs i 0)) d (d + 6) + laterCost d (getD fs i 0) (drop (i + 1) fs)
-  unfolding laterCost
-  later-turn h = rw (add-one, drop-cons fs i 0 h)
-
-  pub later-end : length fs ≤ i → laterCost d previous (drop i fs) ≡ 0
-  unfolding laterCost
-  later-end h = rw (drop-of-length-le fs h)
-
-pub later-le : (d previous : ℕ) (fs : List ℕ) → laterCost d previous fs ≤ length fs * (d + 6)
-unfolding laterCost
-later-le d previous [] = zero-le
-later-le d previous (f ∷ fs) =
-    rw (suc-mul (length fs) (d + 6), add-comm (length fs * (d + 6)) (d + 6))
-    (add-le-add (cond-bound (near d previous f) (λ _. omega arith) (λ _. omega arith)) (later-le d f fs))
-
-pub zero-turn : (fs : List ℕ) (i : ℕ) → i < length fs → allZero (drop i fs) ≡ (eqb (getD fs i 0) 0 && allZero (drop (i + 1) fs))
-unfolding allZero
-zero-turn fs i h = rw (add-one, drop-cons fs i 0 h)
-
-pub zero-end : (fs : List ℕ) (i : ℕ) → length fs ≤ i → allZero (drop i fs) ≡ true
-unfolding allZero
-zero-end fs i h = rw (drop-of-length-le fs h)

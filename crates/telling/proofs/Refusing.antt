@@ -5,7 +5,7 @@ use Prim.Native.Nat.{ℕ, _≤_, _<_}
 use native.Mathlib.Omega.{arith}
 use types.Run.{OneOf, miss}
 use denote.Enum.Declared.{tagOf}
-use Rattle.rules.specs.Refusals.{Outcome, delivered, refused, stageNumber, writeNumber, readNumber}
+use Rattle.rules.specs.Refusals.{Outcome, refused, stageNumber, writeNumber, readNumber}
 use Rattle.rules.specs.declared.StageAnswer.{StageAnswer}
 use Rattle.rules.specs.declared.StageAnswer.the-variants as stage
 use Rattle.rules.specs.declared.WriteAnswer.{WriteAnswer}

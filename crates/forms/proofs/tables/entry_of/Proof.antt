@@ -1,7 +1,6 @@
 -- `forms::tables::entry_of` is safe and ends. Nothing has to hold from turn to turn. Assumes nothing.
 use native.Mathlib.Omega.{arith}
 use Prim.Native.Nat.{_-_}
-use borrow.Author.Needs.{needs}
 use Rattle.forms.proofs.tables.entry_of.Statement.{statement}
 use Rattle.forms.proofs.tables.entry_of.Tie as tie
 
