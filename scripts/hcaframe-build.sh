@@ -5,8 +5,8 @@ set -eu
 cd "$(dirname "$0")/.."
 log=$(mktemp)
 trap 'rm -rf "$log" "$log.c"' EXIT
-rt staticlib commands >"$log" 2>&1 || { cat "$log"; exit 1; }
+rt staticlib cli >"$log" 2>&1 || { cat "$log"; exit 1; }
 beside=$(sed -n 's/.*; link \(.*\) beside it.*/\1/p' "$log")
 printf 'int hcaframe_run(void);\nint main(void) { return hcaframe_run(); }\n' >"$log.c"
-cc -O2 -o target/hcaframe "$log.c" target/staticlib/libcommands.a $beside
+cc -O2 -o target/hcaframe "$log.c" target/staticlib/libcli.a $beside
 echo "target/hcaframe"

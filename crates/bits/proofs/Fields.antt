@@ -11,14 +11,12 @@ use lib.ListN.{length, take, drop, length-append, length-drop, length-replicate,
 use lib.Seq.{take-append-le, take-at, take-take, drop-drop, length-take-le}
 use lib.Pow.{shr-lt}
 use borrow.Author.Tests.{le-leb, lt-leb, leb-true, leb-false}
-use Rattle.bits.specs.Bits.{bits, bitsOf, value, zeros, over}
+use Rattle.bits.specs.Bits.{bits, bitsOf, value, zeros, overwrite}
 use Rattle.bits.specs.Place.{leftAt, fieldAt, lookAt}
 use Rattle.bits.specs.declared.Place.{Place}
-use Rattle.bits.specs.declared.Field.{Field}
 use Rattle.bits.specs.declared.Field.the-variants.{Of, Past}
 use Rattle.bits.proofs.Numbers.{length-bits, bits-value, bits-add, value-lt, value-back, length-bits-of}
-use Rattle.bits.proofs.Parts.{bits-drop}
-use Rattle.bits.proofs.Over.{over-read, over-before, over-after}
+use Rattle.bits.proofs.Overwrite.{overwrite-read, overwrite-before, overwrite-after}
 
 pub length-left : (s : List ℕ) (p : ℕ) → length (leftAt s p) ≡ 8 * length s - p
 length-left s p = length-drop p (bitsOf s) ∙ ap (λ n. n - p) (length-bits-of s)
@@ -31,21 +29,14 @@ module _ (s : List ℕ) (p n : ℕ) where
   pub field-past : 8 * length s < p + n → fieldAt s p n ≡ Past p
   field-past h = rw (lt-leb _ _ h)
 
-  -- bits that stand at a place are read there
-  pub field-read : (v : ℕ) (rest : List Bool) → v < 2 ^ n → p ≤ 8 * length s → drop p (bitsOf s) ≡ bits n v ++ rest → fieldAt s p n ≡ Of v (record { at = p + n })
-  field-read v rest hv hp e =
-      let l : 8 * length s - p ≡ n + length rest = sym (rw length-bits-of at (length-drop p (bitsOf s))) ∙ ap length e ∙ rw (length-append, length-bits) in
-      let x : value (take n (drop p (bitsOf s))) ≡ v = rw (e, take-at (bits n v) rest n (length-bits n v)) (value-back n v hv) in
-      field-in (omega arith) ∙ rw x
-
 -- ---- after a write
 
-module _ (s s′ : List ℕ) (p n v : ℕ) (same : length s′ ≡ length s) (h : p + n ≤ 8 * length s) (laid : bitsOf s′ ≡ over (bitsOf s) p (bits n v)) where
+module _ (s s′ : List ℕ) (p n v : ℕ) (same : length s′ ≡ length s) (h : p + n ≤ 8 * length s) (laid : bitsOf s′ ≡ overwrite (bitsOf s) p (bits n v)) where
   -- the field that was laid is read
   pub field-laid : v < 2 ^ n → fieldAt s′ p n ≡ Of v (record { at = p + n })
   field-laid hv =
       let hp : p ≤ length (bitsOf s) = rw length-bits-of (omega arith) in
-      let x : take n (drop p (bitsOf s′)) ≡ bits n v = rw laid (rw (length-bits n v) at (over-read (bitsOf s) (bits n v) p hp)) in
+      let x : take n (drop p (bitsOf s′)) ≡ bits n v = rw laid (rw (length-bits n v) at (overwrite-read (bitsOf s) (bits n v) p hp)) in
       field-in s′ p n (rw same h) ∙ rw (x, value-back n v hv)
 
   -- a field elsewhere is untouched
@@ -55,11 +46,11 @@ module _ (s s′ : List ℕ) (p n v : ℕ) (same : length s′ ≡ length s) (h 
       part : (q + m ≤ p) ⊎ (p + n ≤ q) → take m (drop q (bitsOf s′)) ≡ take m (drop q (bitsOf s))
       part (inl b) =
           let hp : p ≤ length (bitsOf s) = rw length-bits-of (omega arith) in
-          rw laid (over-before (bitsOf s) (bits n v) p hp q m b)
+          rw laid (overwrite-before (bitsOf s) (bits n v) p hp q m b)
       part (inr b) =
           let hp : p ≤ length (bitsOf s) = rw length-bits-of (omega arith) in
           let k : p + length (bits n v) ≤ q = rw length-bits b in
-          rw (laid, over-after (bitsOf s) (bits n v) p hp q k)
+          rw (laid, overwrite-after (bitsOf s) (bits n v) p hp q k)
 
 -- ---- what an answer says
 
@@ -126,26 +117,3 @@ module _ (s : List ℕ) (p n : ℕ) where
     look-field =
         let e : m + (n - m) ≡ n = omega arith in
         field-in s p m h ∙ rw (look-first, value-back m (lookAt s p n / 2 ^ (n - m)) (shr-lt m (n - m) (rw e look-lt)))
-
--- ---- parts
-
--- an answer with its bits counted from k bits further on
-abbrev pub sooner : ℕ → Field → Field
-sooner k (Of v q) = Of v (record { at = q .at - k })
-sooner k (Past b) = Past (b - k)
-
--- a field of a part from byte k on is the field of the whole at k bytes more
-pub part-field : (k : ℕ) (s : List ℕ) (p n : ℕ) → k ≤ length s → fieldAt (drop k s) p n ≡ sooner (8 * k) (fieldAt s (8 * k + p) n)
-part-field k s p n h = go (leb (8 * k + p + n) (8 * length s)) refl
-  where
-    go : (b : Bool) → leb (8 * k + p + n) (8 * length s) ≡ b → fieldAt (drop k s) p n ≡ sooner (8 * k) (fieldAt s (8 * k + p) n)
-    go true t =
-        let x : 8 * k + p + n ≤ 8 * length s = leb-true _ _ t in
-        let y : p + n ≤ 8 * length (drop k s) = rw length-drop (omega arith) in
-        let z : 8 * k + p + n - 8 * k ≡ p + n = omega arith in
-        rw (t, le-leb _ _ y, z, bits-drop k s, drop-drop p (8 * k) (bitsOf s))
-    go false t =
-        let x : 8 * length s < 8 * k + p + n = leb-false _ _ t in
-        let y : 8 * length (drop k s) < p + n = rw length-drop (omega arith) in
-        let z : 8 * k + p - 8 * k ≡ p = omega arith in
-        rw (t, lt-leb _ _ y, z)

@@ -1,6 +1,6 @@
 pub mod Numbers
 pub mod Parts
-pub mod Over
+pub mod Overwrite
 pub mod Runs
 pub mod Fields
 mod Words

@@ -1,9 +1,9 @@
 // High-bit-first bit fields in a lent frame.
 ghost use mathlib.Core.Path.{_≡_};
 ghost use Prim.Native.Nat.{_+_, _-_, _/_, _%_, _^_, _<_, _≤_};
-ghost use lib.ListN.{getD, set};
-ghost use Rattle.bits.specs.Bits.{bits, wordAt, setWord, laidOver};
-ghost use Rattle.bits.specs.Place.{Put, Added, Writes, fieldAt, lookAt};
+ghost use lib.ListN.{getD};
+ghost use Rattle.bits.specs.Bits.{bits, wordAt};
+ghost use Rattle.bits.specs.Place.{Added, Writes, fieldAt, lookAt};
 
 // A bit place, counted from the first bit of the frame or part that it is used with.
 pub struct Place {
@@ -39,28 +39,10 @@ fn bits_before(at: usize) -> u32
     (at & 7) as u32
 }
 
-// Of a number below 2^24: `bits` bits, `below` from its low end, replaced by the low bits of `value`.
-fn laid(old: u32, value: u32, bits: u32, below: u32) -> u32
-    requires { ⌜ (bits + below ≤ 24) × (old < 2 ^ 24) ⌝ }
-    ensures { λ r. ⌜ (r ≡ laidOver old value bits below) × (r < 2 ^ 24) ⌝ }
-{
-    let mask = ones(bits) << below;
-    (old & !mask) | (low_bits(value, bits) << below)
-}
-
 fn byte_or_zero(s: &[u8], i: usize) -> u32
     ensures { λ r. ⌜ (r ≡ getD (now (s .entry)) i 0) × (r < 256) ⌝ }
 {
     if i < s.len() { s[i] as u32 } else { 0 }
-}
-
-fn store(s: &mut [u8], i: usize, b: u32)
-    requires { ⌜ b < 256 ⌝ }
-    ensures { λ _. ⌜ now (s .exit) ≡ set (now (s .entry)) i b ⌝ }
-{
-    if i < s.len() {
-        s[i] = b as u8;
-    }
 }
 
 // Three bytes as one number, the first byte highest; a byte past the end is 0.
@@ -69,16 +51,6 @@ fn window(s: &[u8], i: usize) -> u32
     ensures { λ r. ⌜ (r ≡ wordAt (now (s .entry)) i) × (r < 2 ^ 24) ⌝ }
 {
     (byte_or_zero(s, i) << 16) | ((byte_or_zero(s, i + 1) << 8) | byte_or_zero(s, i + 2))
-}
-
-// The three bytes of a number, stored where they are not past the end.
-fn store_window(s: &mut [u8], i: usize, w: u32)
-    requires { ⌜ (i < 2 ^ 61) × (w < 2 ^ 24) ⌝ }
-    ensures { λ _. ⌜ now (s .exit) ≡ setWord (now (s .entry)) i w ⌝ }
-{
-    store(s, i, w >> 16);
-    store(s, i + 1, low_bits(w >> 8, 8));
-    store(s, i + 2, low_bits(w, 8));
 }
 
 fn low_byte(w: u32) -> u8
@@ -95,26 +67,18 @@ fn high_byte(w: u32) -> u8
 }
 
 impl Place {
-    // Lays the low `bits` bits of `value` over the frame's bits from here on, and returns the place after them. A field
-    // that would pass the frame's end stores nothing; the place counts on.
-    pub fn put(self, frame: &mut [u8], value: u32, bits: u32) -> Place
-        requires { ⌜ (bits ≤ 16) × (self .at < 2 ^ 60) ⌝ }
-        ensures { λ r. ⌜ Put (now (frame .entry)) (self .at) bits value (now (frame .exit)) (r .at) ⌝ }
+    // Lays the low `count` bits of `value` over the bits from here on, where zeros follow to the payload's end; the place after them. A
+    // field that would pass the end stores nothing; the place counts on.
+    pub fn write(self, payload: &mut [u8], value: u32, count: u32) -> Place
+        requires { ⌜ (count ≤ 16) × (self .at < 2 ^ 50) ⌝ }
+        ensures { λ r. ⌜ Writes (now (payload .entry)) (self .at) (bits count value) (now (payload .exit)) (r .at) × (r .at ≡ self .at + count) ⌝ }
     {
-        let at = self.at;
-        let end = at + bits as usize;
-        if frame.len() < (end + 7) >> 3 {
-            return Place { at: end };
-        }
-        let byte = at >> 3;
-        let below = 24 - bits_before(at) - bits;
-        let old = window(frame, byte);
-        store_window(frame, byte, laid(old, value, bits, below));
-        Place { at: end }
+        let low = low_bits(value, count);
+        self.add(payload, low, count)
     }
 
-    // The same where zeros follow this place to the frame's end, in fewer steps.
-    pub fn add(self, frame: &mut [u8], value: u32, bits: u32) -> Place
+    // The same of a value that has no more bits: an `or` in the first byte, plain stores in those after it.
+    fn add(self, frame: &mut [u8], value: u32, bits: u32) -> Place
         requires { ⌜ (bits ≤ 16) × (self .at < 2 ^ 60) × (value < 2 ^ bits) ⌝ }
         ensures { λ r. ⌜ Added (now (frame .entry)) (self .at) bits value (now (frame .exit)) (r .at) ⌝ }
     {
@@ -165,13 +129,4 @@ impl Place {
         let value = self.look(part, bits);
         Field::Of(value, Place { at: end })
     }
-}
-
-// Adds the low bits of a value to the run so far.
-pub fn write_low(place: Place, payload: &mut [u8], value: u32, count: u32) -> Place
-    requires { ⌜ (count ≤ 16) × (place .at < 2 ^ 50) ⌝ }
-    ensures { λ r. ⌜ Writes (now (payload .entry)) (place .at) (bits count value) (now (payload .exit)) (r .at) × (r .at ≡ place .at + count) ⌝ }
-{
-    let low = value & ones(count);
-    place.add(payload, low, count)
 }

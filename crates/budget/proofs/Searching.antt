@@ -13,8 +13,8 @@ use Rattle.rules.specs.declared.Layout.{Layout}
 use Rattle.rules.proofs.Cuts.{length-part}
 
 -- whether a level exceeds with these factors, at boundary 0
-abbrev pub over : Layout → List Float → List ℕ → ℕ → Bool
-over l scaled factors level = exceeds l scaled factors level 0
+abbrev pub overAt : Layout → List Float → List ℕ → ℕ → Bool
+overAt l scaled factors level = exceeds l scaled factors level 0
 
 -- channel c's factors with a pair cleared, and their length
 abbrev pub clearedAt : List ℕ → ℕ → ℕ → List ℕ

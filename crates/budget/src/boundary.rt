@@ -5,18 +5,18 @@ ghost use lib.ListN.{length};
 ghost use Rattle.rules.specs.Layout.{Sizes, spectrumLength, factorLength};
 ghost use Rattle.rules.specs.Estimate.{exceeds};
 ghost use Rattle.rules.specs.Boundary.{searchBoundary, boundaryOf};
-use estimate::header_total;
+use estimate::calculate_frame_header_length;
 use estimate::is_over;
 use rules::Layout;
 
 // 128 would say that there is none; the search never comes to it.
-pub fn binary_search_boundary(layout: Layout, scaled: &[f32], factors: &[u8], level: usize) -> usize
+fn binary_search_boundary(layout: Layout, scaled: &[f32], factors: &[u8], level: usize) -> usize
     requires { ⌜ Sizes layout ⌝ }
     requires { ⌜ (length (now scaled) ≡ spectrumLength layout) × (length (now factors) ≡ factorLength layout) ⌝ }
     requires { ⌜ level ≤ 511 ⌝ }
     ensures { λ r. ⌜ (r ≡ searchBoundary (exceeds layout (now (scaled .entry)) (now (factors .entry)) level)) × (r ≤ 127) ⌝ }
 {
-    let fixed = header_total(layout, factors);
+    let fixed = calculate_frame_header_length(layout, factors);
     let mut low: usize = 0;
     let mut high: usize = 127;
     while low + 1 < high {

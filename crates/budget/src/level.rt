@@ -6,17 +6,17 @@ ghost use Rattle.rules.specs.Layout.{Sizes, spectrumLength, factorLength};
 ghost use Rattle.rules.specs.Estimate.{exceeds};
 ghost use Rattle.rules.specs.Level.{levelOf, clearTwo, clearPair};
 ghost use Rattle.rules.specs.Stage.{foundOf};
-use estimate::header_total;
+use estimate::calculate_frame_header_length;
 use estimate::is_over;
 use rules::Layout;
 
 // 255 says that there is none.
-pub fn binary_search_level(layout: Layout, scaled: &[f32], factors: &[u8]) -> usize
+fn binary_search_level(layout: Layout, scaled: &[f32], factors: &[u8]) -> usize
     requires { ⌜ Sizes layout ⌝ }
     requires { ⌜ (length (now scaled) ≡ spectrumLength layout) × (length (now factors) ≡ factorLength layout) ⌝ }
     ensures { λ r. ⌜ (r ≡ levelOf (λ level. exceeds layout (now (scaled .entry)) (now (factors .entry)) level 0)) × (r ≤ 255) ⌝ }
 {
-    let fixed = header_total(layout, factors);
+    let fixed = calculate_frame_header_length(layout, factors);
     let mut low: usize = 0;
     let mut high: usize = 255;
     while low < high {
@@ -39,7 +39,7 @@ fn clear_two(factors: &mut [u8], band: usize)
 }
 
 // Two bands get factor 0 in every channel.
-pub fn clear_pair(layout: Layout, factors: &mut [u8], band: usize)
+fn clear_pair(layout: Layout, factors: &mut [u8], band: usize)
     requires { ⌜ Sizes layout ⌝ }
     requires { ⌜ (length (now factors) ≡ factorLength layout) × (band + 1 < 128) ⌝ }
     ensures { λ _. ⌜ now (factors .exit) ≡ clearPair layout (now (factors .entry)) band ⌝ }

@@ -10,7 +10,7 @@ fn line(message: &[u8]) {
     io::write_all(STDOUT_FILENO, b"\n");
 }
 
-fn wide(byte: u8) -> usize
+fn length_byte(byte: u8) -> usize
     ensures { λ r. ⌜ r < 256 ⌝ }
 {
     byte as usize
@@ -20,7 +20,7 @@ fn wide(byte: u8) -> usize
 fn messages(input: &[u8]) {
     let mut at: usize = 0;
     while input.len() - at >= 2 {
-        let n = wide(input[at]) * 256 + wide(input[at + 1]);
+        let n = length_byte(input[at]) * 256 + length_byte(input[at + 1]);
         let start = at + 2;
         if input.len() - start < n {
             return;

@@ -36,9 +36,9 @@ module _ (g : Poly) where
 
   -- ---- dividend = quotient * divisor + remainder
 
-  lead : (b : Bool) → b ≡ plus (plus (b && true) false) false
-  lead false = refl
-  lead true = refl
+  lead-kept : (b : Bool) → b ≡ plus (plus (b && true) false) false
+  lead-kept false = refl
+  lead-kept true = refl
 
   divides : (n : ℕ) (p : Poly) → length p ≡ n + length g → p ≡ add (mul (quotients d n p) d) (zeros n ++ steps d n p)
   divides zero p h = sym (zeros-add (length g) p (omega arith))
@@ -46,7 +46,7 @@ module _ (g : Poly) where
   divides (suc n) (b ∷ p) h =
       let s : length (scale b g) ≤ length p = scaled-fits b p (omega arith) in
       let q : Poly = quotients d n (add (scale b g) p) in
-      ap₂ _∷_ (lead b)
+      ap₂ _∷_ (lead-kept b)
       (sym (add-twice (scale b g) p s)
       ∙ ap (add (scale b g)) (divides n (add (scale b g) p) (length-add (scale b g) p s ∙ omega arith))
       ∙ sym (add-assoc (scale b g) (mul q d) _))
@@ -59,21 +59,21 @@ module _ (g : Poly) where
   length-padded : (n : ℕ) (r : Poly) → length (zeros n ++ r) ≡ n + length r
   length-padded n r = length-append (zeros n) r ∙ rw length-replicate
 
-  left : (b : Bool) (q r : Poly) → length r ≡ length g
+  step-of-product : (b : Bool) (q r : Poly) → length r ≡ length g
       → step d (add (mul (b ∷ q) d) (zeros (suc (length q)) ++ r)) ≡ add (mul q d) (zeros (length q) ++ r)
-  left b q r h =
+  step-of-product b q r h =
       let m : length (mul q d) ≤ length (zeros (length q) ++ r) = omega (arith, length-mul q, length-padded (length q) r) in
-      ap₂ (λ c t. add (scale c g) t) (sym (lead b)) (add-assoc (scale b g) (mul q d) (zeros (length q) ++ r))
+      ap₂ (λ c t. add (scale c g) t) (sym (lead-kept b)) (add-assoc (scale b g) (mul q d) (zeros (length q) ++ r))
       ∙ add-twice (scale b g) (add (mul q d) (zeros (length q) ++ r))
       (rw length-scale (omega (arith, length-add (mul q d) (zeros (length q) ++ r) m, length-padded (length q) r)))
 
-  unique : (q r : Poly) → length r ≡ length g → steps d (length q) (add (mul q d) (zeros (length q) ++ r)) ≡ r
-  unique [] r h = zeros-add (length g) r (omega arith)
-  unique (b ∷ q) r h = ap (steps d (length q)) (left b q r h) ∙ unique q r h
+  remainder-unique : (q r : Poly) → length r ≡ length g → steps d (length q) (add (mul q d) (zeros (length q) ++ r)) ≡ r
+  remainder-unique [] r h = zeros-add (length g) r (omega arith)
+  remainder-unique (b ∷ q) r h = ap (steps d (length q)) (step-of-product b q r h) ∙ remainder-unique q r h
 
-  unique-quotient : (q r : Poly) → length r ≡ length g → quotients d (length q) (add (mul q d) (zeros (length q) ++ r)) ≡ q
-  unique-quotient [] r h = refl
-  unique-quotient (b ∷ q) r h = ap₂ _∷_ (sym (lead b)) (ap (quotients d (length q)) (left b q r h) ∙ unique-quotient q r h)
+  quotient-unique : (q r : Poly) → length r ≡ length g → quotients d (length q) (add (mul q d) (zeros (length q) ++ r)) ≡ q
+  quotient-unique [] r h = refl
+  quotient-unique (b ∷ q) r h = ap₂ _∷_ (sym (lead-kept b)) (ap (quotients d (length q)) (step-of-product b q r h) ∙ quotient-unique q r h)
 
   -- ---- the division is linear
 
@@ -150,9 +150,9 @@ module _ (g : Poly) where
   length-remainder p h = length-steps (length p - length g) p (omega arith)
 
   -- any q and r of degree d coefficients with p = q d + r are these two
-  pub only : (p q r : Poly) → length r ≡ degree d → p ≡ add (mul q d) (zeros (length q) ++ r)
+  pub division-only : (p q r : Poly) → length r ≡ degree d → p ≡ add (mul q d) (zeros (length q) ++ r)
       → (quotient d p ≡ q) × (remainder d p ≡ r)
-  only p q r h e =
+  division-only p q r h e =
       let n : length p - length g ≡ length q =
       rw e (omega (arith, length-add (mul q d) (zeros (length q) ++ r) (omega (arith, length-mul q, length-padded (length q) r)), length-padded (length q) r)) in
-      (ap₂ (quotients d) n e ∙ unique-quotient q r h, ap₂ (steps d) n e ∙ unique q r h)
+      (ap₂ (quotients d) n e ∙ quotient-unique q r h, ap₂ (steps d) n e ∙ remainder-unique q r h)

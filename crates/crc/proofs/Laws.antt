@@ -33,10 +33,10 @@ byte-bits n = append-nil (bits 8 n)
 byte-rest : (n : ℕ) → checksum (n ∷ []) ≡ value (rest g (bits 8 n))
 byte-rest n = checksum-rest (n ∷ []) ∙ ap (λ p. value (rest g p)) (byte-bits n)
 
--- the bits of the checksum as two bytes, hi and lo
-next : (m : List ℕ) (b : ℕ) (hi lo : Poly) → rest g (bitsOf m) ≡ hi ++ lo → length hi ≡ 8 → length lo ≡ 8
+-- one byte more, where the bits of the checksum are two bytes, hi and lo
+fed-by-halves : (m : List ℕ) (b : ℕ) (hi lo : Poly) → rest g (bitsOf m) ≡ hi ++ lo → length hi ≡ 8 → length lo ≡ 8
     → checksum (m ++ (b ∷ [])) ≡ fed (checksum m) b
-next m b hi lo e h8 l8 =
+fed-by-halves m b hi lo e h8 l8 =
     let bound : value lo < 2 ^ 8 = rw l8 at (value-lt lo) in
     let whole : checksum m ≡ value hi * 2 ^ 8 + value lo = checksum-rest m ∙ ap value e ∙ value-append hi lo ∙ ap (λ n. value hi * 2 ^ n + value lo) l8 in
     let top : checksum m / 2 ^ 8 ≡ value hi = omega arith in
@@ -60,7 +60,7 @@ checksum-next : (m : List ℕ) (b : ℕ) → checksum (m ++ (b ∷ [])) ≡ fed 
 checksum-next m b =
     let s : Poly = rest g (bitsOf m) in
     let l : length s ≡ 16 = length-rest g (bitsOf m) in
-    next m b (take 8 s) (drop 8 s) (sym (take-append-drop 8 s)) (rw (length-take, l)) (rw (length-drop, l))
+    fed-by-halves m b (take 8 s) (drop 8 s) (sym (take-append-drop 8 s)) (rw (length-take, l)) (rw (length-drop, l))
 
 -- the bytes behind a message go in one after the other
 pub checksum-feed : (m bs : List ℕ) → checksum (m ++ bs) ≡ feed (checksum m) bs

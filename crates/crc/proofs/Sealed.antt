@@ -13,16 +13,13 @@ use Rattle.bits.proofs.Parts.{bytes-at, bytes-append}
 use Rattle.crc.specs.Check.{checksum}
 use Rattle.crc.specs.Sealed.{body, check, sealed, isSealed}
 use Rattle.crc.proofs.Theorems.{checksum-lt}
-use Rattle.crc.proofs.Ends.{ends}
+use Rattle.crc.proofs.Ends.{body-then-last-two}
 
 pub length-sealed : (m : List ℕ) → length (sealed m) ≡ length m + 2
 length-sealed m = length-append m (check m)
 
 pub body-sealed : (m : List ℕ) → body (sealed m) ≡ m
 body-sealed m = take-at m (check m) (length (sealed m) - 2) (omega (arith, length-sealed m))
-
-pub sealed-injective : (m n : List ℕ) → sealed m ≡ sealed n → m ≡ n
-sealed-injective m n e = sym (body-sealed m) ∙ ap body e ∙ body-sealed n
 
 -- ---- bytes
 
@@ -53,4 +50,4 @@ is-sealed-only f b h t =
     let e : getD f n 0 * 256 + getD f (length f - 1) 0 ≡ s = eqb-true _ _ t in
     let low : getD f (n + 1) 0 ≡ s % 256 = ap (λ i. getD f i 0) (sym last) ∙ omega (arith, bytes-at f b (length f - 1)) in
     let high : getD f n 0 ≡ s / 256 = omega (arith, bytes-at f b (length f - 1)) in
-    ends f h ∙ ap₂ (λ x y. body f ++ (x ∷ y ∷ [])) high low
+    body-then-last-two f h ∙ ap₂ (λ x y. body f ++ (x ∷ y ∷ [])) high low

@@ -12,7 +12,7 @@ use Rattle.crc.specs.Poly.{Poly, add, mul, quotient, remainder}
 use Rattle.crc.specs.Check.{divisor, checksum}
 use Rattle.crc.specs.Table.{fed}
 use Rattle.crc.specs.Sealed.{check, sealed}
-use Rattle.crc.proofs.Division.{division, length-remainder, only}
+use Rattle.crc.proofs.Division.{division, length-remainder, division-only}
 use Rattle.crc.proofs.Laws.{checksum-feed}
 
 -- the divisor is 0x8005 under x^16; and a check value that many have published: that of the nine digits
@@ -28,15 +28,15 @@ zero-value : checksum (0 ∷ []) ≡ 0
 unfolding checksum value bitsOf bits
 zero-value = refl
 
-long : (m : List ℕ) → 16 ≤ length (bitsOf m ++ zeros 16)
-long m = rw length-append (omega arith)
+dividend-long : (m : List ℕ) → 16 ≤ length (bitsOf m ++ zeros 16)
+dividend-long m = rw length-append (omega arith)
 
-sixteen : (m : List ℕ) → length (remainder divisor (bitsOf m ++ zeros 16)) ≡ 16
-sixteen m = length-remainder (tail divisor) (bitsOf m ++ zeros 16) (long m)
+remainder-sixteen : (m : List ℕ) → length (remainder divisor (bitsOf m ++ zeros 16)) ≡ 16
+remainder-sixteen m = length-remainder (tail divisor) (bitsOf m ++ zeros 16) (dividend-long m)
 
 pub checksum-lt : (m : List ℕ) → checksum m < 2 ^ 16
 unfolding checksum
-checksum-lt m = rw (sixteen m) at (value-lt (remainder divisor (bitsOf m ++ zeros 16)))
+checksum-lt m = rw (remainder-sixteen m) at (value-lt (remainder divisor (bitsOf m ++ zeros 16)))
 
 -- message x^16 = quotient divisor + remainder, and the remainder's sixteen coefficients are the checksum's digits
 pub checksum-divides : (m : List ℕ)
@@ -45,14 +45,14 @@ unfolding checksum
 checksum-divides m =
     let p : Poly = bitsOf m ++ zeros 16 in
     let q : Poly = quotient divisor p in
-    let b : bits 16 (checksum m) ≡ remainder divisor p = rw (sixteen m) at (bits-value (remainder divisor p)) in
-    (q, division (tail divisor) p (long m) ∙ ap (λ r. add (mul q divisor) (zeros (length q) ++ r)) (sym b))
+    let b : bits 16 (checksum m) ≡ remainder divisor p = rw (remainder-sixteen m) at (bits-value (remainder divisor p)) in
+    (q, division (tail divisor) p (dividend-long m) ∙ ap (λ r. add (mul q divisor) (zeros (length q) ++ r)) (sym b))
 
 -- and no other sixteen coefficients are a remainder of it
 pub checksum-only : (m : List ℕ) (q r : Poly) → length r ≡ 16
     → bitsOf m ++ zeros 16 ≡ add (mul q divisor) (zeros (length q) ++ r) → value r ≡ checksum m
 unfolding checksum
-checksum-only m q r l e = ap value (sym (only (tail divisor) (bitsOf m ++ zeros 16) q r l e .1))
+checksum-only m q r l e = ap value (sym (division-only (tail divisor) (bitsOf m ++ zeros 16) q r l e .1))
 
 -- the checksum stored behind the message, high byte first, makes the whole divisible: its checksum is 0
 pub checksum-closes : (m : List ℕ) → checksum (sealed m) ≡ 0

@@ -11,11 +11,11 @@ use Rattle.crc.specs.Check.{checksum}
 pub record IsTable (t : List ℕ) : Type 0 where
   pub rule : (n : ℕ) → n < 256 → getD t n 0 ≡ checksum (n ∷ [])
 
--- a message has the checksum s: with the byte b behind it, this one
-abbrev pub fed : ℕ → ℕ → ℕ
-fed s b = bitXor (s * 2 ^ 8 % 2 ^ 16) (checksum (bitXor (s / 2 ^ 8) b ∷ []))
+-- a message has the checksum `sum`: with `byte` behind it, this one
+abbrev pub fed : (sum byte : ℕ) → ℕ
+fed sum byte = bitXor (sum * 2 ^ 8 % 2 ^ 16) (checksum (bitXor (sum / 2 ^ 8) byte ∷ []))
 
 -- and with these bytes behind it
-abbrev pub feed : ℕ → List ℕ → ℕ
-feed s [] = s
-feed s (b ∷ bs) = feed (fed s b) bs
+abbrev pub feed : (sum : ℕ) (bytes : List ℕ) → ℕ
+feed sum [] = sum
+feed sum (b ∷ bs) = feed (fed sum b) bs

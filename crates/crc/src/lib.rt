@@ -10,7 +10,7 @@ ghost use Rattle.crc.specs.Sealed.{body, sealed, isSealed};
 mod numbers;
 
 // The table, with its rule. It is taken once and lent to each step: an array in a constant is written out anew wherever it is read.
-pub fn table() -> [u16; 256]
+fn table() -> [u16; 256]
     ensures { λ r. ⌜ IsTable r ⌝ }
 {
     numbers::CRC16_TABLE
@@ -33,7 +33,7 @@ fn crc16_step(table: &[u16; 256], sum: u16, byte: u8) -> u16
 }
 
 // The checksum with these bytes more.
-pub fn crc16_feed(table: &[u16; 256], start: u16, bytes: &[u8]) -> u16
+fn crc16_feed(table: &[u16; 256], start: u16, bytes: &[u8]) -> u16
     requires { ⌜ IsTable (now table) ⌝ }
     ensures { λ r. ⌜ r ≡ feed start (now (bytes .entry)) ⌝ }
 {
@@ -60,11 +60,11 @@ pub fn seal(frame: &mut [u8])
 {
     let n = frame.len() - 2;
     let sum = crc16_checksum(&frame[..n]);
-    frame[n] = (sum / 256) as u8;
-    frame[n + 1] = (sum % 256) as u8;
+    frame[n] = (sum >> 8) as u8;
+    frame[n + 1] = (sum & 255) as u8;
 }
 
-// A byte as a wider number, with the bound that the sum of two needs.
+// A byte as a wider number, with the bound that putting two together needs.
 fn wide(byte: u8) -> u16
     ensures { λ r. ⌜ (r ≡ byte) × (r < 256) ⌝ }
 {
@@ -78,6 +78,6 @@ pub fn is_sealed(frame: &[u8]) -> bool
 {
     let n = frame.len() - 2;
     let sum = crc16_checksum(&frame[..n]);
-    let stored = wide(frame[n]) * 256 + wide(frame[n + 1]);
+    let stored = (wide(frame[n]) << 8) | wide(frame[n + 1]);
     stored == sum
 }

@@ -3,7 +3,7 @@ ghost use mathlib.Core.Path.{_≡_};
 ghost use Prim.Native.Nat.{_*_, _≤_, _<_};
 ghost use lib.ListN.{length};
 ghost use Rattle.rules.specs.Layout.{Sizes, sidesAt, kindAt, sideWidth, spectrumLength, factorLength};
-ghost use Rattle.rules.specs.Estimate.{bandBits, channelBits, headerBits, fixedBits, spectralBits, exceeds};
+ghost use Rattle.rules.specs.Estimate.{bandBits, channelBits, headerBits, fixedBits, spectralBits, usedBits, exceeds};
 use quantizer::counts::marks_of;
 use quantizer::counts::small_bits;
 use quantizer::counts::wide_bits;
@@ -49,7 +49,7 @@ fn wide_bit_count(scaled: &[f32], band: usize, resolution: u8) -> usize
 }
 
 // At resolution 0 no value takes a bit.
-pub fn spectral_bit_count(scaled: &[f32], band: usize, resolution: u8) -> usize
+fn spectral_bit_count(scaled: &[f32], band: usize, resolution: u8) -> usize
     requires { ⌜ (length (now scaled) ≡ 1024) × (band < 128) × (resolution ≤ 15) ⌝ }
     ensures { λ r. ⌜ (r ≡ bandBits (now (scaled .entry)) band resolution) × (r ≤ 96) ⌝ }
 {
@@ -63,7 +63,7 @@ pub fn spectral_bit_count(scaled: &[f32], band: usize, resolution: u8) -> usize
 }
 
 // A channel's coded bands, each resolution worked out on the way.
-pub fn channel_bits(
+fn channel_bits(
     scaled: &[f32],
     factors: &[u8],
     coded: usize,
@@ -84,20 +84,17 @@ pub fn channel_bits(
     sum
 }
 
-// What a channel's side values take: 32 bits of a secondary, else 6G.
+// What a channel's side values take.
 fn side_bits(layout: Layout, channel: usize) -> usize
     requires { ⌜ Sizes layout ⌝ }
     requires { ⌜ channel < 16 ⌝ }
     ensures { λ r. ⌜ (r ≡ sidesAt layout channel * sideWidth (kindAt layout channel)) × (r ≤ 48) ⌝ }
 {
-    if rules::is_secondary(layout, channel) {
-        32
-    } else {
-        rules::groups(layout) * 6
-    }
+    let width = rules::side_width(layout, channel);
+    rules::side_count(layout, channel) * width as usize
 }
 
-pub fn channel_header(layout: Layout, channel: usize, factors: &[u8]) -> usize
+fn channel_header(layout: Layout, channel: usize, factors: &[u8]) -> usize
     requires { ⌜ Sizes layout ⌝ }
     requires { ⌜ (channel < 16) × (length (now factors) ≡ 128) ⌝ }
     ensures { λ r. ⌜ (r ≡ headerBits layout (now (factors .entry)) channel) × (r ≤ 819) ⌝ }
@@ -108,7 +105,7 @@ pub fn channel_header(layout: Layout, channel: usize, factors: &[u8]) -> usize
 }
 
 // The part that no level or boundary changes.
-pub fn header_total(layout: Layout, factors: &[u8]) -> usize
+pub fn calculate_frame_header_length(layout: Layout, factors: &[u8]) -> usize
     requires { ⌜ Sizes layout ⌝ }
     requires { ⌜ length (now factors) ≡ factorLength layout ⌝ }
     ensures { λ r. ⌜ (r ≡ fixedBits layout (now (factors .entry))) × (r ≤ 13152) ⌝ }
@@ -124,7 +121,7 @@ pub fn header_total(layout: Layout, factors: &[u8]) -> usize
     48 + sum
 }
 
-pub fn spectral_total(
+fn spectral_total(
     layout: Layout,
     scaled: &[f32],
     factors: &[u8],
@@ -155,7 +152,24 @@ pub fn spectral_total(
     sum
 }
 
-// Whether a level and a boundary take more than 8F bits, the fixed part being known.
+// The bits of a level and a boundary, the fixed part being known.
+fn calculate_used_bits(
+    layout: Layout,
+    scaled: &[f32],
+    factors: &[u8],
+    fixed: usize,
+    level: usize,
+    boundary: usize,
+) -> usize
+    requires { ⌜ Sizes layout ⌝ }
+    requires { ⌜ (length (now scaled) ≡ spectrumLength layout) × (length (now factors) ≡ factorLength layout) ⌝ }
+    requires { ⌜ (fixed ≡ fixedBits layout (now factors)) × (fixed ≤ 13152) × (level ≤ 511) ⌝ }
+    ensures { λ r. ⌜ r ≡ usedBits layout (now (scaled .entry)) (now (factors .entry)) level boundary ⌝ }
+{
+    fixed + spectral_total(layout, scaled, factors, level, boundary)
+}
+
+// Whether they are more than 8F.
 pub fn is_over(
     layout: Layout,
     scaled: &[f32],
@@ -170,6 +184,5 @@ pub fn is_over(
     ensures { λ r. ⌜ r ≡ exceeds layout (now (scaled .entry)) (now (factors .entry)) level boundary ⌝ }
 {
     let available = 8 * layout.frame_size;
-    let used = fixed + spectral_total(layout, scaled, factors, level, boundary);
-    available < used
+    available < calculate_used_bits(layout, scaled, factors, fixed, level, boundary)
 }

@@ -13,7 +13,7 @@ mod numbers;
 pub fn scaling_table() -> [f32; 64]
     ensures { λ r. ⌜ IsScaling r ⌝ }
 {
-    numbers::SCALING_TABLE
+    numbers::DEQUANTIZER_SCALING_TABLE
 }
 
 // The number of the table's first 63 entries that are at most the value, by halving.
@@ -47,7 +47,7 @@ fn band_factor(table: &[f32; 64], spectra: &[f32], coded: usize, b: usize) -> u8
 }
 
 // A channel's 128 factors, of its 1,024 spectra.
-pub fn channel_factors(table: &[f32; 64], spectra: &[f32], coded: usize, factors: &mut [u8])
+fn channel_factors(table: &[f32; 64], spectra: &[f32], coded: usize, factors: &mut [u8])
     requires { ⌜ IsScaling (now table) ⌝ }
     requires { ⌜ (length (now spectra) ≡ 1024) × (length (now factors) ≡ 128) ⌝ }
     ensures { λ _. ⌜ now (factors .exit) ≡ channelFactors (now (spectra .entry)) coded ⌝ }

@@ -16,50 +16,50 @@ abbrev pub oneF : Float
 oneF = fin false 1 (pos 0)
 
 -- |x|: Rust's `abs`
-unfoldable pub absF : Float → Float
+unfoldable pub absF : (x : Float) → Float
 absF nan = nan
 absF (inf s) = inf false
 absF (fin s m e) = fin false m e
 
 -- x held within low and high: Rust's `clamp`
-unfoldable pub heldF : Float → Float → Float → Float
+unfoldable pub heldF : (low high x : Float) → Float
 heldF low high x = cond (lt x low) low (cond (lt high x) high x)
 
 -- the whole part of |x|, or c where it is above c
-unfoldable pub cutTo : ℕ → Float → ℕ
+unfoldable pub cutTo : (c : ℕ) (x : Float) → ℕ
 cutTo c nan = 0
 cutTo c (inf s) = c
 cutTo c (fin s m e) = min (m * up e / down e) c
 
 -- the larger and the smaller of two values; the first where neither is below the other
-unfoldable pub maxF : Float → Float → Float
+unfoldable pub maxF : (a b : Float) → Float
 maxF a b = cond (lt a b) b a
 
-unfoldable pub minF : Float → Float → Float
+unfoldable pub minF : (a b : Float) → Float
 minF a b = cond (lt b a) b a
 
 -- n values of xs, `stride` apart from `at` on, taken into s one after the other
-unfoldable pub folded : (Float → Float → Float) → List Float → ℕ → ℕ → ℕ → Float → Float
+unfoldable pub folded : (op : Float → Float → Float) (xs : List Float) (start stride count : ℕ) (s : Float) → Float
 folded op xs at stride zero s = s
 folded op xs at stride (suc n) s = folded op xs (at + stride) stride n (op s (getD xs at nan))
 
 -- the sum with one magnitude more, and the larger of s and a magnitude
-abbrev pub addAbs : Float → Float → Float
+abbrev pub addAbs : (s x : Float) → Float
 addAbs s x = add binary32 s (absF x)
 
-abbrev pub maxAbs : Float → Float → Float
+abbrev pub maxAbs : (s x : Float) → Float
 maxAbs s x = maxF s (absF x)
 
 -- a sum over its count, 0.0 where the count is 0
-unfoldable pub meanF : Float → ℕ → Float
+unfoldable pub meanF : (s : Float) (n : ℕ) → Float
 meanF s n = cond (eqb n 0) zeroF (div binary32 s (ofInt binary32 (pos n)))
 
 -- a running average: of no values, with the magnitudes of eight more, and its value
 unfoldable pub noAverage : Average
 noAverage = record { sum = zeroF; count = 0 }
 
-unfoldable pub withEight : List Float → ℕ → ℕ → Average → Average
+unfoldable pub withEight : (xs : List Float) (start stride : ℕ) (a : Average) → Average
 withEight xs at stride a = record { sum = folded addAbs xs at stride 8 (a .sum); count = a .count + 8 }
 
-unfoldable pub mean : Average → Float
+unfoldable pub mean : (a : Average) → Float
 mean a = meanF (a .sum) (a .count)

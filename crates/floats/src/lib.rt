@@ -75,7 +75,7 @@ pub fn truncate(x: f32) -> i64
 }
 
 // The larger of two values; a where neither is below the other.
-pub fn larger(a: f32, b: f32) -> f32
+fn larger(a: f32, b: f32) -> f32
     ensures { λ r. ⌜ r ≡ maxF a b ⌝ }
 {
     if a < b { b } else { a }

@@ -1,13 +1,14 @@
 // The C interface: numbers and slices only, no `requires`.
 ghost use mathlib.Core.Path.{_≡_};
 ghost use Rattle.crc.specs.Check.{checksum};
-ghost use Rattle.rules.specs.Stage.{stageLent, frameLent};
-ghost use Rattle.encoding.specs.Encoded.{encodedAs, encoded};
-ghost use Rattle.reading.specs.Returned.{returnedAs, returned};
-ghost use Rattle.writing.specs.Wrote.{wroteAs, wrote};
-use encoding::encode_frame;
-use reading::read_frame;
-use writing::write_record;
+ghost use Rattle.rules.specs.Stage.{stageLent};
+ghost use Rattle.rules.specs.Reader.{readerLent};
+ghost use Rattle.hca_encode.specs.Encoded.{encodedAs, encoded};
+ghost use Rattle.hca_read.specs.Returned.{returnedAs, returned};
+ghost use Rattle.hca_write.specs.Wrote.{wroteAs, wrote};
+use hca_encode::encode_frame;
+use hca_read::read_frame;
+use hca_write::write_record;
 
 // The frame stage. answer: level, boundary, pairs, bits.
 #[no_mangle]
@@ -67,7 +68,7 @@ pub extern "C" fn hca_read_frame(
     codes: &mut [i32],
     answer: &mut [u32],
 ) -> u32
-    ensures { λ r. ⌜ returnedAs r (now (answer .exit)) (now (factors .exit)) (now (side .exit)) (now (codes .exit)) ≡ returned (now (layout .entry)) (now (kinds .entry)) (frameLent (now (frame .entry)) (now (factors .entry)) (now (side .entry)) (now (codes .entry))) (now (answer .entry)) ⌝ }
+    ensures { λ r. ⌜ returnedAs r (now (answer .exit)) (now (factors .exit)) (now (side .exit)) (now (codes .exit)) ≡ returned (now (layout .entry)) (now (kinds .entry)) (readerLent (now (frame .entry)) (now (factors .entry)) (now (side .entry)) (now (codes .entry))) (now (answer .entry)) ⌝ }
 {
     read_frame(layout, kinds, frame, factors, side, codes, answer)
 }

@@ -1,6 +1,6 @@
 // The command-line program. A Rattle program has no exit status, so one that is not 0 is written out.
 fn main() {
-    let status = commands::run();
+    let status = cli::run_program();
     if status == 1 {
         io::write_all(2, b"hcaframe: status 1\n");
     }

@@ -10,7 +10,7 @@ use Rattle.buffers.proofs.Scan.{left-suc}
 use Rattle.floats.specs.Single.{noAverage, withEight}
 use Rattle.floats.specs.declared.Average.{Average}
 use Rattle.rules.specs.Layout.{startBand, bandsPerGroup}
-use Rattle.rules.specs.Hfr.{taken, groupAverage, spectrumAverage, sourceAverage}
+use Rattle.rules.specs.Hfr.{bandsTaken, groupAverage, spectrumAverage, sourceAverage}
 use Rattle.rules.specs.declared.Layout.{Layout}
 
 -- a group's first value of b, and the next group's
@@ -19,26 +19,26 @@ group-reach j g h k = mul-le-mul h k
 
 module _ (xs : List Float) (at : ℕ → ℕ) (stride first end : ℕ) where
   abbrev pub Whole : Average
-  Whole = taken (λ b. withEight xs (at b) stride) first (end - first) noAverage
+  Whole = bandsTaken (λ b. withEight xs (at b) stride) first (end - first) noAverage
 
   -- what the loop keeps: what is left, taken into a, gives the whole
   abbrev pub ToTake : ℕ → Average → Type 0
-  ToTake b a = (b ≤ 128) × (a .count ≤ 8 * b) × (taken (λ n. withEight xs (at n) stride) b (end - b) a ≡ Whole)
+  ToTake b a = (b ≤ 128) × (a .count ≤ 8 * b) × (bandsTaken (λ n. withEight xs (at n) stride) b (end - b) a ≡ Whole)
 
   pub take-none : (a : Average) → first ≤ 128 → a ≡ noAverage → ToTake first a
   unfolding noAverage
   take-none a h e = (h, rw e (omega arith), rw e)
 
   pub take-more : (b : ℕ) (a a′ : Average) → b < end → end ≤ 128 → ToTake b a → a′ ≡ withEight xs (at b) stride a → ToTake (b + 1) a′
-  unfolding taken withEight
+  unfolding bandsTaken withEight
   take-more b a a′ h k t e =
-      (omega arith, rw e (omega arith), rw (e, add-one b) (sym (ap (λ (m : ℕ). taken (λ n. withEight xs (at n) stride) b m a) (left-suc end b h)) ∙ t .2))
+      (omega arith, rw e (omega arith), rw (e, add-one b) (sym (ap (λ (m : ℕ). bandsTaken (λ n. withEight xs (at n) stride) b m a) (left-suc end b h)) ∙ t .2))
 
   pub take-all : (b : ℕ) (a : Average) → end ≤ b → ToTake b a → a ≡ Whole
-  unfolding taken
+  unfolding bandsTaken
   take-all b a h t =
       let z : end - b ≡ 0 = omega arith in
-      sym (ap (λ (m : ℕ). taken (λ n. withEight xs (at n) stride) b m a) z) ∙ t .2
+      sym (ap (λ (m : ℕ). bandsTaken (λ n. withEight xs (at n) stride) b m a) z) ∙ t .2
 
 -- the two averages, as the code finds their bounds
 module _ (l : Layout) (xs : List Float) (j n g end : ℕ) (p : n ≡ startBand l) (q : g ≡ bandsPerGroup l) where

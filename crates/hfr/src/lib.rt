@@ -3,9 +3,8 @@ ghost use mathlib.Core.Path.{_≡_};
 ghost use Prim.Native.Nat.{suc, _*_, _≤_, _<_, min};
 ghost use lib.ListN.{length};
 ghost use Rattle.rules.specs.Layout.{Sizes, spectrumLength, sideLength};
-ghost use Rattle.rules.specs.Hfr.{spectrumAverage, sourceAverage, groupValue, hfrScale, allSide};
+ghost use Rattle.rules.specs.Hfr.{spectrumAverage, sourceAverage, groupValue, hfrScale, allSide, intensitySide, scaleSide, sideAt};
 ghost use Rattle.factors.specs.Scaling.{IsScaling};
-ghost use Rattle.hfr.specs.Side.{intensitySide, scaleSide, sideAt};
 use floats::Average;
 use rules::Layout;
 
@@ -24,7 +23,7 @@ fn group_end(group: usize, g: usize, limit: usize) -> usize
 }
 
 // A group's bands from N on, up to band 128, of a channel's 1,024 spectra by subframe and band.
-pub fn spectrum_average(layout: Layout, spectra: &[f32], group: usize) -> Average
+fn hfr_spectra_average(layout: Layout, spectra: &[f32], group: usize) -> Average
     requires { ⌜ Sizes layout ⌝ }
     requires { ⌜ (length (now spectra) ≡ 1024) × (group < 8) ⌝ }
     ensures { λ r. ⌜ (r ≡ spectrumAverage layout (now (spectra .entry)) group) × (r .count ≤ 1024) ⌝ }
@@ -42,7 +41,7 @@ pub fn spectrum_average(layout: Layout, spectra: &[f32], group: usize) -> Averag
 }
 
 // The same bands mirrored below N, of a channel's 1,024 scaled values by band and subframe.
-pub fn source_average(layout: Layout, scaled: &[f32], group: usize) -> Average
+fn hfr_source_average(layout: Layout, scaled: &[f32], group: usize) -> Average
     requires { ⌜ Sizes layout ⌝ }
     requires { ⌜ (length (now scaled) ≡ 1024) × (group < 8) ⌝ }
     ensures { λ r. ⌜ (r ≡ sourceAverage layout (now (scaled .entry)) group) × (r .count ≤ 1024) ⌝ }
@@ -60,7 +59,7 @@ pub fn source_average(layout: Layout, scaled: &[f32], group: usize) -> Average
 }
 
 // What a group's scale is the factor of.
-pub fn group_value(spectrum: f32, source: f32) -> f32
+fn group_value(spectrum: f32, source: f32) -> f32
     ensures { λ r. ⌜ r ≡ groupValue spectrum source ⌝ }
 {
     if source > 0.0 {
@@ -69,7 +68,7 @@ pub fn group_value(spectrum: f32, source: f32) -> f32
     spectrum
 }
 
-pub fn calculate_hfr_scale(
+fn calculate_hfr_scale(
     layout: Layout,
     table: &[f32; 64],
     spectra: &[f32],
@@ -81,8 +80,8 @@ pub fn calculate_hfr_scale(
     requires { ⌜ (length (now spectra) ≡ 1024) × (length (now scaled) ≡ 1024) × (group < 8) ⌝ }
     ensures { λ r. ⌜ r ≡ hfrScale layout (now (spectra .entry)) (now (scaled .entry)) group ⌝ }
 {
-    let spectrum = spectrum_average(layout, spectra, group).mean();
-    let source = source_average(layout, scaled, group).mean();
+    let spectrum = hfr_spectra_average(layout, spectra, group).mean();
+    let source = hfr_source_average(layout, scaled, group).mean();
     factors::find_scale_factor(table, group_value(spectrum, source))
 }
 
@@ -118,7 +117,7 @@ fn fill_scales(layout: Layout, table: &[f32; 64], spectra: &[f32], scaled: &[f32
 }
 
 // A channel's eight side values, of the buffers of all channels.
-pub fn channel_side(
+fn channel_side(
     layout: Layout,
     channel: usize,
     table: &[f32; 64],

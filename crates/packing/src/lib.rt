@@ -9,13 +9,13 @@ ghost use Rattle.rules.specs.Layout.{Sizes, frameSize};
 ghost use Rattle.rules.specs.Record.{recOf};
 ghost use Rattle.rules.specs.Resolution.{allResolutions};
 ghost use Rattle.rules.specs.Fields.{fields};
-ghost use Rattle.rules.specs.Frame.{payload, frameOf};
+ghost use Rattle.rules.specs.Frame.{fieldEnd, frameOf};
 use bits::Place;
 use buffers::clear_u8;
-use code_fields::write_codes;
 use crc::seal;
-use header_fields::write_channels;
-use header_fields::write_head;
+use packing_codes::write_codes;
+use packing_header::write_channels;
+use packing_header::write_head;
 use rules::Layout;
 
 // All fields, from the first bit on; how many bits they are.
@@ -58,7 +58,7 @@ pub fn pack_frame(
     requires { ⌜ (length (now factors) ≡ layout .channels * 128) × (length (now side) ≡ layout .channels * 8) × (length (now codes) ≡ layout .channels * 1024) ⌝ }
     requires { ⌜ (now resolutions ≡ allResolutions layout level boundary (now factors)) × (length (now frame) ≡ frameSize layout) ⌝ }
     ensures bits { λ r. ⌜ r ≡ length (fields layout (recOf layout level boundary (now (factors .entry)) (now (side .entry)) (now (codes .entry)))) ⌝ }
-    ensures stored { λ r. ⌜ now (frame .exit) ≡ cond (ltb (payload layout) r) (replicate (frameSize layout) 0) (frameOf layout (recOf layout level boundary (now (factors .entry)) (now (side .entry)) (now (codes .entry)))) ⌝ }
+    ensures stored { λ r. ⌜ now (frame .exit) ≡ cond (ltb (fieldEnd layout) r) (replicate (frameSize layout) 0) (frameOf layout (recOf layout level boundary (now (factors .entry)) (now (side .entry)) (now (codes .entry)))) ⌝ }
 {
     clear_u8(frame);
     let end = layout.frame_size - 2;

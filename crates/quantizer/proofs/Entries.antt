@@ -17,11 +17,11 @@ use Rattle.buffers.proofs.Every.{every-at}
 use Rattle.buffers.proofs.Tests.{and-fst, and-snd}
 use Rattle.rules.specs.Tables.{stepTable, maxBitTable, spectrumBits, spectrumValue}
 use Rattle.rules.specs.Code.{stepOf, stepShift, magnitudeBits, codeLimit}
-use Rattle.quantizer.specs.Packed.{packed, entryOf}
+use Rattle.quantizer.specs.Packed.{packedRow, entryOf}
 
 -- two functions that give the same list
-pub alike : {A : Type 0} (f g : ℕ → A) (n : ℕ) → build f n ≡ build g n → (i : ℕ) → i < n → f i ≡ g i
-alike f g n e i h = sym (build-at f n i (f i) h) ∙ ap (λ (l : List _). getD l i (f i)) e ∙ build-at g n i (f i) h
+pub build-agrees : {A : Type 0} (f g : ℕ → A) (n : ℕ) → build f n ≡ build g n → (i : ℕ) → i < n → f i ≡ g i
+build-agrees f g n e i h = sym (build-at f n i (f i) h) ∙ ap (λ (l : List _). getD l i (f i)) e ∙ build-at g n i (f i) h
 
 -- none of 0 to n - 1: what the last arm of a match is left with
 abbrev pub Others : ℕ → ℕ → Type 0
@@ -35,18 +35,18 @@ last-arm (suc n) r h o =
 
 -- ---- the rows of the spectrum tables
 module _ (t : List (List ℕ)) where
-  row-entry : build (λ (r : ℕ). build (λ (p : ℕ). entryOf (packed (getD t r [])) p) 16) 8 ≡ build (λ (r : ℕ). getD t r []) 8
-      → (r p : ℕ) → r < 8 → p ≤ 15 → entryOf (packed (getD t r [])) p ≡ getD (getD t r []) p 0
+  row-entry : build (λ (r : ℕ). build (λ (p : ℕ). entryOf (packedRow (getD t r [])) p) 16) 8 ≡ build (λ (r : ℕ). getD t r []) 8
+      → (r p : ℕ) → r < 8 → p ≤ 15 → entryOf (packedRow (getD t r [])) p ≡ getD (getD t r []) p 0
   row-entry e r p h k =
-      sym (build-at (entryOf (packed (getD t r []))) 16 p 0 (omega arith))
-      ∙ ap (λ (l : List ℕ). getD l p 0) (alike (λ (i : ℕ). build (λ (j : ℕ). entryOf (packed (getD t i [])) j) 16) (λ (i : ℕ). getD t i []) 8 e r h)
+      sym (build-at (entryOf (packedRow (getD t r []))) 16 p 0 (omega arith))
+      ∙ ap (λ (l : List ℕ). getD l p 0) (build-agrees (λ (i : ℕ). build (λ (j : ℕ). entryOf (packedRow (getD t i [])) j) 16) (λ (i : ℕ). getD t i []) 8 e r h)
 
-pub length-entry : (r p : ℕ) → r < 8 → p ≤ 15 → entryOf (packed (getD spectrumBits r [])) p ≡ getD (getD spectrumBits r []) p 0
-unfolding build packed spectrumBits
+pub length-entry : (r p : ℕ) → r < 8 → p ≤ 15 → entryOf (packedRow (getD spectrumBits r [])) p ≡ getD (getD spectrumBits r []) p 0
+unfolding build packedRow spectrumBits
 length-entry = row-entry spectrumBits refl
 
-pub word-entry : (r p : ℕ) → r < 8 → p ≤ 15 → entryOf (packed (getD spectrumValue r [])) p ≡ getD (getD spectrumValue r []) p 0
-unfolding build packed spectrumValue
+pub word-entry : (r p : ℕ) → r < 8 → p ≤ 15 → entryOf (packedRow (getD spectrumValue r [])) p ≡ getD (getD spectrumValue r []) p 0
+unfolding build packedRow spectrumValue
 word-entry = row-entry spectrumValue refl
 
 -- a length is at most 4, and a word has no more bits than its length
@@ -72,7 +72,7 @@ word-lt r p h k = ltb-true _ _ (and-snd (leb (getD (getD spectrumBits r []) p 0)
 -- ---- MAX_BIT_TABLE - 1, and the limit
 pub bits-entry : (r : ℕ) → r ≤ 15 → entryOf 0xBA98765433332210 r ≡ magnitudeBits r
 unfolding build magnitudeBits maxBitTable
-bits-entry r h = alike (entryOf 0xBA98765433332210) magnitudeBits 16 refl r (omega arith)
+bits-entry r h = build-agrees (entryOf 0xBA98765433332210) magnitudeBits 16 refl r (omega arith)
 
 pub bits-le : (r : ℕ) → r ≤ 15 → magnitudeBits r ≤ 11
 unfolding every magnitudeBits maxBitTable
@@ -81,7 +81,7 @@ bits-le r h = leb-true _ _ (every-at (λ (i : ℕ). leb (magnitudeBits i) 11) 16
 -- a shift by so few bits loses none
 pub one-shifted : (m : ℕ) → m ≤ 11 → (1 * 2 ^ m) % 2 ^ 32 ≡ 2 ^ m
 unfolding build
-one-shifted m h = alike (λ (i : ℕ). (1 * 2 ^ i) % 2 ^ 32) (λ (i : ℕ). 2 ^ i) 12 refl m (omega arith)
+one-shifted m h = build-agrees (λ (i : ℕ). (1 * 2 ^ i) % 2 ^ 32) (λ (i : ℕ). 2 ^ i) 12 refl m (omega arith)
 
 pub power-le : (m : ℕ) → m ≤ 11 → (1 ≤ 2 ^ m) × (2 ^ m ≤ 2048)
 unfolding every
@@ -97,21 +97,21 @@ limit-le r h = leb-true _ _ (every-at (λ (i : ℕ). leb (codeLimit i) 2047) 16 
 -- ---- QUANTIZER_INVERSE_STEP_SIZE, and the step + 0.5
 pub shift-low : (r : ℕ) → r < 8 → pos (r + 1) ≡ stepShift r
 unfolding build stepShift stepOf stepTable ofBits toSigned add
-shift-low r h = alike (λ (i : ℕ). pos (i + 1)) stepShift 8 refl r h
+shift-low r h = build-agrees (λ (i : ℕ). pos (i + 1)) stepShift 8 refl r h
 
 pub shift-high : (r : ℕ) → 8 ≤ r → r ≤ 15 → pos (2 ^ (r - 4)) ≡ stepShift r
 unfolding build stepShift stepOf stepTable ofBits toSigned add
 shift-high r l h =
-    let z : cond (ltb r 8) (stepShift r) (pos (2 ^ (r - 4))) ≡ stepShift r = alike (λ (i : ℕ). cond (ltb i 8) (stepShift i) (pos (2 ^ (i - 4)))) stepShift 16 refl r (omega arith) in
+    let z : cond (ltb r 8) (stepShift r) (pos (2 ^ (r - 4))) ≡ stepShift r = build-agrees (λ (i : ℕ). cond (ltb i 8) (stepShift i) (pos (2 ^ (i - 4)))) stepShift 16 refl r (omega arith) in
     rw (le-ltb r 8 l) at z
 
 pub shift-nat : (r : ℕ) → r ≤ 15 → (stepShift r ≡ pos (natAbs (stepShift r))) × (natAbs (stepShift r) ≤ 2048)
 unfolding build every stepShift stepOf stepTable ofBits toSigned add
 shift-nat r h = (
-  alike stepShift (λ (i : ℕ). pos (natAbs (stepShift i))) 16 refl r (omega arith),
+  build-agrees stepShift (λ (i : ℕ). pos (natAbs (stepShift i))) 16 refl r (omega arith),
   leb-true _ _ (every-at (λ (i : ℕ). leb (natAbs (stepShift i)) 2048) 16 r refl (omega arith)),
 )
 
 pub step-entry : (r : ℕ) → r ≤ 15 → sub binary32 (ofInt binary32 (stepShift r)) (ofBits binary32 0x3F000000) ≡ stepOf r
 unfolding build stepShift stepOf stepTable ofBits sub ofInt toSigned
-step-entry r h = alike (λ (i : ℕ). sub binary32 (ofInt binary32 (stepShift i)) (ofBits binary32 0x3F000000)) stepOf 16 refl r (omega arith)
+step-entry r h = build-agrees (λ (i : ℕ). sub binary32 (ofInt binary32 (stepShift i)) (ofBits binary32 0x3F000000)) stepOf 16 refl r (omega arith)

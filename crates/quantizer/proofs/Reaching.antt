@@ -21,7 +21,7 @@ use Rattle.rules.specs.Estimate.{valueBits}
 use Rattle.quantizer.specs.Marks.{wholeF, nearAt, farAt, pastAt, highAt, dropAt, marksAt}
 use Rattle.quantizer.specs.declared.counts.Marks.{Marks}
 use Rattle.quantizer.proofs.Signs.{place-pos, place-neg}
-use Rattle.quantizer.proofs.Entries.{alike, shift-low}
+use Rattle.quantizer.proofs.Entries.{build-agrees, shift-low}
 
 -- a whole number, 0 where it is negative
 abbrev pub wholeN : ℤ → ℕ
@@ -44,8 +44,8 @@ below-or-equal a b = go (ltb a b) (eqb a b) refl refl
     go false true e f = sym (le-leb a b (omega (arith, eqb-true a b f)))
     go false false e f = sym (lt-leb a b (omega (arith, ltb-false a b e, eqb-false a b f)))
 
-over : (k b d m : ℕ) → 0 < d → k ≤ m → leb (k * d) b ≡ leb k (min (b / d) m)
-over k b d m h l = go (leb (k * d) b) refl
+product-at-most : (k b d m : ℕ) → 0 < d → k ≤ m → leb (k * d) b ≡ leb k (min (b / d) m)
+product-at-most k b d m h l = go (leb (k * d) b) refl
   where
     go : (t : Bool) → leb (k * d) b ≡ t → t ≡ leb k (min (b / d) m)
     go true e = let z : k ≤ b / d = le-div-iff-mul-le h .1 (leb-true (k * d) b e) in sym (le-leb k (min (b / d) m) (omega arith))
@@ -65,7 +65,7 @@ module _ (q j : ℕ) (some : 1 ≤ q * 2 ^ j) (most : q * 2 ^ j ≤ 2147483647) 
   reaches (fin false n d) =
       below-or-equal (q * 2 ^ j * down d) (n * up d * 1)
       ∙ ap (leb (q * 2 ^ j * down d)) (mul-one (n * up d))
-      ∙ over (q * 2 ^ j) (n * up d) (down d) 2147483647 (down-pos d) most
+      ∙ product-at-most (q * 2 ^ j) (n * up d) (down d) 2147483647 (down-pos d) most
 
 -- ---- the whole numbers up to 16
 oddOf : ℕ → ℕ
@@ -76,11 +76,11 @@ twosOf k = getD (0 ∷ 0 ∷ 1 ∷ 0 ∷ 2 ∷ 0 ∷ 1 ∷ 0 ∷ 3 ∷ 0 ∷ 1 �
 
 whole-form : (k : ℕ) → k ≤ 16 → wholeF k ≡ fin false (oddOf k) (pos (twosOf k))
 unfolding build oddOf twosOf ofInt
-whole-form k h = alike wholeF (λ (i : ℕ). fin false (oddOf i) (pos (twosOf i))) 17 refl k (omega arith)
+whole-form k h = build-agrees wholeF (λ (i : ℕ). fin false (oddOf i) (pos (twosOf i))) 17 refl k (omega arith)
 
 odd-twos : (k : ℕ) → k ≤ 16 → oddOf k * 2 ^ twosOf k ≡ k
 unfolding build oddOf twosOf
-odd-twos k h = alike (λ (i : ℕ). oddOf i * 2 ^ twosOf i) (λ (i : ℕ). i) 17 refl k (omega arith)
+odd-twos k h = build-agrees (λ (i : ℕ). oddOf i * 2 ^ twosOf i) (λ (i : ℕ). i) 17 refl k (omega arith)
 
 reaches-whole : (k : ℕ) (y : Float) → 1 ≤ k → k ≤ 16 → le (wholeF k) y ≡ leb k (wholeN (toSigned 31 y))
 reaches-whole k y h l =
@@ -97,8 +97,8 @@ bitsAt r w = getD (getD spectrumBits r []) (min (7 - r + w) 15) 0
 low-silent : (r p : ℕ) → r < 8 → p ≤ 7 - r → getD (getD spectrumBits r []) p 0 ≡ 0
 unfolding build spectrumBits
 low-silent r p h l =
-    let z = alike (λ (i : ℕ). build (λ (n : ℕ). cond (leb n (7 - i)) (getD (getD spectrumBits i []) n 0) 0) 8) (λ (i : ℕ). build (λ (n : ℕ). 0) 8) 8 refl r h in
-    let y : cond (leb p (7 - r)) (getD (getD spectrumBits r []) p 0) 0 ≡ 0 = alike (λ (n : ℕ). cond (leb n (7 - r)) (getD (getD spectrumBits r []) n 0) 0) (λ (n : ℕ). 0) 8 z p (omega arith) in
+    let z = build-agrees (λ (i : ℕ). build (λ (n : ℕ). cond (leb n (7 - i)) (getD (getD spectrumBits i []) n 0) 0) 8) (λ (i : ℕ). build (λ (n : ℕ). 0) 8) 8 refl r h in
+    let y : cond (leb p (7 - r)) (getD (getD spectrumBits r []) p 0) 0 ≡ 0 = build-agrees (λ (n : ℕ). cond (leb n (7 - r)) (getD (getD spectrumBits r []) n 0) 0) (λ (n : ℕ). 0) 8 z p (omega arith) in
     rw (le-leb p (7 - r) l) at y
 
 bits-whole : (r : ℕ) (z : ℤ) → r < 8 → getD (getD spectrumBits r []) (codePlace (z -ℤ stepShift r)) 0 ≡ bitsAt r (wholeN z)
@@ -112,16 +112,16 @@ bits-whole r z h = ap (λ (s : ℤ). getD (getD spectrumBits r []) (codePlace (z
         low-silent r _ h (place-neg r n h) ∙ sym (low-silent r (min (7 - r + 0) 15) h k)
 
 -- both ways of counting, at a whole part: what is added, and what is taken off with what is left
-added : ℕ → ℕ → ℕ
-added r w = cond (leb 1 w) (highAt r) 0 + cond (leb (farAt r) w) 1 0
+bitsAdded : ℕ → ℕ → ℕ
+bitsAdded r w = cond (leb 1 w) (highAt r) 0 + cond (leb (farAt r) w) 1 0
 
-taken : ℕ → ℕ → ℕ
-taken r w = bitsAt r w + (cond (leb (nearAt r) w) 1 0 + cond (leb (pastAt r) w) (dropAt r) 0)
+bitsTakenOff : ℕ → ℕ → ℕ
+bitsTakenOff r w = bitsAt r w + (cond (leb (nearAt r) w) 1 0 + cond (leb (pastAt r) w) (dropAt r) 0)
 
-small-parts : (r w : ℕ) → r < 8 → w ≤ 16 → added r w ≡ taken r w
-unfolding build added taken bitsAt nearAt farAt pastAt highAt dropAt spectrumBits
+small-parts : (r w : ℕ) → r < 8 → w ≤ 16 → bitsAdded r w ≡ bitsTakenOff r w
+unfolding build bitsAdded bitsTakenOff bitsAt nearAt farAt pastAt highAt dropAt spectrumBits
 small-parts r w h l =
-    alike (added r) (taken r) 17 (alike (λ (i : ℕ). build (added i) 17) (λ (i : ℕ). build (taken i) 17) 8 refl r h) w (omega arith)
+    build-agrees (bitsAdded r) (bitsTakenOff r) 17 (build-agrees (λ (i : ℕ). build (bitsAdded i) 17) (λ (i : ℕ). build (bitsTakenOff i) 17) 8 refl r h) w (omega arith)
 
 -- the marks are from 1 to 16, so that no larger whole part differs from 16
 marks-in : (r : ℕ) → r < 8 → (1 ≤ nearAt r) × (nearAt r ≤ 16) × (1 ≤ farAt r) × (farAt r ≤ 16) × (1 ≤ pastAt r) × (pastAt r ≤ 16)
@@ -142,8 +142,8 @@ capped k w h = go (leb k w) refl
     go true e = let z : k ≤ w = leb-true k w e in sym (le-leb k (min w 16) (omega arith))
     go false e = let z : w < k = leb-false k w e in sym (lt-leb k (min w 16) (omega arith))
 
-same-parts : (r w : ℕ) → r < 8 → added r w ≡ taken r w
-unfolding added taken bitsAt
+same-parts : (r w : ℕ) → r < 8 → bitsAdded r w ≡ bitsTakenOff r w
+unfolding bitsAdded bitsTakenOff bitsAt
 same-parts r w h =
     let m = marks-in r h in
     let l : min w 16 ≤ 16 = omega arith in
@@ -154,7 +154,7 @@ same-parts r w h =
 counted : (r : ℕ) (y : Float) → r < 8
     → cond (le (wholeF 1) y) (highAt r) 0 + cond (le (wholeF (farAt r)) y) 1 0
     ≡ getD (getD spectrumBits r []) (codePlace (toSigned 31 y -ℤ stepShift r)) 0 + (cond (le (wholeF (nearAt r)) y) 1 0 + cond (le (wholeF (pastAt r)) y) (dropAt r) 0)
-unfolding added taken
+unfolding bitsAdded bitsTakenOff
 counted r y h =
     let m = marks-in r h in
     rw (reaches-whole 1 y (omega arith) (omega arith), reaches-whole (farAt r) y (omega arith) (omega arith), reaches-whole (nearAt r) y (omega arith) (omega arith), reaches-whole (pastAt r) y (omega arith) (omega arith), bits-whole r (toSigned 31 y) h)

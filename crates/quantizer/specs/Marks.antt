@@ -8,26 +8,26 @@ use Rattle.rules.specs.Code.{stepOf}
 use Rattle.quantizer.specs.declared.counts.Marks.{Marks}
 
 -- a whole number as a single
-abbrev pub wholeF : ℕ → Float
+abbrev pub wholeF : (k : ℕ) → Float
 wholeF k = ofInt binary32 (pos k)
 
-unfoldable pub nearAt : ℕ → ℕ
+unfoldable pub nearAt : (resolution : ℕ) → ℕ
 nearAt r = getD (1 ∷ 2 ∷ 2 ∷ 4 ∷ 2 ∷ 4 ∷ 6 ∷ 8 ∷ []) r 0
 
-unfoldable pub farAt : ℕ → ℕ
+unfoldable pub farAt : (resolution : ℕ) → ℕ
 farAt r = getD (1 ∷ 3 ∷ 5 ∷ 5 ∷ 9 ∷ 9 ∷ 9 ∷ 9 ∷ []) r 0
 
-unfoldable pub pastAt : ℕ → ℕ
+unfoldable pub pastAt : (resolution : ℕ) → ℕ
 pastAt r = getD (1 ∷ 4 ∷ 6 ∷ 8 ∷ 10 ∷ 12 ∷ 14 ∷ 16 ∷ []) r 0
 
-unfoldable pub highAt : ℕ → ℕ
+unfoldable pub highAt : (resolution : ℕ) → ℕ
 highAt r = getD (0 ∷ 2 ∷ 3 ∷ 3 ∷ 4 ∷ 4 ∷ 4 ∷ 4 ∷ []) r 0
 
-unfoldable pub dropAt : ℕ → ℕ
+unfoldable pub dropAt : (resolution : ℕ) → ℕ
 dropAt r = getD (0 ∷ 2 ∷ 3 ∷ 3 ∷ 4 ∷ 4 ∷ 4 ∷ 0 ∷ []) r 0
 
-abbrev pub marksOf : Float → Float → Float → Float → ℕ → ℕ → Marks
+abbrev pub marksOf : (step near far past : Float) (high drop : ℕ) → Marks
 marksOf step near far past high drop = record { step = step; near = near; far = far; past = past; high = high; drop = drop }
 
-unfoldable pub marksAt : ℕ → Marks
+unfoldable pub marksAt : (resolution : ℕ) → Marks
 marksAt r = marksOf (stepOf r) (wholeF (nearAt r)) (wholeF (farAt r)) (wholeF (pastAt r)) (highAt r) (dropAt r)

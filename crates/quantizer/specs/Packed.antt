@@ -3,10 +3,10 @@ use mathlib.Core.List.{List, [], _∷_}
 use Prim.Native.Nat.{ℕ, _+_, _*_, _/_, _%_, _^_}
 
 -- the first in the lowest four bits
-unfoldable pub packed : List ℕ → ℕ
-packed [] = 0
-packed (x ∷ xs) = x + 16 * packed xs
+unfoldable pub packedRow : List ℕ → ℕ
+packedRow [] = 0
+packedRow (x ∷ xs) = x + 16 * packedRow xs
 
 -- the entry at a place
-abbrev pub entryOf : ℕ → ℕ → ℕ
+abbrev pub entryOf : (row place : ℕ) → ℕ
 entryOf row place = row / 2 ^ (4 * place) % 16

@@ -25,7 +25,7 @@ pub fn held(z: i64, low: i64, high: i64) -> i64
 }
 
 // The code before it is held: scaled x step + (step + 1), two roundings, truncated, less step + 0.5.
-pub fn raw_code(scaled: f32, r: u8) -> i64
+fn raw_code(scaled: f32, r: u8) -> i64
     requires { ⌜ r ≤ 15 ⌝ }
     ensures { λ z. ⌜ z ≡ rawCode r scaled ⌝ }
 {

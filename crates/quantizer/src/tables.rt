@@ -8,7 +8,7 @@ ghost use lib.Ieee.{nan};
 ghost use lib.ListN.{getD};
 ghost use Rattle.rules.specs.Tables.{deadZoneTable, spectrumBits, spectrumValue};
 ghost use Rattle.rules.specs.Code.{stepOf, stepShift, magnitudeBits, codeLimit};
-ghost use Rattle.quantizer.specs.Packed.{packed, entryOf};
+ghost use Rattle.quantizer.specs.Packed.{packedRow, entryOf};
 
 // The entry at a place of a row.
 pub fn digit(row: u64, place: usize) -> u32
@@ -42,7 +42,7 @@ fn whole_step(r: u8) -> u32
     if r < 8 { r as u32 + 1 } else { 1 << (r - 4) }
 }
 
-pub fn shift_of(r: u8) -> i64
+pub(crate) fn shift_of(r: u8) -> i64
     requires { ⌜ r ≤ 15 ⌝ }
     ensures { λ z. ⌜ z ≡ stepShift r ⌝ }
 {
@@ -50,7 +50,7 @@ pub fn shift_of(r: u8) -> i64
 }
 
 // QUANTIZER_INVERSE_STEP_SIZE.
-pub fn step_of(r: u8) -> f32
+pub(crate) fn step_of(r: u8) -> f32
     requires { ⌜ r ≤ 15 ⌝ }
     ensures { λ x. ⌜ x ≡ stepOf r ⌝ }
 {
@@ -85,7 +85,7 @@ pub fn dead_zone(r: u8) -> f32
 // QUANTIZE_SPECTRUM_BITS.
 fn length_row(r: u8) -> u64
     requires { ⌜ r < 8 ⌝ }
-    ensures { λ n. ⌜ n ≡ packed (getD spectrumBits r []) ⌝ }
+    ensures { λ n. ⌜ n ≡ packedRow (getD spectrumBits r []) ⌝ }
 {
     match r {
         0 => 0,
@@ -102,7 +102,7 @@ fn length_row(r: u8) -> u64
 // QUANTIZE_SPECTRUM_VALUE.
 fn word_row(r: u8) -> u64
     requires { ⌜ r < 8 ⌝ }
-    ensures { λ n. ⌜ n ≡ packed (getD spectrumValue r []) ⌝ }
+    ensures { λ n. ⌜ n ≡ packedRow (getD spectrumValue r []) ⌝ }
 {
     match r {
         0 => 0,

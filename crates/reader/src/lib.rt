@@ -3,14 +3,14 @@ ghost use mathlib.Core.Path.{_≡_};
 ghost use lib.ListN.{length, take};
 ghost use Rattle.rules.specs.Layout.{Sizes, frameSize, roomOf, Enough};
 ghost use Rattle.rules.specs.Reading.{strict};
-ghost use Rattle.rules.specs.Stage.{frameLent, recordLeft, readLeft, read};
-use frame_scan::settle;
+ghost use Rattle.rules.specs.Reader.{readerLent, readerLeft, scannedLeft, readerLaid, read};
+use reader_frame::read_exact;
 use rules::Layout;
 use rules::ReadAnswer;
 use rules::Room;
 
-// Lends the parts of the stated lengths; a longer buffer's rest stays.
-fn cut(
+// Lends the buffers' parts of the stated lengths; a longer buffer's rest stays.
+fn lend_exact(
     layout: Layout,
     frame: &[u8],
     factors: &mut [u8],
@@ -19,13 +19,15 @@ fn cut(
 ) -> ReadAnswer
     requires { ⌜ Sizes layout ⌝ }
     requires { ⌜ Enough layout (roomOf (length (now factors)) (length (now side)) (length (now codes)) (length (now frame))) ⌝ }
-    ensures { λ r. ⌜ recordLeft r (now (factors .exit)) (now (side .exit)) (now (codes .exit)) ≡ readLeft layout (frameLent (now (frame .entry)) (now (factors .entry)) (now (side .entry)) (now (codes .entry))) (strict layout (take (frameSize layout) (now (frame .entry)))) ⌝ }
+    ensures { λ r. ⌜ readerLeft r (now (factors .exit)) (now (side .exit)) (now (codes .exit))
+        ≡ readerLaid (readerLent (now (frame .entry)) (now (factors .entry)) (now (side .entry)) (now (codes .entry)))
+        (scannedLeft layout (strict layout (take (frameSize layout) (now (frame .entry))))) ⌝ }
 {
     let size = layout.frame_size;
     let f = layout.channels * 128;
     let s = layout.channels * 8;
     let n = layout.channels * 1024;
-    settle(
+    read_exact(
         layout,
         &frame[..size],
         &mut factors[..f],
@@ -42,7 +44,8 @@ pub fn read_frame(
     side: &mut [u8],
     codes: &mut [i32],
 ) -> ReadAnswer
-    ensures { λ r. ⌜ recordLeft r (now (factors .exit)) (now (side .exit)) (now (codes .exit)) ≡ read layout (frameLent (now (frame .entry)) (now (factors .entry)) (now (side .entry)) (now (codes .entry))) ⌝ }
+    ensures { λ r. ⌜ readerLeft r (now (factors .exit)) (now (side .exit)) (now (codes .exit))
+        ≡ read layout (readerLent (now (frame .entry)) (now (factors .entry)) (now (side .entry)) (now (codes .entry))) ⌝ }
 {
     if !rules::legal(layout) {
         return ReadAnswer::BadLayout;
@@ -56,5 +59,5 @@ pub fn read_frame(
     if !rules::has_room(layout, room) {
         return ReadAnswer::ShortBuffer;
     }
-    cut(layout, frame, factors, side, codes)
+    lend_exact(layout, frame, factors, side, codes)
 }

@@ -1,27 +1,27 @@
 // Frame-stage cases.
 ghost use Prim.Native.Nat.{_≤_};
-use answers::stage_refusal;
-use octets::places::ahead;
-use octets::places::clip;
-use octets::words::word;
+use refusals::stage_refusal;
+use replay_vectors::data::Numbers;
+use replay_vectors::data::bytes_at;
+use replay_vectors::data::numbers_at;
+use replay_vectors::layouts::can_say;
+use replay_vectors::layouts::layout_in_body;
+use replay_vectors::layouts::past_layout;
+use replay_vectors::lines::Left;
+use replay_vectors::lines::Outcome;
+use replay_vectors::lines::Verdict;
+use replay_vectors::lines::judged;
+use replay_vectors::lines::not_run;
+use replay_vectors::lines::told;
+use replay_vectors::runs::runs_f32;
+use replay_vectors::sums::sum_f32;
+use replay_vectors::sums::sum_i32;
+use replay_vectors::sums::sum_u8;
 use rules::Layout;
 use rules::StageAnswer;
-use vectors::data::Numbers;
-use vectors::data::bytes_at;
-use vectors::data::numbers_at;
-use vectors::layouts::can_say;
-use vectors::layouts::layout_of;
-use vectors::layouts::past_layout;
-use vectors::lines::Left;
-use vectors::lines::Outcome;
-use vectors::lines::Word;
-use vectors::lines::judged;
-use vectors::lines::not_run;
-use vectors::lines::told;
-use vectors::runs::runs_f32;
-use vectors::sums::sum_f32;
-use vectors::sums::sum_i32;
-use vectors::sums::sum_u8;
+use text::places::ahead;
+use text::places::clip;
+use text::words::word;
 
 fn stage_answer(answer: StageAnswer) -> Numbers {
     let StageAnswer::Delivered(level, boundary, pairs, bits) = answer else {
@@ -37,7 +37,7 @@ fn stage_answer(answer: StageAnswer) -> Numbers {
 }
 
 // The lengths that the buffers here can be lent at.
-fn held(lengths: Numbers) -> Numbers
+fn lent_lengths(lengths: Numbers) -> Numbers
     ensures { λ r. ⌜ (r .a ≤ 16384) × (r .b ≤ 16384) × (r .c ≤ 2048) × (r .d ≤ 128) × (r .e ≤ 2048) ⌝ }
 {
     Numbers {
@@ -50,7 +50,7 @@ fn held(lengths: Numbers) -> Numbers
 }
 
 // The sums of the buffers at their lengths.
-fn sums_of(
+fn stage_sums(
     lengths: Numbers,
     scaled: &[f32; 16384],
     codes: &[i32; 16384],
@@ -74,7 +74,7 @@ fn stage_call(layout: Layout, lengths: Numbers, spectra: &[f32], intensities: &[
     let mut factors = [0x5Au8; 2048];
     let mut side = [0x5Au8; 128];
     let mut frame = [0x5Au8; 2048];
-    let lent = held(lengths);
+    let lent = lent_lengths(lengths);
     let a = lent.a;
     let b = lent.b;
     let c = lent.c;
@@ -92,14 +92,14 @@ fn stage_call(layout: Layout, lengths: Numbers, spectra: &[f32], intensities: &[
     );
     Left {
         answer: stage_answer(answer),
-        sums: sums_of(lengths, &scaled, &codes, &factors, &side, &frame),
+        sums: stage_sums(lengths, &scaled, &codes, &factors, &side, &frame),
     }
 }
 
 // At a place the five lengths, then the answer and the sums that are to come.
-fn stage_run(body: &[u8], at: usize, spectra: &[f32], intensities: &[u8]) -> Outcome {
+fn judge_stage(body: &[u8], at: usize, spectra: &[f32], intensities: &[u8]) -> Outcome {
     let lengths = numbers_at(body, at);
-    let left = stage_call(layout_of(body), lengths, spectra, intensities);
+    let left = stage_call(layout_in_body(body), lengths, spectra, intensities);
     judged(body, ahead(at, 20), left, 40)
 }
 
@@ -109,12 +109,12 @@ fn stage_parts(body: &[u8], at: usize, spectra: &[f32], n: usize) -> Outcome {
     let a = intensities.start;
     let e = intensities.end;
     let m = clip(n, spectra.len());
-    stage_run(body, e, &spectra[..m], &body[a..e])
+    judge_stage(body, e, &spectra[..m], &body[a..e])
 }
 
-pub fn stage_case(body: &[u8]) -> Outcome {
+pub(crate) fn stage_case(body: &[u8]) -> Outcome {
     if !can_say(body) {
-        return not_run(Word::Skipped);
+        return not_run(Verdict::Skipped);
     }
     let at = past_layout(body);
     let mut spectra = [0.0f32; 16384];

@@ -3,20 +3,20 @@ use self::frames::stage_case;
 use self::records::check_case;
 use self::records::read_case;
 use self::records::write_case;
-use files::lines::say;
-use forms::lines::say_form;
-use octets::places::ahead;
-use octets::words::word;
-use octets::words::word_past;
-use vectors::data::bytes_at;
-use vectors::lines::Outcome;
-use vectors::lines::Tally;
-use vectors::lines::Word;
-use vectors::lines::counted;
-use vectors::lines::is_damaged;
-use vectors::lines::not_run;
-use vectors::lines::say_outcome;
-use vectors::lines::say_tally;
+use replay_vectors::data::bytes_at;
+use replay_vectors::lines::Outcome;
+use replay_vectors::lines::Tally;
+use replay_vectors::lines::Verdict;
+use replay_vectors::lines::add_to_tally;
+use replay_vectors::lines::is_damaged;
+use replay_vectors::lines::not_run;
+use replay_vectors::lines::say_outcome;
+use replay_vectors::lines::say_tally;
+use text::forms::say_form;
+use text::lines::say;
+use text::places::ahead;
+use text::words::word;
+use text::words::word_past;
 
 mod frames;
 mod records;
@@ -28,19 +28,19 @@ fn run_case(kind: usize, body: &[u8]) -> Outcome {
         2 => read_case(body),
         3 => write_case(body),
         4 => check_case(body),
-        _ => not_run(Word::Damaged),
+        _ => not_run(Verdict::Damaged),
     }
 }
 
 // Runs the case at a place, and says its line.
-fn replay_case(data: &[u8], at: usize, number: usize) -> Word {
+fn replay_case(data: &[u8], at: usize, number: usize) -> Verdict {
     let kind = word(data, at);
     let body = bytes_at(data, ahead(at, 4));
     let a = body.start;
     let e = body.end;
     let outcome = run_case(kind, &data[a..e]);
     say_outcome(number, kind, outcome);
-    outcome.word
+    outcome.verdict
 }
 
 // The place past the case at a place.
@@ -56,7 +56,7 @@ fn replay_cases(data: &[u8], tally: Tally) -> Tally {
     let mut i = 0;
     while i < count {
         let came = replay_case(data, at, i);
-        sums = counted(sums, came);
+        sums = add_to_tally(sums, came);
         if is_damaged(came) {
             return sums;
         }
@@ -71,13 +71,13 @@ fn replay_data(path: &[u8], data: &[u8], tally: Tally) -> Tally {
     if word(data, 0) != 0x5641_4348 {
         say(1, path);
         say(1, b" damaged: no file of vectors\n");
-        return counted(tally, Word::Damaged);
+        return add_to_tally(tally, Verdict::Damaged);
     }
     let version = word(data, 4);
     if version != 1 {
         say(1, path);
         say_form(1, b" damaged: its version is not 1 but #\n", &[version]);
-        return counted(tally, Word::Damaged);
+        return add_to_tally(tally, Verdict::Damaged);
     }
     replay_cases(data, tally)
 }
@@ -93,7 +93,7 @@ fn replay_file(path: &[u8], tally: Tally) -> Tally {
     let fd = os::open_read(path);
     if fd < 0 {
         os::fail(path);
-        return counted(tally, Word::Damaged);
+        return add_to_tally(tally, Verdict::Damaged);
     }
     replay_open(path, fd, tally)
 }

@@ -1,30 +1,30 @@
 // Cases of the strict reader, the record writer and the checksum.
-use answers::read_refusal;
-use answers::refused;
-use answers::write_refusal;
-use octets::places::ahead;
-use octets::places::clip;
-use octets::words::word;
+use refusals::read_refusal;
+use refusals::refused;
+use refusals::write_refusal;
+use replay_vectors::data::Numbers;
+use replay_vectors::data::bytes_at;
+use replay_vectors::data::numbers_at;
+use replay_vectors::layouts::can_say;
+use replay_vectors::layouts::layout_in_body;
+use replay_vectors::layouts::past_layout;
+use replay_vectors::lines::Left;
+use replay_vectors::lines::Outcome;
+use replay_vectors::lines::Verdict;
+use replay_vectors::lines::delivered;
+use replay_vectors::lines::judged;
+use replay_vectors::lines::not_run;
+use replay_vectors::lines::told;
+use replay_vectors::lines::verdict_for;
+use replay_vectors::runs::runs_i32;
+use replay_vectors::sums::sum_i32;
+use replay_vectors::sums::sum_u8;
 use rules::Layout;
 use rules::ReadAnswer;
 use rules::WriteAnswer;
-use vectors::data::Numbers;
-use vectors::data::bytes_at;
-use vectors::data::numbers_at;
-use vectors::layouts::can_say;
-use vectors::layouts::layout_of;
-use vectors::layouts::past_layout;
-use vectors::lines::Left;
-use vectors::lines::Outcome;
-use vectors::lines::Word;
-use vectors::lines::delivered;
-use vectors::lines::judged;
-use vectors::lines::not_run;
-use vectors::lines::told;
-use vectors::lines::word_for;
-use vectors::runs::runs_i32;
-use vectors::sums::sum_i32;
-use vectors::sums::sum_u8;
+use text::places::ahead;
+use text::places::clip;
+use text::words::word;
 
 fn read_answer(answer: ReadAnswer) -> Numbers {
     let ReadAnswer::Delivered(level, boundary, bits) = answer else {
@@ -34,7 +34,7 @@ fn read_answer(answer: ReadAnswer) -> Numbers {
 }
 
 // The sums of the buffers at their lengths.
-fn sums_of(
+fn read_sums(
     lengths: Numbers,
     factors: &[u8; 2048],
     side: &[u8; 128],
@@ -66,25 +66,25 @@ fn read_call(layout: Layout, lengths: Numbers, frame: &[u8]) -> Left {
     );
     Left {
         answer: read_answer(answer),
-        sums: sums_of(lengths, &factors, &side, &codes),
+        sums: read_sums(lengths, &factors, &side, &codes),
     }
 }
 
 // At a place the three lengths, then the answer and the sums that are to come.
-fn read_run(body: &[u8], at: usize, frame: &[u8]) -> Outcome {
+fn judge_read(body: &[u8], at: usize, frame: &[u8]) -> Outcome {
     let lengths = numbers_at(body, at);
-    let left = read_call(layout_of(body), lengths, frame);
+    let left = read_call(layout_in_body(body), lengths, frame);
     judged(body, ahead(at, 12), left, 32)
 }
 
-pub fn read_case(body: &[u8]) -> Outcome {
+pub(crate) fn read_case(body: &[u8]) -> Outcome {
     if !can_say(body) {
-        return not_run(Word::Skipped);
+        return not_run(Verdict::Skipped);
     }
     let frame = bytes_at(body, past_layout(body));
     let a = frame.start;
     let e = frame.end;
-    read_run(body, e, &body[a..e])
+    judge_read(body, e, &body[a..e])
 }
 
 fn write_answer(answer: WriteAnswer) -> Numbers {
@@ -95,7 +95,7 @@ fn write_answer(answer: WriteAnswer) -> Numbers {
 }
 
 // The sum of the frame's first n bytes.
-fn sum_of(n: usize, frame: &[u8; 2048]) -> Numbers {
+fn write_sums(n: usize, frame: &[u8; 2048]) -> Numbers {
     Numbers {
         a: sum_u8(frame, n),
         b: 0,
@@ -127,12 +127,12 @@ fn write_call(
     );
     Left {
         answer: write_answer(answer),
-        sums: sum_of(n, &frame),
+        sums: write_sums(n, &frame),
     }
 }
 
 // Lends the first codes. At a place the frame's length, then the answer and the sum that are to come.
-fn write_run(
+fn judge_write(
     body: &[u8],
     at: usize,
     factors: &[u8],
@@ -140,7 +140,7 @@ fn write_run(
     codes: &[i32],
     count: usize,
 ) -> Outcome {
-    let layout = layout_of(body);
+    let layout = layout_in_body(body);
     let head = numbers_at(body, past_layout(body));
     let n = word(body, at);
     let k = clip(count, codes.len());
@@ -149,15 +149,15 @@ fn write_run(
 }
 
 // The codes stand at a place, and the frame's length behind them.
-fn write_codes(body: &[u8], at: usize, factors: &[u8], side: &[u8]) -> Outcome {
+fn write_with_codes(body: &[u8], at: usize, factors: &[u8], side: &[u8]) -> Outcome {
     let mut codes = [0i32; 16384];
     let next = runs_i32(body, at, &mut codes);
-    write_run(body, next, factors, side, &codes, word(body, at))
+    judge_write(body, next, factors, side, &codes, word(body, at))
 }
 
-pub fn write_case(body: &[u8]) -> Outcome {
+pub(crate) fn write_case(body: &[u8]) -> Outcome {
     if !can_say(body) {
-        return not_run(Word::Skipped);
+        return not_run(Verdict::Skipped);
     }
     let factors = bytes_at(body, ahead(past_layout(body), 8));
     let a = factors.start;
@@ -165,21 +165,21 @@ pub fn write_case(body: &[u8]) -> Outcome {
     let side = bytes_at(body, b);
     let c = side.start;
     let d = side.end;
-    write_codes(body, d, &body[a..b], &body[c..d])
+    write_with_codes(body, d, &body[a..b], &body[c..d])
 }
 
-fn wide(check: u16) -> usize {
+fn check_number(check: u16) -> usize {
     check as usize
 }
 
-pub fn check_case(body: &[u8]) -> Outcome {
+pub(crate) fn check_case(body: &[u8]) -> Outcome {
     let bytes = bytes_at(body, 0);
     let a = bytes.start;
     let e = bytes.end;
-    let check = wide(crc::crc16_checksum(&body[a..e]));
+    let check = check_number(crc::crc16_checksum(&body[a..e]));
     let is_same = check == word(body, e);
     Outcome {
         answer: told(refused(0, check)),
-        word: word_for(is_same, ahead(e, 4) == body.len()),
+        verdict: verdict_for(is_same, ahead(e, 4) == body.len()),
     }
 }

@@ -11,14 +11,15 @@ use lib.Seq.{getD-take, length-take-le}
 use Rattle.buffers.specs.Walk.{build, AtMost}
 use Rattle.buffers.proofs.Tests.{cond-bound}
 use Rattle.buffers.proofs.Build.{length-build, build-at, build-of, map-build}
-use Rattle.buffers.proofs.Blocks.{length-blocks}
 use Rattle.buffers.proofs.Most.{build-most, blocks-most}
 use Rattle.rules.specs.Tables.{resolutionCurve}
 use Rattle.rules.specs.Layout.{Sizes, codedAt, part, factorLength}
 use Rattle.rules.specs.Resolution.{heldPosition, noiseAt, resolutionIn, resolution, resolutionAt, resolutionsOf, bandResolution, channelResolutions, allResolutions}
-use Rattle.rules.specs.Record.{Chan, resolutions, chanOf, resolutionsIn}
+use Rattle.rules.specs.Record.{Chan, resolutions, chanOf}
+use Rattle.resolutions.specs.Coded.{codedResolutions}
 use Rattle.rules.specs.declared.Layout.{Layout}
-use Rattle.rules.proofs.Cuts.{build-same, block-part, length-part}
+use Rattle.rules.proofs.Bands.{resolutionsAt, resolutions-part}
+use Rattle.rules.proofs.Cuts.{build-same, length-part}
 use Rattle.rules.proofs.Stores.{coded-few}
 
 pub resolution-le : (noise factor : ℕ) → resolution noise factor ≤ 15
@@ -28,14 +29,6 @@ resolution-le noise factor = cond-bound (eqb factor 0) (λ _. zero-le) (λ _. mi
 pub band-le : (level boundary : ℕ) (fs : List ℕ) (coded b : ℕ) → bandResolution level boundary fs coded b ≤ 15
 unfolding bandResolution resolutionAt
 band-le level boundary fs coded b = cond-bound (ltb b coded) (λ _. resolution-le _ _) (λ _. zero-le)
-
-pub channel-size : (level boundary : ℕ) (fs : List ℕ) (coded : ℕ) → length (channelResolutions level boundary fs coded) ≡ 128
-unfolding channelResolutions
-channel-size level boundary fs coded = length-build (bandResolution level boundary fs coded) 128
-
--- channel c's, in a frame
-abbrev pub resolutionsAt : Layout → ℕ → ℕ → List ℕ → ℕ → List ℕ
-resolutionsAt l level boundary factors c = channelResolutions level boundary (part 128 factors c) (codedAt l c)
 
 -- of a channel's 128 resolutions the coded ones are its coded factors'
 coded-resolutions : (level boundary : ℕ) (fs : List ℕ) (coded : ℕ) → length fs ≡ 128 → coded ≤ 128
@@ -55,16 +48,11 @@ module _ (l : Layout) (level boundary : ℕ) (factors : List ℕ) where
   resolutions-most =
       blocks-most 15 (resolutionsAt l level boundary factors) (λ c. build-most 15 (bandResolution level boundary (part 128 factors c) (codedAt l c)) (band-le _ _ _ _) 128) (l .channels)
 
-  pub resolutions-long : length (allResolutions l level boundary factors) ≡ factorLength l
-  unfolding allResolutions
-  resolutions-long = length-blocks (resolutionsAt l level boundary factors) 128 (l .channels) (λ c _. channel-size _ _ _ _) (l .channels) (omega arith)
-
   -- those of the coded bands are those of the record in the buffers
   pub resolutions-are : (side : List ℕ) → Sizes l → length factors ≡ factorLength l
-      → build (resolutionsIn l (allResolutions l level boundary factors)) (l .channels) ≡ resolutions level boundary (build (chanOf l factors side) (l .channels))
-  unfolding allResolutions
+      → build (codedResolutions l (allResolutions l level boundary factors)) (l .channels) ≡ resolutions level boundary (build (chanOf l factors side) (l .channels))
   resolutions-are side z e =
       build-same _ (λ c. resolutionsOf level boundary (take (codedAt l c) (part 128 factors c))) (l .channels)
-      (λ c h. ap (take (codedAt l c)) (block-part (resolutionsAt l level boundary factors) 128 (l .channels) c (λ i _. channel-size _ _ _ _) h)
+      (λ c h. ap (take (codedAt l c)) (resolutions-part l level boundary factors c h)
       ∙ coded-resolutions level boundary (part 128 factors c) (codedAt l c) (length-part 128 (l .channels) c factors (omega arith) h) (coded-few l z c))
       ∙ sym (map-build (λ (c : Chan). resolutionsOf level boundary (c .factors)) (chanOf l factors side) (l .channels))

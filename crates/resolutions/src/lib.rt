@@ -7,11 +7,14 @@ ghost use lib.ListN.{length, getD, take, drop};
 ghost use Rattle.rules.specs.Tables.{resolutionCurve};
 ghost use Rattle.rules.specs.Layout.{Sizes};
 ghost use Rattle.rules.specs.Resolution.{noiseAt, heldPosition, resolutionIn, resolution, channelResolutions, allResolutions};
-ghost use Rattle.quantizer.specs.Packed.{packed};
+ghost use Rattle.quantizer.specs.Packed.{packedRow};
 use quantizer::held;
 use quantizer::tables::digit;
 use rules::Layout;
 use rules::coded_count;
+
+// Room for the resolutions of sixteen channels, of which a caller lends the layout's.
+pub const RESOLUTION_ROOM: usize = 2048;
 
 pub fn noise_at(level: usize, boundary: usize, band: usize) -> usize
     ensures { λ r. ⌜ (r ≡ noiseAt level boundary band) × (r ≤ level) ⌝ }
@@ -38,7 +41,7 @@ fn held_position(noise: usize, factor: u8) -> usize
 // SCALE_TO_RESOLUTION_CURVE, sixteen entries in a number as in the quantizer's tables.
 fn curve_row(i: usize) -> u64
     requires { ⌜ i ≤ 3 ⌝ }
-    ensures { λ r. ⌜ r ≡ packed (take 16 (drop (16 * i) resolutionCurve)) ⌝ }
+    ensures { λ r. ⌜ r ≡ packedRow (take 16 (drop (16 * i) resolutionCurve)) ⌝ }
 {
     match i {
         0 => 0xCCCD_DDDD_DEEE_EEEF,
@@ -95,7 +98,7 @@ fn band_resolution(level: usize, boundary: usize, factor: u8, coded: usize, band
     0
 }
 
-pub fn channel_resolutions(
+fn channel_resolutions(
     level: usize,
     boundary: usize,
     factors: &[u8],
@@ -113,7 +116,7 @@ pub fn channel_resolutions(
     }
 }
 
-pub fn frame_resolutions(
+pub fn calculate_frame_resolutions(
     layout: Layout,
     level: usize,
     boundary: usize,

@@ -11,7 +11,7 @@ use lib.ListN.{length, getD}
 use lib.Dec.{T, ltb, eqb}
 use lib.Pow.{pow-pos}
 use Rattle.bits.specs.Bits.{bits}
-use Rattle.rules.specs.Format.{Read, ok, bad, pure, _>>=_, strip, number, oneOf, whole, Lawful}
+use Rattle.rules.specs.Format.{Read, ok, bad, pure, _>>=_, strip, number, oneOf, asOne, Lawful}
 use Rattle.rules.specs.Tables.{spectrumBits, spectrumValue, maxBitTable}
 use Rattle.rules.specs.Signed.{heldZ}
 use Rattle.rules.specs.Code.{codePlace, magnitudeBits, codeLimit}
@@ -20,7 +20,7 @@ use Rattle.rules.specs.Fields.{smallBits, signBits, codeBits}
 use Rattle.rules.specs.Reading.{codesTo, signed, readCode}
 use Rattle.rules.proofs.Formats.{twice, pure-fits, iff-fits, bind-fits, whole-fits}
 use Rattle.rules.proofs.Numbers.{bool-case, leb-case, eqb-case, number-fits}
-use Rattle.rules.proofs.Prefix.{both, free, every, taken, oneOf-fits, oneOf-full}
+use Rattle.rules.proofs.Prefix.{both, free, every, isRead, oneOf-fits, oneOf-full}
 
 -- a test at each number below n
 abbrev pub below : (ℕ → Bool) → ℕ → Bool
@@ -41,9 +41,9 @@ unfolding smallBits codePlace heldZ spectrumBits spectrumValue bits strip
 tables-free r h = below-at (λ r. free (smallBits r) (codesTo r)) 8 tt r h
 
 -- .. and each run of as many bits as MAX_BIT_TABLE says begins with a word
-pub tables-full : (r : ℕ) → r < 8 → T (every (getD maxBitTable r 0) (λ s. taken (oneOf (smallBits r) (codesTo r) s)))
+pub tables-full : (r : ℕ) → r < 8 → T (every (getD maxBitTable r 0) (λ s. isRead (oneOf (smallBits r) (codesTo r) s)))
 unfolding smallBits codePlace heldZ spectrumBits spectrumValue maxBitTable bits strip oneOf
-tables-full r h = below-at (λ r. every (getD maxBitTable r 0) (λ s. taken (oneOf (smallBits r) (codesTo r) s))) 8 tt r h
+tables-full r h = below-at (λ r. every (getD maxBitTable r 0) (λ s. isRead (oneOf (smallBits r) (codesTo r) s))) 8 tt r h
 
 pub codes-are : (r : ℕ) (c : ℤ) → List·Memᴰ c (codesTo r) ↔ (natAbs c ≤ r)
 codes-are r c = (to r, from r c)
@@ -82,7 +82,7 @@ words-apart r h c d k m t e =
 pub word-begins : (r : ℕ) → r < 8 → (s : List Bool) → getD maxBitTable r 0 ≤ length s → (c : ℤ) × (t : List Bool) × (natAbs c ≤ r) × (s ≡ smallBits r c ++ t)
 word-begins r h s l = go (oneOf (smallBits r) (codesTo r) s) refl (oneOf-full (smallBits r) (codesTo r) (getD maxBitTable r 0) (tables-full r h) s l)
   where
-    go : (x : Read ℤ) → oneOf (smallBits r) (codesTo r) s ≡ x → T (taken x) → (c : ℤ) × (t : List Bool) × (natAbs c ≤ r) × (s ≡ smallBits r c ++ t)
+    go : (x : Read ℤ) → oneOf (smallBits r) (codesTo r) s ≡ x → T (isRead x) → (c : ℤ) × (t : List Bool) × (natAbs c ≤ r) × (s ≡ smallBits r c ++ t)
     go (ok c t) e k = let (m, q) = word-fits r h .back s c t e in (c, t, m, q)
     go (bad n k) e m = absurd m
 
@@ -132,10 +132,10 @@ pub code-fits : (r : ℕ) → Lawful (LegalCode r) (codeBits r) (readCode r)
 unfolding codeBits readCode codeRange codeLimit
 code-fits r =
     eqb-case (λ b. Lawful (LegalCode r) (λ c. cond b [] (cond (ltb r 8) (smallBits r c) (bits (magnitudeBits r) (natAbs c) ++ signBits c)))
-    (cond b (pure (pos 0)) (cond (ltb r 8) (oneOf (smallBits r) (codesTo r)) (whole (number (magnitudeBits r) >>= signed))))) r 0
+    (cond b (pure (pos 0)) (cond (ltb r 8) (oneOf (smallBits r) (codesTo r)) (asOne (number (magnitudeBits r) >>= signed))))) r 0
     (λ e. iff-fits (none-is r e) (pure-fits (pos 0)))
     (λ _. bool-case (λ b. Lawful (λ c. natAbs c ≤ cond b r (2 ^ magnitudeBits r - 1))
     (λ c. cond b (smallBits r c) (bits (magnitudeBits r) (natAbs c) ++ signBits c))
-    (cond b (oneOf (smallBits r) (codesTo r)) (whole (number (magnitudeBits r) >>= signed)))) (ltb r 8)
+    (cond b (oneOf (smallBits r) (codesTo r)) (asOne (number (magnitudeBits r) >>= signed)))) (ltb r 8)
     (λ h. word-fits r (ltb-true r 8 h))
     (λ h. whole-fits (iff-fits (λ c. ((λ x. omega arith), (λ x. (omega (arith, pow-pos (magnitudeBits r)), tt)))) (bind-fits natAbs (number-fits (magnitudeBits r)) (λ m _. sign-fits m)))))

@@ -15,13 +15,13 @@ use Rattle.rules.specs.Tables.{resolutionCurve, maxBitTable, spectrumBit
 use Rattle.rules.specs.Signed.{heldZ}
 use Rattle.floats.specs.Single.{noAverage, withEight}
 use Rattle.rules.specs.Layout.{startBand, kindAt, kindsOf, ceilDiv, bandsPerGroup, groupCount}
-use Rattle.rules.specs.Hfr.{taken, groupAverage, spectrumAverage}
+use Rattle.rules.specs.Hfr.{bandsTaken, groupAverage, spectrumAverage}
 use Rattle.rules.specs.Resolution.{noiseAt, curvePosition, heldPosition, resolutionIn, resolution, resolutionAt, resolutionsOf}
 use Rattle.rules.specs.Width.{near, laterCost, deltaCost, cost, allZero, cheaper, width}
 use Rattle.rules.specs.Code.{codePlace, magnitudeBits}
 use Rattle.rules.specs.Record.{Rec}
 use Rattle.rules.specs.Fields.{deltaSymbol, deltaBits, smallBits, codeBits, fields}
-use Rattle.rules.specs.Frame.{payloadBits, frameOf}
+use Rattle.rules.specs.Frame.{filledFields, frameOf}
 use Rattle.rules.specs.Reading.{readCode, readRecord, readFields, accepted, faulty, scan, strict}
 use Rattle.rules.specs.declared.ChannelType.the-variants.{Discrete, StereoPrimary, StereoSecondary}
 use Rattle.rules.specs.declared.Layout.{Layout}
@@ -72,7 +72,7 @@ head level boundary s = bits 16 0xFFFF ++ (bits 9 level ++ (bits 7 boundary ++ s
 
 pub record Worked : Type 0 where
   -- five silent channels in 47 bits; the sixth's width would pass the end
-  silent : scan (flat 5 1) (payloadBits (flat 5 1) (quiet 5)) ≡ accepted (quiet 5) 47
+  silent : scan (flat 5 1) (filledFields (flat 5 1) (quiet 5)) ≡ accepted (quiet 5) 47
   sixth : scan (flat 6 1) (take 48 (fields (flat 6 1) (quiet 6))) ≡ faulty 13 47
   -- in bytes; with a bit turned; a wrong sync under a right check
   bytes : frameOf (flat 5 1) (quiet 5) ≡ 255 ∷ 255 ∷ 0 ∷ 0 ∷ 0 ∷ 0 ∷ 0 ∷ 216 ∷ []
@@ -98,9 +98,9 @@ pub record Worked : Type 0 where
   sign : scan (flat 1 1) (head 0 0 (bits 3 6 ++ (bits 6 63 ++ bits 11 1))) ≡ faulty 13 41
   fill : scan (flat 1 1) (head 0 0 (bits 3 0 ++ bits 13 1)) ≡ faulty 14 47
 
-pub worked : Worked
-unfolding strict isSealed checksum frameOf pack bitsOf fields payloadBits scan readFields readRecord kindsOf kindAt build groupCount bandsPerGroup ceilDiv width allZero cheaper cost deltaCost laterCost near bits value number resolutionsOf resolutionAt resolution resolutionIn heldPosition curvePosition noiseAt resolutionCurve heldZ codeBits readCode smallBits codePlace magnitudeBits maxBitTable spectrumBits spectrumValue strip oneOf deltaBits deltaSymbol
-worked = record {
+pub worked-frames : Worked
+unfolding strict isSealed checksum frameOf pack bitsOf fields filledFields scan readFields readRecord kindsOf kindAt build groupCount bandsPerGroup ceilDiv width allZero cheaper cost deltaCost laterCost near bits value number resolutionsOf resolutionAt resolution resolutionIn heldPosition curvePosition noiseAt resolutionCurve heldZ codeBits readCode smallBits codePlace magnitudeBits maxBitTable spectrumBits spectrumValue strip oneOf deltaBits deltaSymbol
+worked-frames = record {
   silent = refl;
   sixth = refl;
   bytes = refl;
@@ -129,5 +129,5 @@ module _ (l : Layout) (start : startBand l ≡ 100) (bands : l .total ≡ 117) w
   seventeen-groups = (rw (start, bands), rw (start, bands))
 
   pub past-total : (xs : List Float) → spectrumAverage l xs 5 ≡ withEight xs 117 128 (withEight xs 116 128 (withEight xs 115 128 noAverage))
-  unfolding spectrumAverage groupAverage taken bandsPerGroup ceilDiv
+  unfolding spectrumAverage groupAverage bandsTaken bandsPerGroup ceilDiv
   past-total xs = rw (start, bands)

@@ -8,7 +8,7 @@ use native.Mathlib.Omega.{arith}
 use lib.ListN.{length, take, drop, take-append-drop, length-append}
 use lib.Seq.{take-append-le, take-append-seam}
 use lib.Dec.{T}
-use Rattle.rules.specs.Format.{Read, ok, bad, Reader, pure, andThen, _>>=_, here, keep, check, from, whole, _⊗_, walk, walkBits, Walked, Lawful}
+use Rattle.rules.specs.Format.{Read, ok, bad, Reader, pure, andThen, _>>=_, here, keep, require, from, asOne, _⊗_, walk, walkBits, Walked, Lawful}
 
 pub bad≢ok : {A : Type 0} {n l : ℕ} {a : A} {t : List Bool} → bad n l ≡ ok a t → ⊥
 bad≢ok e = let z : _≡_ {A = ℕ} 0 1 = cc in omega arith
@@ -65,7 +65,7 @@ module _ {A : Type 0} where
   }
 
   pub check-fits : {L : A → Type 0} {w : A → List Bool} {p : Reader A} (n l : ℕ) (test : A → Bool) → Lawful L w p
-      → Lawful (λ a. L a × T (test a)) w (check n l test p)
+      → Lawful (λ a. L a × T (test a)) w (require n l test p)
   check-fits {L} {w} {p} n l test P = record {
     there = λ a t h. rw (P .there a t (h .0)) (keep-ok n l (test a) (h .1));
     back = λ s a t e.
@@ -79,7 +79,7 @@ module _ {A : Type 0} where
   from-back l (ok b u) e = e
   from-back l (bad n k) e = absurd (bad≢ok e)
 
-  pub whole-fits : {L : A → Type 0} {w : A → List Bool} {p : Reader A} → Lawful L w p → Lawful L w (whole p)
+  pub whole-fits : {L : A → Type 0} {w : A → List Bool} {p : Reader A} → Lawful L w p → Lawful L w (asOne p)
   whole-fits {p} P = record { there = λ a t h. rw (P .there a t h) refl; back = λ s a t e. P .back s a t (from-back _ (p s) e) }
 
   -- the same value in another dress

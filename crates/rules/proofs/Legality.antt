@@ -16,11 +16,12 @@ use Rattle.buffers.proofs.Build.{length-build, build-at}
 use Rattle.buffers.proofs.Every.{every-at, every-all}
 use Rattle.rules.specs.Format.{Each}
 use Rattle.rules.specs.Layout.{Sizes, kindAt, kindsOf, codedAt, sidesAt, sideWidth, spectrumLength, factorLength, sideLength, part}
-use Rattle.rules.specs.Resolution.{resolutionAt, resolutionsOf}
-use Rattle.rules.specs.Record.{Chan, Rec, LegalHead, LegalCode, LegalChan, resolutions, Legal, chanOf, codesIn, recOf, pad, noChan, storeFactors, storeSide, storeCodes, legalHead, legalRow, legalCodes, legalChannel, legalRecord, CodesInRange}
+use Rattle.rules.specs.Resolution.{resolutionAt, resolutionsOf, channelResolutions}
+use Rattle.rules.specs.Record.{Chan, Rec, LegalHead, LegalCode, LegalChan, resolutions, Legal, chanOf, codesIn, recOf, pad, noChan, storeFactors, storeSide, storeCodes, codeRange, legalHead, legalRow, legalSubframe, legalCodes, legalChannel, legalChannels, legalRecord, CodesInRange}
 use Rattle.rules.specs.declared.Layout.{Layout}
 use Rattle.rules.proofs.Layouts.{sides-le}
-use Rattle.rules.proofs.Cuts.{blocks-same, length-part, parts-all, pad-back, pad-blank, each-at, each-of, times-at, times-of}
+use Rattle.rules.proofs.Bands.{coded-band, blank-band, resolutionsAt, resolutions-part}
+use Rattle.rules.proofs.Cuts.{by-order, blocks-same, length-part, parts-all, pad-back, pad-blank, each-at, each-of, times-at, times-of}
 use Rattle.rules.proofs.Stores.{coded-few, length-resolutions, factors-part, side-part, codes-part, chan-legal, factors-long, side-long, bands-legal, codes-long, stored}
 
 -- ---- the tests, one by one
@@ -63,23 +64,41 @@ no-size : (z : ℤ) → natAbs z ≤ 0 → z ≡ pos 0
 no-size (pos n) h = let e : n ≡ 0 = omega arith in ap pos e
 no-size (negsuc n) h = absurd (omega arith)
 
-module _ (level boundary n : ℕ) (fs : List ℕ) (cs : List ℤ) where
-  codes-within : legalCodes level boundary n fs cs ≡ true → (s b : ℕ) → s < 8 → b < 128 → b < n → LegalCode (resolutionAt level boundary fs b) (getD cs (s * 128 + b) (pos 0))
-  unfolding legalCodes
-  codes-within e s b h g k = leb-true _ _ (rw (lt-ltb b n k) at (every-at _ 128 b (every-at _ 8 s e h) g))
+-- a code of a channel, in its subframe's row
+pub row-code : (cs : List ℤ) (s b : ℕ) → b < 128 → getD (part 128 cs s) b (pos 0) ≡ getD cs (s * 128 + b) (pos 0)
+row-code cs s b h = getD-take 128 (drop (s * 128) cs) b (pos 0) h ∙ getD-drop (s * 128) cs b (pos 0)
 
-  codes-blank : legalCodes level boundary n fs cs ≡ true → (s b : ℕ) → s < 8 → b < 128 → n ≤ b → getD cs (s * 128 + b) (pos 0) ≡ pos 0
-  unfolding legalCodes
-  codes-blank e s b h g k = no-size _ (leb-true _ _ (rw (le-ltb b n k) at (every-at _ 128 b (every-at _ 8 s e h) g)))
+range-none : codeRange 0 ≡ 0
+unfolding codeRange
+range-none = refl
+
+-- a channel's codes, at the resolutions of its bands
+module _ (level boundary n : ℕ) (fs : List ℕ) (cs : List ℤ) where
+  abbrev rs : List ℕ
+  rs = channelResolutions level boundary fs n
+
+  code-within : legalCodes rs cs ≡ true → (s b : ℕ) → s < 8 → b < 128 → natAbs (getD cs (s * 128 + b) (pos 0)) ≤ codeRange (getD rs b 0)
+  unfolding legalCodes legalSubframe
+  code-within e s b h g =
+      let k : leb (natAbs (getD (part 128 cs s) b (pos 0))) (codeRange (getD rs b 0)) ≡ true = every-at _ 128 b (every-at (λ j. legalSubframe rs (part 128 cs j)) 8 s e h) g in
+      rw (row-code cs s b g) at (leb-true (natAbs (getD (part 128 cs s) b (pos 0))) (codeRange (getD rs b 0)) k)
+
+  codes-within : legalCodes rs cs ≡ true → (s b : ℕ) → s < 8 → b < 128 → b < n → LegalCode (resolutionAt level boundary fs b) (getD cs (s * 128 + b) (pos 0))
+  codes-within e s b h g k = rw (coded-band level boundary fs n b g k) at (code-within e s b h g)
+
+  codes-blank : legalCodes rs cs ≡ true → (s b : ℕ) → s < 8 → b < 128 → n ≤ b → getD cs (s * 128 + b) (pos 0) ≡ pos 0
+  codes-blank e s b h g k = no-size _ (rw (blank-band level boundary fs n b g k, range-none) at (code-within e s b h g))
 
   codes-of : ((s b : ℕ) → s < 8 → b < 128 → b < n → LegalCode (resolutionAt level boundary fs b) (getD cs (s * 128 + b) (pos 0)))
-      → ((s b : ℕ) → s < 8 → b < 128 → n ≤ b → getD cs (s * 128 + b) (pos 0) ≡ pos 0) → legalCodes level boundary n fs cs ≡ true
-  unfolding legalCodes
+      → ((s b : ℕ) → s < 8 → b < 128 → n ≤ b → getD cs (s * 128 + b) (pos 0) ≡ pos 0) → legalCodes rs cs ≡ true
+  unfolding legalCodes legalSubframe
   codes-of f g =
       every-all _ 8
       (λ s h. every-all _ 128
-      (λ b k. cond-both (λ m. leb (natAbs (getD cs (s * 128 + b) (pos 0))) m ≡ true) (ltb b n)
-      (λ e. le-leb _ _ (f s b h k (ltb-true b n e))) (λ e. rw (g s b h k (ltb-false b n e)))))
+      (λ b k. rw (row-code cs s b k)
+      (by-order b n
+      (λ lt. rw (coded-band level boundary fs n b k lt) (le-leb _ _ (f s b h k lt)))
+      (λ ge. rw (blank-band level boundary fs n b k ge, range-none, g s b h k ge)))))
 
 -- ---- the test of the whole, by what is written and what is not
 
@@ -104,11 +123,11 @@ module _ (l : Layout) (level boundary : ℕ) (F S : List ℕ) (C : List ℤ) whe
   SideOk c = legalRow (sidesAt l c) (2 ^ sideWidth (kindAt l c)) 8 (part 8 S c)
 
   abbrev CodesOk : ℕ → Bool
-  CodesOk c = legalCodes level boundary (codedAt l c) (part 128 F c) (part 1024 C c)
+  CodesOk c = legalCodes (resolutionsAt l level boundary F c) (part 1024 C c)
 
   channel-ok : legalRecord l level boundary F S C ≡ true → (c : ℕ) → c < l .channels → (FactorsOk c && (SideOk c && CodesOk c)) ≡ true
-  unfolding legalRecord legalChannel
-  channel-ok e c h = every-at _ (l .channels) c (and-snd (legalHead level boundary) _ e) h
+  unfolding legalRecord legalChannels legalChannel
+  channel-ok e c h = rw (resolutions-part l level boundary F c h) at (every-at _ (l .channels) c (and-snd (legalHead level boundary) _ e) h)
 
   factors-ok : legalRecord l level boundary F S C ≡ true → (c : ℕ) → c < l .channels → FactorsOk c ≡ true
   factors-ok e c h = and-fst (FactorsOk c) _ (channel-ok e c h)
@@ -136,15 +155,15 @@ module _ (l : Layout) (level boundary : ℕ) (F S : List ℕ) (C : List ℤ) whe
   }
 
   pub held-record : Held l level boundary F S C → Blank l F S C → legalRecord l level boundary F S C ≡ true
-  unfolding legalRecord legalChannel
+  unfolding legalRecord legalChannels legalChannel
   held-record h o =
       and-true (legal-head level boundary (h .head))
       (every-all _ (l .channels)
-      (λ c k. and-true
+      (λ c k. rw (resolutions-part l level boundary F c k) (and-true
       (row-of (codedAt l c) 64 128 (part 128 F c) (λ i _ g. h .factors c i k g) (λ i q g. o .factors c i k g q))
       (and-true
       (row-of (sidesAt l c) (2 ^ sideWidth (kindAt l c)) 8 (part 8 S c) (λ i _ g. h .side c i k g) (λ i q g. o .side c i k g q))
-      (codes-of level boundary (codedAt l c) (part 128 F c) (part 1024 C c) (λ s b g _ q. h .codes c s b k g q) (λ s b g q p. o .codes c s b k g p q)))))
+      (codes-of level boundary (codedAt l c) (part 128 F c) (part 1024 C c) (λ s b g _ q. h .codes c s b k g q) (λ s b g q p. o .codes c s b k g p q))))))
 
 -- ---- the record that lies there
 
@@ -174,10 +193,6 @@ module _ (level boundary n : ℕ) (fs : List ℕ) (long : length (take n fs) ≡
     each-code e b h =
         rw (coded-resolution b h, getD-take n cs b (pos 0) h) at
         (each-at LegalCode 0 (pos 0) (resolutionsOf level boundary (take n fs)) (take n cs) e b (omega (arith, resolved)))
-
--- a code of a channel, in its subframe's row
-pub row-code : (cs : List ℤ) (s b : ℕ) → b < 128 → getD (part 128 cs s) b (pos 0) ≡ getD cs (s * 128 + b) (pos 0)
-row-code cs s b h = getD-take 128 (drop (s * 128) cs) b (pos 0) h ∙ getD-drop (s * 128) cs b (pos 0)
 
 module _ (l : Layout) (level boundary : ℕ) (F S : List ℕ) (C : List ℤ) where
   rec-chan : (c : ℕ) → c < l .channels → getD ((recOf l level boundary F S C) .chans) c noChan ≡ chanOf l F S c

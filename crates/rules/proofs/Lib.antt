@@ -16,6 +16,7 @@ pub mod Prefix
 pub mod Codes
 pub mod Deltas
 -- records in buffers
+pub mod Bands
 pub mod Stores
 pub mod Legality
 pub mod Made

@@ -18,15 +18,17 @@ use Rattle.rules.specs.Tables.{scalingTable}
 use Rattle.rules.specs.Layout.{Sizes, startBand, kindAt, isSecondary, secondaryAt, groupCount, codedAt, sideWidth, sidesAt, spectrumLength, factorLength, sideLength, part}
 use Rattle.rules.specs.Factor.{countLe, factorOf, peakOf, bandFactor, channelFactors, allFactors}
 use Rattle.rules.specs.Scaling.{scaledBand, channelScaled, allScaled}
-use Rattle.rules.specs.Hfr.{hfrScale, channelSide, allSide}
+use Rattle.rules.specs.Hfr.{hfrScale, intensitySide, scaleSide, channelSide, sideAt, allSide}
 use Rattle.rules.specs.Level.{clearTwo, clearPair}
-use Rattle.rules.specs.Code.{codeAt, channelCodes, allCodes}
+use Rattle.rules.specs.Resolution.{allResolutions}
+use Rattle.rules.specs.Code.{recordedCode, codeAt, subframeCodes, channelCodes, allCodes}
 use Rattle.rules.specs.Record.{legalRecord, CodesInRange}
 use Rattle.rules.specs.Fields.{fields}
 use Rattle.rules.specs.Refusals.{delivered}
-use Rattle.rules.specs.Stage.{Lent, Made, badIntensity, made, madeRecord, finished}
+use Rattle.rules.specs.Stage.{Made, badIntensity, madeFrom, made, madeRecord, finished}
 use Rattle.rules.specs.declared.Layout.{Layout}
 use Rattle.rules.proofs.Layouts.{sides-le}
+use Rattle.rules.proofs.Bands.{blank-band, resolutions-part}
 use Rattle.rules.proofs.Cuts.{by-order, length-part, part-of-front, block-part, set-keeps}
 use Rattle.rules.proofs.Stores.{coded-few}
 use Rattle.rules.proofs.Legality.{Held, Blank, held-record, row-code}
@@ -112,15 +114,15 @@ pub record Intensities (l : Layout) (is : List ℕ) : Type 0 where
   pub small : (c j : ℕ) → c < l .channels → j < 8 → secondaryAt l c ≡ true → getD (part 8 is c) j 0 ≤ 15
 
 -- an index that a search has passed does not have the property
-went-on : (t : Bool) (i k r : ℕ) → i + suc k ≤ cond t i r → (t ≡ false) × (suc i + k ≤ r)
-went-on true i k r h = absurd (omega arith)
-went-on false i k r h = (refl, omega arith)
+passed-by : (t : Bool) (i k r : ℕ) → i + suc k ≤ cond t i r → (t ≡ false) × (suc i + k ≤ r)
+passed-by true i k r h = absurd (omega arith)
+passed-by false i k r h = (refl, omega arith)
 
 first-passed : (p : ℕ → Bool) (i k : ℕ) → i + k ≤ firstFrom p i k → (j : ℕ) → i ≤ j → j < i + k → p j ≡ false
 unfolding firstFrom
 first-passed p i zero h j g q = absurd (omega arith)
 first-passed p i (suc k) h j g q =
-    let (e, m) = went-on (p i) i k (firstFrom p (suc i) k) h in
+    let (e, m) = passed-by (p i) i k (firstFrom p (suc i) k) h in
     by-order j (suc i) (λ lt. let n : j ≡ i = omega arith in rw n e) (λ ge. first-passed p (suc i) k m j ge (omega arith))
 
 not-above : (x : ℕ) (t : Bool) → (ltb 15 x && t) ≡ false → t ≡ true → x ≤ 15
@@ -154,22 +156,36 @@ side-blank : (t : Bool) (v w j g : ℕ) → j < 8 → cond t 8 g ≤ j → cond 
 side-blank true v w j g h k = absurd (omega arith)
 side-blank false v w j g h k = rw (le-ltb j g k)
 
+pub intensity-size : (is : List ℕ) → length (intensitySide is) ≡ 8
+unfolding intensitySide
+intensity-size is = length-build _ 8
+
+pub scale-size : (l : Layout) (xs sc : List Float) → length (scaleSide l xs sc) ≡ 8
+unfolding scaleSide
+scale-size l xs sc = length-build _ 8
+
 pub side-size : (l : Layout) (c : ℕ) (xs sc : List Float) (is : List ℕ) → length (channelSide l c xs sc is) ≡ 8
 unfolding channelSide
-side-size l c xs sc is = length-build _ 8
+side-size l c xs sc is = cond-both (λ (ys : List ℕ). length ys ≡ 8) (secondaryAt l c) (λ _. intensity-size is) (λ _. scale-size l xs sc)
+
+-- value j of a channel's, of both kinds
+side-value : (t : Bool) (l : Layout) (xs sc : List Float) (is : List ℕ) (j : ℕ) → j < 8
+    → getD (cond t (intensitySide is) (scaleSide l xs sc)) j 0 ≡ cond t (getD is j 0) (cond (ltb j (groupCount l)) (hfrScale l xs sc j) 0)
+unfolding intensitySide scaleSide
+side-value true l xs sc is j h = build-at _ 8 j 0 h
+side-value false l xs sc is j h = build-at _ 8 j 0 h
 
 module _ (l : Layout) (spectra scaled : List Float) (is : List ℕ) where
-  abbrev sideIn : ℕ → List ℕ
-  sideIn c = channelSide l c (part 1024 spectra c) (part 1024 scaled c) (part 8 is c)
-
   side-long : length (allSide l spectra scaled is) ≡ sideLength l
   unfolding allSide
-  side-long = length-blocks sideIn 8 (l .channels) (λ c _. side-size l c _ _ _) (l .channels) (omega arith)
+  side-long = length-blocks (sideAt l spectra scaled is) 8 (l .channels) (λ c _. side-size l c _ _ _) (l .channels) (omega arith)
 
   side-at : (c j : ℕ) → c < l .channels → j < 8 → getD (part 8 (allSide l spectra scaled is) c) j 0
       ≡ cond (secondaryAt l c) (getD (part 8 is c) j 0) (cond (ltb j (groupCount l)) (hfrScale l (part 1024 spectra c) (part 1024 scaled c) j) 0)
   unfolding allSide channelSide
-  side-at c j h g = rw (block-part sideIn 8 (l .channels) c (λ i _. side-size l i (part 1024 spectra i) (part 1024 scaled i) (part 8 is i)) h) (build-at _ 8 j 0 g)
+  side-at c j h g =
+      rw (block-part (sideAt l spectra scaled is) 8 (l .channels) c (λ i _. side-size l i (part 1024 spectra i) (part 1024 scaled i) (part 8 is i)) h)
+      (side-value (secondaryAt l c) l (part 1024 spectra c) (part 1024 scaled c) (part 8 is c) j g)
 
   side-below : Intensities l is → (c j : ℕ) → c < l .channels → j < sidesAt l c → getD (part 8 (allSide l spectra scaled is) c) j 0 < 2 ^ sideWidth (kindAt l c)
   unfolding secondaryAt hfrScale
@@ -184,32 +200,34 @@ module _ (l : Layout) (spectra scaled : List Float) (is : List ℕ) where
 
 -- ---- codes and scaled values
 
-module _ (l : Layout) (level boundary : ℕ) (scaled : List Float) (F : List ℕ) where
+-- of any resolutions
+module _ (l : Layout) (rs : List ℕ) (scaled : List Float) where
   abbrev codesOf : ℕ → List ℤ
-  codesOf c = channelCodes level boundary (part 1024 scaled c) (part 128 F c) (codedAt l c)
-
-  abbrev codeIn : ℕ → ℕ → ℕ → ℤ
-  codeIn c s b = codeAt level boundary (part 1024 scaled c) (part 128 F c) (codedAt l c) s b
+  codesOf c = channelCodes (part 128 rs c) (part 1024 scaled c)
 
   codes-size : (c : ℕ) → c < l .channels → length (codesOf c) ≡ 1024
-  unfolding channelCodes
-  codes-size c _ = length-blocks (λ s. build (codeIn c s) 128) 128 8 (λ s _. length-build (codeIn c s) 128) 8 (omega arith)
+  unfolding channelCodes subframeCodes
+  codes-size c _ = length-blocks (subframeCodes (part 128 rs c) (part 1024 scaled c)) 128 8 (λ s _. length-build _ 128) 8 (omega arith)
 
-  pub codes-long : length (allCodes l level boundary scaled F) ≡ spectrumLength l
+  pub codes-long : length (allCodes l rs scaled) ≡ spectrumLength l
   unfolding allCodes
   codes-long = length-blocks codesOf 1024 (l .channels) codes-size (l .channels) (omega arith)
 
-  pub code-at : (c s b : ℕ) → c < l .channels → s < 8 → b < 128 → getD (part 1024 (allCodes l level boundary scaled F) c) (s * 128 + b) (pos 0) ≡ codeIn c s b
-  unfolding allCodes channelCodes
+  pub code-at : (c s b : ℕ) → c < l .channels → s < 8 → b < 128
+      → getD (part 1024 (allCodes l rs scaled) c) (s * 128 + b) (pos 0) ≡ codeAt (part 128 rs c) (part 1024 scaled c) s b
+  unfolding allCodes channelCodes subframeCodes
   code-at c s b h g k =
       rw (block-part codesOf 1024 (l .channels) c codes-size h)
       (sym (row-code (codesOf c) s b k)
-      ∙ rw (block-part (λ j. build (codeIn c j) 128) 128 8 s (λ j _. length-build (codeIn c j) 128) g) (build-at (codeIn c s) 128 b (pos 0) k))
+      ∙ rw (block-part (subframeCodes (part 128 rs c) (part 1024 scaled c)) 128 8 s (λ j _. length-build _ 128) g) (build-at (codeAt (part 128 rs c) (part 1024 scaled c) s) 128 b (pos 0) k))
 
-  -- past the coded count there is none
-  codes-zero : (c s b : ℕ) → c < l .channels → s < 8 → codedAt l c ≤ b → b < 128 → getD (part 1024 (allCodes l level boundary scaled F) c) (s * 128 + b) (pos 0) ≡ pos 0
-  unfolding codeAt
-  codes-zero c s b h g q k = code-at c s b h g k ∙ rw (le-ltb b (codedAt l c) q)
+-- past the coded count there is none
+codes-zero : (l : Layout) (level boundary : ℕ) (scaled : List Float) (F : List ℕ) (c s b : ℕ) → c < l .channels → s < 8 → codedAt l c ≤ b → b < 128
+    → getD (part 1024 (allCodes l (allResolutions l level boundary F) scaled) c) (s * 128 + b) (pos 0) ≡ pos 0
+unfolding codeAt recordedCode
+codes-zero l level boundary scaled F c s b h g q k =
+    code-at l (allResolutions l level boundary F) scaled c s b h g k
+    ∙ rw (resolutions-part l level boundary F c h, blank-band level boundary (part 128 F c) (codedAt l c) b k q)
 
 pub scaled-size : (xs : List Float) (fs : List ℕ) (coded : ℕ) → length (channelScaled xs fs coded) ≡ 1024
 unfolding channelScaled scaledBand
@@ -219,45 +237,45 @@ scaled-size xs fs coded = length-blocks (scaledBand xs fs coded) 8 128 (λ b _. 
 
 module _ (l : Layout) (spectra : List Float) (is : List ℕ) where
   made-fine : Factors l (made l spectra is .found .factors)
-  unfolding made
+  unfolding made madeFrom
   made-fine = found-keeps l _ (Factors l) (clear-factors l) (allFactors l spectra) (all-factors l spectra)
 
   pub made-factors : length (made l spectra is .found .factors) ≡ factorLength l
   made-factors = made-fine .long
 
   pub made-side : length (made l spectra is .side) ≡ sideLength l
-  unfolding made
+  unfolding made madeFrom
   made-side = side-long l spectra (allScaled l spectra (allFactors l spectra)) is
 
   pub made-codes : length (made l spectra is .codes) ≡ spectrumLength l
-  unfolding made
-  made-codes = codes-long l _ _ _ _
+  unfolding made madeFrom
+  made-codes = codes-long l _ _
 
   pub made-level : made l spectra is .found .level ≤ 255
-  unfolding made
+  unfolding made madeFrom
   made-level = found-level l _ _
 
   pub made-pairs : Sizes l → made l spectra is .found .pairs ≤ 63
-  unfolding made
+  unfolding made madeFrom
   made-pairs z = found-few l _ _ z
 
   -- refusal 5's number
   pub made-none : Sizes l → made l spectra is .found .level ≡ 255 → made l spectra is .found .pairs ≡ (startBand l - 1) / 2
-  unfolding made
+  unfolding made madeFrom
   made-none z e = found-none l _ _ z e
 
   pub made-boundary : made l spectra is .boundary ≤ 127
-  unfolding made
+  unfolding made madeFrom
   made-boundary = boundary-of-le _ _
 
   made-silent : made l spectra is .found .level ≡ 0 → made l spectra is .boundary ≡ 0
-  unfolding made
+  unfolding made madeFrom
   made-silent e = boundary-silent _ _ e
 
   made-held : Sizes l → Intensities l is → made l spectra is .found .level ≤ 254
       → CodesInRange l (made l spectra is .found .level) (made l spectra is .boundary) (made l spectra is .found .factors) (made l spectra is .codes)
       → Held l (made l spectra is .found .level) (made l spectra is .boundary) (made l spectra is .found .factors) (made l spectra is .side) (made l spectra is .codes)
-  unfolding made
+  unfolding made madeFrom
   made-held z small h codes = record {
     head = record { levels = h; boundaries = made-boundary; silent = made-silent };
     factors = λ c i k g. let q = coded-few l z c in let v = made-fine .held c i k (omega arith) in omega arith;
@@ -266,7 +284,7 @@ module _ (l : Layout) (spectra : List Float) (is : List ℕ) where
   }
 
   made-blank : Blank l (made l spectra is .found .factors) (made l spectra is .side) (made l spectra is .codes)
-  unfolding made
+  unfolding made madeFrom
   made-blank = record {
     factors = λ c i k g q. made-fine .blank c i k q g;
     side = side-zero l spectra _ is;
@@ -280,7 +298,7 @@ module _ (l : Layout) (spectra : List Float) (is : List ℕ) where
   made-legal z small h codes = held-record l _ _ _ _ _ (made-held z small h codes) made-blank
 
 -- the bits told are those that the fields take, as the estimate's are not
-pub finished-outcome : (l : Layout) (t : Lent) (m : Made) →
-    finished l t m .outcome ≡ delivered (m .found .level ∷ m .boundary ∷ m .found .pairs ∷ length (fields l (madeRecord l m)) ∷ [])
+pub finished-outcome : (l : Layout) (m : Made) →
+    finished l m .outcome ≡ delivered (m .found .level ∷ m .boundary ∷ m .found .pairs ∷ length (fields l (madeRecord l m)) ∷ [])
 unfolding finished
-finished-outcome l t m = refl
+finished-outcome l m = refl

@@ -92,9 +92,9 @@ every-at (suc k) f h [] e = absurd (omega arith)
 every-at (suc k) f h (true ∷ s) e = every-at k (λ s. f (true ∷ s)) (both (every k (λ s. f (true ∷ s))) (every k (λ s. f (false ∷ s))) h .0) s (omega arith)
 every-at (suc k) f h (false ∷ s) e = every-at k (λ s. f (false ∷ s)) (both (every k (λ s. f (true ∷ s))) (every k (λ s. f (false ∷ s))) h .1) s (omega arith)
 
-abbrev pub taken : {A : Type 0} → Read A → Bool
-taken (ok a t) = true
-taken (bad n l) = false
+abbrev pub isRead : {A : Type 0} → Read A → Bool
+isRead (ok a t) = true
+isRead (bad n l) = false
 
 strip-more : (u s r t : List Bool) → strip u s ≡ some r → strip u (s ++ t) ≡ some (r ++ t)
 unfolding strip
@@ -106,21 +106,21 @@ strip-more (false ∷ u) (true ∷ s) r t e = cc
 strip-more (false ∷ u) (false ∷ s) r t e = strip-more u s r t e
 
 module _ {A : Type 0} (w : A → List Bool) where
-  more : (cs : List A) (s t : List Bool) → T (taken (oneOf w cs s)) → T (taken (oneOf w cs (s ++ t)))
+  more : (cs : List A) (s t : List Bool) → T (isRead (oneOf w cs s)) → T (isRead (oneOf w cs (s ++ t)))
   unfolding oneOf
   more [] s t h = absurd h
   more (c ∷ cs) s t h = go (strip (w c) s) refl h (more cs s t)
     where
-      pass : (o : Option (List Bool)) (r : Read A) → T (taken r) → T (taken (orElse o c r))
+      pass : (o : Option (List Bool)) (r : Read A) → T (isRead r) → T (isRead (orElse o c r))
       pass none r g = g
       pass (some v) r g = tt
 
-      go : (o : Option (List Bool)) → strip (w c) s ≡ o → T (taken (orElse o c (oneOf w cs s))) → (T (taken (oneOf w cs s)) → T (taken (oneOf w cs (s ++ t))))
-          → T (taken (orElse (strip (w c) (s ++ t)) c (oneOf w cs (s ++ t))))
+      go : (o : Option (List Bool)) → strip (w c) s ≡ o → T (isRead (orElse o c (oneOf w cs s))) → (T (isRead (oneOf w cs s)) → T (isRead (oneOf w cs (s ++ t))))
+          → T (isRead (orElse (strip (w c) (s ++ t)) c (oneOf w cs (s ++ t))))
       go none e g f = pass (strip (w c) (s ++ t)) (oneOf w cs (s ++ t)) (f g)
       go (some r) e g f = rw (strip-more (w c) s r t e) tt
 
-  pub oneOf-full : (cs : List A) (k : ℕ) → T (every k (λ s. taken (oneOf w cs s))) → (s : List Bool) → k ≤ length s → T (taken (oneOf w cs s))
+  pub oneOf-full : (cs : List A) (k : ℕ) → T (every k (λ s. isRead (oneOf w cs s))) → (s : List Bool) → k ≤ length s → T (isRead (oneOf w cs s))
   oneOf-full cs k h s l =
-      subst (λ x. T (taken (oneOf w cs x))) (take-append-drop k s)
-      (more cs (take k s) (drop k s) (every-at k (λ s. taken (oneOf w cs s)) h (take k s) (length-take-le k s l)))
+      subst (λ x. T (isRead (oneOf w cs x))) (take-append-drop k s)
+      (more cs (take k s) (drop k s) (every-at k (λ s. isRead (oneOf w cs s)) h (take k s) (length-take-le k s l)))

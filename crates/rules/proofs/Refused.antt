@@ -3,6 +3,7 @@ use mathlib.Core.Path.{_≡_, refl, sym, _∙_}
 use mathlib.Core.Bool.{Bool, true, false, cond, not, _&&_, true≢false}
 use mathlib.Core.Logic.{_≢_}
 use mathlib.Core.List.{List}
+use mathlib.Core.Option.{Option, none, some}
 use Prim.Native.Nat.{ℕ, _≤_}
 use native.Mathlib.Omega.{arith}
 use lib.Dec.{ltb}
@@ -14,10 +15,13 @@ use Rattle.buffers.proofs.Tests.{cond-both}
 use Rattle.rules.specs.Layout.{legalLayout, frameSize, spectrumLength, sideLength}
 use Rattle.rules.specs.Record.{legalRecord}
 use Rattle.rules.specs.Fields.{fields}
-use Rattle.rules.specs.Frame.{payload}
-use Rattle.rules.specs.Refusals.{delivered, refused}
+use Rattle.rules.specs.Frame.{fieldEnd}
+use Rattle.rules.specs.Refusals.{Outcome, delivered, refused}
 use Rattle.rules.specs.Reading.{Scanned, accepted, faulty, strict}
-use Rattle.rules.specs.Stage.{laid, noFloats, noCodes, noFactors, noSide, noFrame, Lent, Left, kept, cleared, stageRoom, badIntensity, badSpectrum, Made, made, madeRecord, finished, settled, stage, RecordLent, FrameLeft, writeRoom, lentRecord, packed, written, FrameLent, RecordLeft, readRoom, untouched, readLeft, read}
+use Rattle.rules.specs.Lent.{laid, noFloats, noCodes, noFactors, noSide, noFrame}
+use Rattle.rules.specs.Stage.{StageLent, StageLeft, kept, cleared, stageLaid, gated, lentRoom, stageHasRoom, badIntensity, badSpectrum, gate, Made, made, madeRecord, finished, packed, settled, stage}
+use Rattle.rules.specs.Writer.{WriterLent, WriterLeft, writerRoom, lentRecord, recordWritten, written}
+use Rattle.rules.specs.Reader.{ReaderLent, ReaderLeft, readerRoom, untouched, scannedLeft, readerLaid, read}
 use Rattle.rules.specs.declared.Layout.{Layout}
 
 never : {xs : List ℕ} {n k : ℕ} → delivered xs ≡ refused n k → ⊥
@@ -25,11 +29,11 @@ never e = let z : _≡_ {A = ℕ} 0 1 = cc e in omega arith
 
 -- ---- the stage: 1 to 4 keep every buffer, 5 to 7 clear the stated lengths
 
-module _ (l : Layout) (t : Lent) where
-  abbrev Holds : Left → List Float → List ℤ → List ℕ → List ℕ → List ℕ → Type 0
+module _ (l : Layout) (t : StageLent) where
+  abbrev Holds : StageLeft → List Float → List ℤ → List ℕ → List ℕ → List ℕ → Type 0
   Holds x scaled codes factors side frame = (x .scaled ≡ scaled) × (x .codes ≡ codes) × (x .factors ≡ factors) × (x .side ≡ side) × (x .frame ≡ frame)
 
-  abbrev Leaves : Left → Type 0
+  abbrev Leaves : StageLeft → Type 0
   Leaves x =
       (n k : ℕ) → x .outcome ≡ refused n k →
       (n ≤ 4 → Holds x (t .scaled) (t .codes) (t .factors) (t .side) (t .frame))
@@ -38,72 +42,77 @@ module _ (l : Layout) (t : Lent) where
   keeps : (a b : ℕ) → a ≤ 4 → Leaves (kept t (refused a b))
   keeps a b h n k e = let z : a ≡ n = cc e in (λ _. (refl, refl, refl, refl, refl), λ g. absurd (omega arith))
 
-  clears : (a b : ℕ) → 5 ≤ a → Leaves (cleared l t (refused a b))
+  clears : (a b : ℕ) → 5 ≤ a → Leaves (stageLaid t (cleared l (refused a b)))
   clears a b h n k e = let z : a ≡ n = cc e in (λ g. absurd (omega arith), λ _. (refl, refl, refl, refl, refl))
 
-  settled-leaves : (m : Made) → Leaves (settled l t m)
-  unfolding settled finished
+  abbrev Clears : StageLeft → Type 0
+  Clears x = Leaves (stageLaid t x)
+
+  settled-leaves : (m : Made) → Clears (settled l m)
+  unfolding settled packed finished
   settled-leaves m =
-      cond-both Leaves (ltb 254 (m .found .level)) (λ _. clears 5 (m .found .pairs) (omega arith))
-      (λ _. cond-both Leaves (ltb 127 (m .boundary)) (λ _. clears 6 (m .found .level) (omega arith))
-      (λ _. cond-both Leaves (ltb (payload l) (length (fields l (madeRecord l m)))) (λ _. clears 7 0 (omega arith))
+      cond-both Clears (ltb 254 (m .found .level)) (λ _. clears 5 (m .found .pairs) (omega arith))
+      (λ _. cond-both Clears (ltb 127 (m .boundary)) (λ _. clears 6 (m .found .level) (omega arith))
+      (λ _. cond-both Clears (ltb (fieldEnd l) (length (fields l (madeRecord l m)))) (λ _. clears 7 0 (omega arith))
       (λ _ n k e. absurd (never e))))
 
   pub refused-leaves : Leaves (stage l t)
-  unfolding stage
+  unfolding stage gate gated
   refused-leaves =
       let i : ℕ = first (badIntensity l (t .intensities)) (sideLength l) in
       let s : ℕ = first (badSpectrum (t .spectra)) (spectrumLength l) in
-      cond-both Leaves (not (legalLayout l)) (λ _. keeps 1 0 (omega arith))
-      (λ _. cond-both Leaves (not (stageRoom l t)) (λ _. keeps 2 0 (omega arith))
-      (λ _. cond-both Leaves (ltb i (sideLength l)) (λ _. keeps 3 i (omega arith))
-      (λ _. cond-both Leaves (ltb s (spectrumLength l)) (λ _. keeps 4 s (omega arith))
+      let x : StageLeft = settled l (made l (take (spectrumLength l) (t .spectra)) (take (sideLength l) (t .intensities))) in
+      let P : Option Outcome → Type 0 = λ g. Leaves (gated g t x) in
+      cond-both P (not (legalLayout l)) (λ _. keeps 1 0 (omega arith))
+      (λ _. cond-both P (not (stageHasRoom l (lentRoom t))) (λ _. keeps 2 0 (omega arith))
+      (λ _. cond-both P (ltb i (sideLength l)) (λ _. keeps 3 i (omega arith))
+      (λ _. cond-both P (ltb s (spectrumLength l)) (λ _. keeps 4 s (omega arith))
       (λ _. settled-leaves (made l (take (spectrumLength l) (t .spectra)) (take (sideLength l) (t .intensities)))))))
 
 -- ---- the record writer: 15 is judged before 7 and keeps the frame, 7 clears it
 
-module _ (l : Layout) (t : RecordLent) where
-  abbrev WriteLeaves : FrameLeft → Type 0
+module _ (l : Layout) (t : WriterLent) where
+  abbrev WriteLeaves : WriterLeft → Type 0
   WriteLeaves x = (n k : ℕ) → x .outcome ≡ refused n k → (n ≢ 7 → x .frame ≡ t .frame) × (n ≡ 7 → x .frame ≡ laid (noFrame l) (t .frame))
 
   write-keeps : (a : ℕ) → a ≢ 7 → WriteLeaves (record { outcome = refused a 0; frame = t .frame })
   write-keeps a h n k e = let z : a ≡ n = cc e in (λ _. refl, λ g. absurd (h (z ∙ g)))
 
   pub write-leaves : WriteLeaves (written l t)
-  unfolding written packed
+  unfolding written recordWritten
   write-leaves =
       cond-both WriteLeaves (not (legalLayout l)) (λ _. write-keeps 1 (λ e. absurd (omega arith)))
-      (λ _. cond-both WriteLeaves (not (writeRoom l t)) (λ _. write-keeps 2 (λ e. absurd (omega arith)))
+      (λ _. cond-both WriteLeaves (not (writerRoom l t)) (λ _. write-keeps 2 (λ e. absurd (omega arith)))
       (λ _. cond-both WriteLeaves (not (legalRecord l (t .level) (t .boundary) (t .factors) (t .side) (t .codes))) (λ _. write-keeps 15 (λ e. absurd (omega arith)))
-      (λ _. cond-both WriteLeaves (ltb (payload l) (length (fields l (lentRecord l t)))) (λ _ n k e. let z : 7 ≡ n = cc e in (λ g. absurd (g (sym z)), λ _. refl))
+      (λ _. cond-both WriteLeaves (ltb (fieldEnd l) (length (fields l (lentRecord l t)))) (λ _ n k e. let z : 7 ≡ n = cc e in (λ g. absurd (g (sym z)), λ _. refl))
       (λ _ n k e. absurd (never e)))))
 
-  pub not-legal : legalRecord l (t .level) (t .boundary) (t .factors) (t .side) (t .codes) ≡ false → packed l t ≡ record { outcome = refused 15 0; frame = t .frame }
-  unfolding packed
+  pub not-legal : legalRecord l (t .level) (t .boundary) (t .factors) (t .side) (t .codes) ≡ false → recordWritten l t ≡ record { outcome = refused 15 0; frame = t .frame }
+  unfolding recordWritten
   not-legal e = rw e
 
 -- ---- the strict reader: 1 and 2 keep every buffer, the others clear the stated lengths
 
-module _ (l : Layout) (t : FrameLent) where
-  pub read-keeps : legalLayout l && readRoom l t ≡ false → (read l t .factors ≡ t .factors) × (read l t .side ≡ t .side) × (read l t .codes ≡ t .codes)
+module _ (l : Layout) (t : ReaderLent) where
+  pub read-keeps : legalLayout l && readerRoom l t ≡ false → (read l t .factors ≡ t .factors) × (read l t .side ≡ t .side) × (read l t .codes ≡ t .codes)
   unfolding read
-  read-keeps = by-cases (legalLayout l) (readRoom l t)
+  read-keeps = by-cases (legalLayout l) (readerRoom l t)
     where
       by-cases : (a b : Bool) → a && b ≡ false →
-          let x : RecordLeft = cond (not a) (untouched t (refused 1 0)) (cond (not b) (untouched t (refused 2 0)) (readLeft l t (strict l (take (frameSize l) (t .frame))))) in
+          let x : ReaderLeft = cond (not a) (untouched t (refused 1 0)) (cond (not b) (untouched t (refused 2 0)) (readerLaid t (scannedLeft l (strict l (take (frameSize l) (t .frame)))))) in
           (x .factors ≡ t .factors) × (x .side ≡ t .side) × (x .codes ≡ t .codes)
       by-cases false b e = (refl, refl, refl)
       by-cases true false e = (refl, refl, refl)
       by-cases true true e = absurd (true≢false e)
 
-  abbrev Cleared : RecordLeft → Type 0
+  abbrev Cleared : ReaderLeft → Type 0
   Cleared x = (x .factors ≡ laid (noFactors l) (t .factors)) × (x .side ≡ laid (noSide l) (t .side)) × (x .codes ≡ laid (noCodes l) (t .codes))
 
-  left-clears : (s : Scanned) (n k : ℕ) → readLeft l t s .outcome ≡ refused n k → Cleared (readLeft l t s)
-  unfolding readLeft
+  left-clears : (s : Scanned) (n k : ℕ) → scannedLeft l s .outcome ≡ refused n k → Cleared (readerLaid t (scannedLeft l s))
+  unfolding scannedLeft
   left-clears (accepted r c) n k e = absurd (never e)
   left-clears (faulty a b) n k e = (refl, refl, refl)
 
-  pub read-clears : legalLayout l ≡ true → readRoom l t ≡ true → (n k : ℕ) → read l t .outcome ≡ refused n k → Cleared (read l t)
+  pub read-clears : legalLayout l ≡ true → readerRoom l t ≡ true → (n k : ℕ) → read l t .outcome ≡ refused n k → Cleared (read l t)
   unfolding read
   read-clears legal room n k e = rw (legal, room) (left-clears (strict l (take (frameSize l) (t .frame))) n k (rw (legal, room) at e))

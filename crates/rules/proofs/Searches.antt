@@ -37,8 +37,8 @@ module _ (l : Layout) (over : List ℕ → ℕ → Bool) (Q : List ℕ → Type 
     factors = q;
   }
 
-  next : (n top pairs : ℕ) (f : Found) → 3 ≤ top → Searched Q n (top - 2) (pairs + 1) f → Searched Q (suc n) top pairs f
-  next n top pairs f h s =
+  one-removal-more : (n top pairs : ℕ) (f : Found) → 3 ≤ top → Searched Q n (top - 2) (pairs + 1) f → Searched Q (suc n) top pairs f
+  one-removal-more n top pairs f h s =
       let w : (top - 1) / 2 ≡ suc ((top - 2 - 1) / 2) = omega arith in
       record { level = s .level; few = omega arith; none = λ m e. let k = s .none (omega arith) e in omega arith; factors = s .factors }
 
@@ -49,7 +49,7 @@ module _ (l : Layout) (over : List ℕ → ℕ → Bool) (Q : List ℕ → Type 
       cond-both {A = Found} (Searched Q (suc n) top pairs) (ltb 254 (levelOf (over fs)))
       (λ _. cond-both {A = Found} (Searched Q (suc n) top pairs) (ltb top 3)
       (λ t. stopped (suc n) top pairs fs q (λ _ _. ltb-true top 3 t))
-      (λ t. next n top pairs (remove l over n (top - 2) (pairs + 1) (clearPair l fs (top - 2))) (ltb-false top 3 t)
+      (λ t. one-removal-more n top pairs (remove l over n (top - 2) (pairs + 1) (clearPair l fs (top - 2))) (ltb-false top 3 t)
       (searched n (top - 2) (pairs + 1) (clearPair l fs (top - 2)) (keeps fs (top - 2) q))))
       (λ t. stopped (suc n) top pairs fs q (λ _ e. absurd (omega (arith, ltb-false 254 (levelOf (over fs)) t))))
 

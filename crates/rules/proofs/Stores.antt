@@ -10,10 +10,11 @@ use Rattle.buffers.proofs.Build.{length-build, build-at, build-of}
 use Rattle.buffers.proofs.Blocks.{length-blocks, blocks-at}
 use Rattle.rules.specs.Format.{Each}
 use Rattle.rules.specs.Layout.{Sizes, kindAt, kindsOf, codedCount, codedAt, sideCount, sidesAt, sideWidth, spectrumLength, factorLength, sideLength, part}
-use Rattle.rules.specs.Resolution.{resolutionAt, resolutionsOf}
-use Rattle.rules.specs.Record.{Chan, Rec, LegalCode, LegalChan, resolutions, Legal, chanOf, codesIn, recOf, pad, noChan, storeFactors, storeSide, storeCodes, legalChannel, legalRecord}
+use Rattle.rules.specs.Resolution.{resolutionAt, resolutionsOf, allResolutions}
+use Rattle.rules.specs.Record.{Chan, Rec, LegalCode, LegalChan, resolutions, Legal, chanOf, codesIn, recOf, pad, noChan, storeFactors, storeSide, storeCodes, legalChannel, legalChannels, legalRecord}
 use Rattle.rules.specs.declared.Layout.{Layout}
 use Rattle.rules.proofs.Layouts.{coded-le, sides-le}
+use Rattle.rules.proofs.Bands.{resolutions-front}
 use Rattle.rules.proofs.Cuts.{build-same, every-same, part-of-front, block-part, length-pad, pad-take, each-length, each-at, times-length, times-at}
 
 -- a coded count fits its row
@@ -161,7 +162,11 @@ module _ (l : Layout) (level boundary : ℕ) (F S : List ℕ) (C : List ℤ) whe
       λ i. record { level = level; boundary = boundary; chans = a i; codes = b i }
 
   pub legal-front : legalRecord l level boundary (take (factorLength l) F) (take (sideLength l) S) (take (spectrumLength l) C) ≡ legalRecord l level boundary F S C
-  unfolding legalRecord legalChannel
+  unfolding legalRecord legalChannels
   legal-front =
-      rw (every-same (legalChannel l level boundary (take (factorLength l) F) (take (sideLength l) S) (take (spectrumLength l) C)) (legalChannel l level boundary F S C) (l .channels)
-      (λ c g. rw (part-of-front 128 (l .channels) c F g, part-of-front 8 (l .channels) c S g, part-of-front 1024 (l .channels) c C g)))
+      rw (
+        resolutions-front l level boundary F,
+        every-same (λ c. legalChannel l c (part 128 (take (factorLength l) F) c) (part 8 (take (sideLength l) S) c) (part 1024 (take (spectrumLength l) C) c) (part 128 (allResolutions l level boundary F) c))
+            (λ c. legalChannel l c (part 128 F c) (part 8 S c) (part 1024 C c) (part 128 (allResolutions l level boundary F) c)) (l .channels)
+            (λ c g. rw (part-of-front 128 (l .channels) c F g, part-of-front 8 (l .channels) c S g, part-of-front 1024 (l .channels) c C g)),
+      )

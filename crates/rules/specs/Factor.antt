@@ -12,25 +12,25 @@ use Rattle.rules.specs.Layout.{codedAt, part}
 use Rattle.rules.specs.declared.Layout.{Layout}
 
 -- how many values of a list are at most v
-unfoldable pub countLe : Float → List Float → ℕ
+unfoldable pub countLe : (v : Float) (xs : List Float) → ℕ
 countLe v [] = 0
 countLe v (x ∷ xs) = cond (le x v) 1 0 + countLe v xs
 
 -- the factor of a value: the number of the table's first 63 entries that are at most it
-unfoldable pub factorOf : Float → ℕ
+unfoldable pub factorOf : (v : Float) → ℕ
 factorOf v = countLe v (take 63 scalingTable)
 
 -- a band's value: the largest magnitude over eight subframes. xs are a channel's 1,024 spectra by subframe and band
-unfoldable pub peakOf : List Float → ℕ → Float
+unfoldable pub peakOf : (spectra : List Float) (band : ℕ) → Float
 peakOf xs b = folded maxAbs xs b 128 8 zeroF
 
 -- a channel's 128 factors; past the coded count they are cleared
-unfoldable pub bandFactor : List Float → ℕ → ℕ → ℕ
+unfoldable pub bandFactor : (spectra : List Float) (coded band : ℕ) → ℕ
 bandFactor xs coded b = cond (ltb b coded) (factorOf (peakOf xs b)) 0
 
-unfoldable pub channelFactors : List Float → ℕ → List ℕ
+unfoldable pub channelFactors : (spectra : List Float) (coded : ℕ) → List ℕ
 channelFactors xs coded = build (bandFactor xs coded) 128
 
 -- the factors of every channel
-unfoldable pub allFactors : Layout → List Float → List ℕ
+unfoldable pub allFactors : (l : Layout) (spectra : List Float) → List ℕ
 allFactors l spectra = blocks (λ c. channelFactors (part 1024 spectra c) (codedAt l c)) (l .channels)

@@ -11,13 +11,13 @@ use Rattle.rules.specs.Fields.{fields}
 use Rattle.rules.specs.declared.Layout.{Layout}
 
 -- bit 8(F - 2)
-abbrev pub payload : Layout → ℕ
-payload l = 8 * (frameSize l - 2)
+abbrev pub fieldEnd : (l : Layout) → ℕ
+fieldEnd l = 8 * (frameSize l - 2)
 
 -- zero fill to bit 8(F - 2)
-unfoldable pub payloadBits : Layout → Rec → List Bool
-payloadBits l r = fields l r ++ zeros (payload l - length (fields l r))
+unfoldable pub filledFields : (l : Layout) (r : Rec) → List Bool
+filledFields l r = fields l r ++ zeros (fieldEnd l - length (fields l r))
 
 -- the check over F - 2 bytes behind them, high byte first
-unfoldable pub frameOf : Layout → Rec → List ℕ
-frameOf l r = sealed (pack (frameSize l - 2) (payloadBits l r))
+unfoldable pub frameOf : (l : Layout) (r : Rec) → List ℕ
+frameOf l r = sealed (pack (frameSize l - 2) (filledFields l r))

@@ -12,37 +12,50 @@ use Rattle.rules.specs.Layout.{startBand, hfrBands, bandsPerGroup, group
 use Rattle.rules.specs.Factor.{factorOf}
 use Rattle.rules.specs.declared.Layout.{Layout}
 
+-- A sum and its count travel together as an `Average` of floats/specs/Single.antt: `noAverage` has no values; `withEight` adds a band's eight
+-- magnitudes, subframes inside; `mean` is the sum over the count, and an average of no values is 0.
+
 -- n values of b from b on, each taking its band's eight magnitudes into the sum and its count
-unfoldable pub taken : (ℕ → Average → Average) → ℕ → ℕ → Average → Average
-taken f b zero a = a
-taken f b (suc n) a = taken f (suc b) n (f b a)
+unfoldable pub bandsTaken : (f : ℕ → Average → Average) (b n : ℕ) (a : Average) → Average
+bandsTaken f b zero a = a
+bandsTaken f b (suc n) a = bandsTaken f (suc b) n (f b a)
 
 -- a group's average: the next g values of b, as far as they are below the limit
-unfoldable pub groupAverage : (ℕ → Average → Average) → ℕ → ℕ → ℕ → Average
-groupAverage f limit g j = taken f (j * g) (min (suc j * g) limit - j * g) noAverage
+unfoldable pub groupAverage : (f : ℕ → Average → Average) (limit bands group : ℕ) → Average
+groupAverage f limit g j = bandsTaken f (j * g) (min (suc j * g) limit - j * g) noAverage
 
 -- the spectrum average runs from band N and stops at band 128, not at total
-unfoldable pub spectrumAverage : Layout → List Float → ℕ → Average
+unfoldable pub spectrumAverage : (l : Layout) (spectra : List Float) (group : ℕ) → Average
 spectrumAverage l xs j = groupAverage (λ b. withEight xs (startBand l + b) 128) (128 - startBand l) (bandsPerGroup l) j
 
 -- the source average takes scaled band N - 1 - b for b rising, while b < min(HFR bands, N)
-unfoldable pub sourceAverage : Layout → List Float → ℕ → Average
+unfoldable pub sourceAverage : (l : Layout) (scaled : List Float) (group : ℕ) → Average
 sourceAverage l sc j = groupAverage (λ b. withEight sc ((startBand l - 1 - b) * 8) 1) (min (hfrBands l) (startBand l)) (bandsPerGroup l) j
 
 abbrev pub sqrt2 : Float
 sqrt2 = ofBits binary32 0x3FB504F3
 
 -- the spectrum average, times min(1 / source, SQRT_2) if the source average is above 0
-unfoldable pub groupValue : Float → Float → Float
+unfoldable pub groupValue : (spectrum source : Float) → Float
 groupValue spectrum source = cond (lt zeroF source) (mul binary32 spectrum (minF (div binary32 oneF source) sqrt2)) spectrum
 
 -- the scale of group j: its factor
-unfoldable pub hfrScale : Layout → List Float → List Float → ℕ → ℕ
+unfoldable pub hfrScale : (l : Layout) (spectra scaled : List Float) (group : ℕ) → ℕ
 hfrScale l xs sc j = factorOf (groupValue (mean (spectrumAverage l xs j)) (mean (sourceAverage l sc j)))
 
 -- Side holds a secondary's intensities, else the G HFR scales; the rest is zero
-unfoldable pub channelSide : Layout → ℕ → List Float → List Float → List ℕ → List ℕ
-channelSide l c xs sc is = build (λ j. cond (secondaryAt l c) (getD is j 0) (cond (ltb j (groupCount l)) (hfrScale l xs sc j) 0)) 8
+unfoldable pub intensitySide : (intensities : List ℕ) → List ℕ
+intensitySide is = build (λ j. getD is j 0) 8
 
-unfoldable pub allSide : Layout → List Float → List Float → List ℕ → List ℕ
-allSide l spectra scaled intensities = blocks (λ c. channelSide l c (part 1024 spectra c) (part 1024 scaled c) (part 8 intensities c)) (l .channels)
+unfoldable pub scaleSide : (l : Layout) (spectra scaled : List Float) → List ℕ
+scaleSide l xs sc = build (λ j. cond (ltb j (groupCount l)) (hfrScale l xs sc j) 0) 8
+
+unfoldable pub channelSide : (l : Layout) (channel : ℕ) (spectra scaled : List Float) (intensities : List ℕ) → List ℕ
+channelSide l c xs sc is = cond (secondaryAt l c) (intensitySide is) (scaleSide l xs sc)
+
+-- of channel c, and of every channel, in the buffers of all
+abbrev pub sideAt : (l : Layout) (spectra scaled : List Float) (intensities : List ℕ) (channel : ℕ) → List ℕ
+sideAt l spectra scaled intensities c = channelSide l c (part 1024 spectra c) (part 1024 scaled c) (part 8 intensities c)
+
+unfoldable pub allSide : (l : Layout) (spectra scaled : List Float) (intensities : List ℕ) → List ℕ
+allSide l spectra scaled intensities = blocks (sideAt l spectra scaled intensities) (l .channels)

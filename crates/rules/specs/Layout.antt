@@ -11,11 +11,11 @@ use Rattle.rules.specs.declared.Layout.{Layout}
 use Rattle.rules.specs.declared.Room.{Room}
 
 -- the frame's size F
-abbrev pub frameSize : Layout → ℕ
+abbrev pub frameSize : (l : Layout) → ℕ
 frameSize l = l .«frame_size»
 
 -- Channels C: 1 to 16. Bands: total 1 to 128, base + stereo at most total. Frame size F: 8 to 65,535 bytes.
-unfoldable pub legalLayout : Layout → Bool
+unfoldable pub legalLayout : (l : Layout) → Bool
 legalLayout l =
     leb 1 (l .channels) && (leb (l .channels) 16 && (leb 1 (l .total) && (leb (l .total) 128
     && (leb (l .base + l .stereo) (l .total) && (leb 8 (frameSize l) && leb (frameSize l) 65535)))))
@@ -31,70 +31,70 @@ pub record Sizes (l : Layout) : Type 0 where
   pub large : frameSize l ≤ 65535
 
 -- the kinds of the channels, in their order
-unfoldable pub kindAt : Layout → ℕ → ChannelType
+unfoldable pub kindAt : (l : Layout) (channel : ℕ) → ChannelType
 kindAt l c = (getD (l .kinds) c (record { kind = Discrete })) .kind
 
-unfoldable pub kindsOf : Layout → List ChannelType
+unfoldable pub kindsOf : (l : Layout) → List ChannelType
 kindsOf l = build (kindAt l) (l .channels)
 
-abbrev pub isSecondary : ChannelType → Bool
+abbrev pub isSecondary : (kind : ChannelType) → Bool
 isSecondary Discrete = false
 isSecondary StereoPrimary = false
 isSecondary StereoSecondary = true
 
-unfoldable pub secondaryAt : Layout → ℕ → Bool
+unfoldable pub secondaryAt : (l : Layout) (channel : ℕ) → Bool
 secondaryAt l c = isSecondary (kindAt l c)
 
 -- Start N
-abbrev pub startBand : Layout → ℕ
+abbrev pub startBand : (l : Layout) → ℕ
 startBand l = l .base + l .stereo
 
 -- HFR bands, bands per group g, groups G
-abbrev pub hfrBands : Layout → ℕ
+abbrev pub hfrBands : (l : Layout) → ℕ
 hfrBands l = l .total - startBand l
 
 -- a / b rounded up, 0 if b is 0
-unfoldable pub ceilDiv : ℕ → ℕ → ℕ
+unfoldable pub ceilDiv : (a b : ℕ) → ℕ
 ceilDiv a b = cond (eqb b 0) 0 ((a + (b - 1)) / b)
 
-unfoldable pub bandsPerGroup : Layout → ℕ
+unfoldable pub bandsPerGroup : (l : Layout) → ℕ
 bandsPerGroup l = ceilDiv (hfrBands l) 8
 
-unfoldable pub groupCount : Layout → ℕ
+unfoldable pub groupCount : (l : Layout) → ℕ
 groupCount l = ceilDiv (hfrBands l) (bandsPerGroup l)
 
 -- Coded count: base for a secondary, else N
-abbrev pub codedCount : Layout → ChannelType → ℕ
+abbrev pub codedCount : (l : Layout) (kind : ChannelType) → ℕ
 codedCount l k = cond (isSecondary k) (l .base) (startBand l)
 
-unfoldable pub codedAt : Layout → ℕ → ℕ
+unfoldable pub codedAt : (l : Layout) (channel : ℕ) → ℕ
 codedAt l c = codedCount l (kindAt l c)
 
 -- Side values: a secondary's 8 intensities of 4 bits, else G HFR scales of 6 bits
-abbrev pub sideCount : Layout → ChannelType → ℕ
+abbrev pub sideCount : (l : Layout) (kind : ChannelType) → ℕ
 sideCount l k = cond (isSecondary k) 8 (groupCount l)
 
-abbrev pub sideWidth : ChannelType → ℕ
+abbrev pub sideWidth : (kind : ChannelType) → ℕ
 sideWidth k = cond (isSecondary k) 4 6
 
-unfoldable pub sidesAt : Layout → ℕ → ℕ
+unfoldable pub sidesAt : (l : Layout) (channel : ℕ) → ℕ
 sidesAt l c = sideCount l (kindAt l c)
 
 -- The lengths of the lent buffers
-abbrev pub spectrumLength : Layout → ℕ
+abbrev pub spectrumLength : (l : Layout) → ℕ
 spectrumLength l = l .channels * 1024
 
-abbrev pub factorLength : Layout → ℕ
+abbrev pub factorLength : (l : Layout) → ℕ
 factorLength l = l .channels * 128
 
-abbrev pub sideLength : Layout → ℕ
+abbrev pub sideLength : (l : Layout) → ℕ
 sideLength l = l .channels * 8
 
 -- whether the buffers of a record and of its frame are long enough
-abbrev pub roomOf : ℕ → ℕ → ℕ → ℕ → Room
+abbrev pub roomOf : (factors side codes frame : ℕ) → Room
 roomOf factors side codes frame = record { factors = factors; side = side; codes = codes; frame = frame }
 
-unfoldable pub hasRoom : Layout → Room → Bool
+unfoldable pub hasRoom : (l : Layout) (room : Room) → Bool
 hasRoom l r = leb (factorLength l) (r .factors) && (leb (sideLength l) (r .side) && (leb (spectrumLength l) (r .codes) && leb (frameSize l) (r .frame)))
 
 -- the same as facts
@@ -105,5 +105,5 @@ pub record Enough (l : Layout) (r : Room) : Type 0 where
   pub frame : frameSize l ≤ r .frame
 
 -- channel c's part of a buffer with n values a channel
-abbrev pub part : {A : Type 0} → ℕ → List A → ℕ → List A
+abbrev pub part : {A : Type 0} (n : ℕ) (xs : List A) (c : ℕ) → List A
 part n xs c = take n (drop (c * n) xs)

@@ -9,81 +9,81 @@ use lib.Signed.{leZ}
 use lib.ListN.{length, replicate}
 use Rattle.bits.specs.Bits.{bitsOf}
 use Rattle.crc.specs.Sealed.{body, isSealed}
-use Rattle.rules.specs.Format.{Read, ok, bad, Reader, pure, _>>=_, here, keep, check, whole, _⊗_, walk, each, times, number, oneOf}
+use Rattle.rules.specs.Format.{Read, ok, bad, Reader, pure, _>>=_, here, keep, require, asOne, _⊗_, walk, each, times, number, oneOf}
 use Rattle.rules.specs.Layout.{kindsOf, codedCount, sideCount, sideWidth}
 use Rattle.rules.specs.Width.{reachOf, near, width}
 use Rattle.rules.specs.Code.{magnitudeBits}
 use Rattle.rules.specs.Record.{Chan, Rec, resolutions}
-use Rattle.rules.specs.Fields.{passed, smallBits}
+use Rattle.rules.specs.Fields.{asPrevious, smallBits}
 use Rattle.rules.specs.declared.ChannelType.{ChannelType}
 use Rattle.rules.specs.declared.Layout.{Layout}
 
 -- A delta's symbol v names this factor; where it is all ones, the factor follows. Refusal 12 (needless escape, or factor outside 0..63) names
 -- the bit where the escape or the delta begins.
-abbrev pub deltaFactor : ℕ → ℕ → ℕ → ℤ
+abbrev pub deltaFactor : (d previous symbol : ℕ) → ℤ
 deltaFactor d previous v = pos previous +ℤ (pos v -ℤ pos (reachOf d))
 
-abbrev pub readDelta : ℕ → ℕ → Reader ℕ
+abbrev pub readDelta : (d previous : ℕ) → Reader ℕ
 readDelta d previous = here λ l. number d >>= λ v.
     cond (eqb v (2 ^ d - 1))
-    (check 12 l (λ f. not (near d previous f)) (number 6))
+    (require 12 l (λ f. not (near d previous f)) (number 6))
     (keep 12 l (leZ (pos 0) (deltaFactor d previous v) && leZ (deltaFactor d previous v) (pos 63)) (natAbs (deltaFactor d previous v)))
 
-abbrev pub readFactor : ℕ → Option ℕ → Reader ℕ
+abbrev pub readFactor : (width : ℕ) (previous : Option ℕ) → Reader ℕ
 readFactor w none = number 6
 readFactor w (some previous) = cond (eqb w 6) (number 6) (readDelta w previous)
 
-abbrev pub readFactors : ℕ → ℕ → Reader (List ℕ)
+abbrev pub readFactors : (width coded : ℕ) → Reader (List ℕ)
 readFactors zero n = pure (replicate n 0)
-readFactors (suc w) n = walk passed (λ previous _. readFactor (suc w) previous) none (times n)
+readFactors (suc w) n = walk asPrevious (λ previous _. readFactor (suc w) previous) none (times n)
 
 -- Refusal 11: width 7, and any width but 0 on a coded count of 0, at once; other wrong widths after that channel's last factor
-abbrev pub readWidth : ℕ → Reader (List ℕ)
+abbrev pub readWidth : (coded : ℕ) → Reader (List ℕ)
 readWidth n = here λ l.
-    check 11 l (λ w. leb w 6 && (leb 1 n || eqb w 0)) (number 3) >>= λ w.
-    check 11 l (λ fs. eqb (width fs) w) (readFactors w n)
+    require 11 l (λ w. leb w 6 && (leb 1 n || eqb w 0)) (number 3) >>= λ w.
+    require 11 l (λ fs. eqb (width fs) w) (readFactors w n)
 
-abbrev pub readChannel : Layout → ChannelType → Reader Chan
+abbrev pub readChannel : (l : Layout) (kind : ChannelType) → Reader Chan
 readChannel l k =
     (readWidth (codedCount l k) ⊗ λ _. each (λ _. number (sideWidth k)) (times (sideCount l k)))
     >>= λ c. pure (record { factors = c .0; side = c .1 })
 
 -- the codes of resolution r, below 8: 0, and the magnitudes up to r with both signs
-abbrev pub codesTo : ℕ → List ℤ
+abbrev pub codesTo : (resolution : ℕ) → List ℤ
 codesTo zero = pos 0 ∷ []
 codesTo (suc r) = pos (suc r) ∷ negsuc r ∷ codesTo r
 
-abbrev pub signed : ℕ → Reader ℤ
+abbrev pub signed : (magnitude : ℕ) → Reader ℤ
 signed zero = pure (pos 0)
 signed (suc n) = number 1 >>= λ b. pure (cond (eqb b 0) (pos (suc n)) (negsuc n))
 
 -- a code with its sign bit is one field
-unfoldable pub readCode : ℕ → Reader ℤ
-readCode r = cond (eqb r 0) (pure (pos 0)) (cond (ltb r 8) (oneOf (smallBits r) (codesTo r)) (whole (number (magnitudeBits r) >>= signed)))
+unfoldable pub readCode : (resolution : ℕ) → Reader ℤ
+readCode r = cond (eqb r 0) (pure (pos 0)) (cond (ltb r 8) (oneOf (smallBits r) (codesTo r)) (asOne (number (magnitudeBits r) >>= signed)))
 
 -- Refusal 10: level above 254, boundary not 0 at level 0
 abbrev pub readLevel : Reader ℕ
-readLevel = here λ l. check 10 l (λ v. leb v 254) (number 9)
+readLevel = here λ l. require 10 l (λ v. leb v 254) (number 9)
 
-abbrev pub readBoundary : ℕ → Reader ℕ
-readBoundary level = here λ l. check 10 l (λ v. leb 1 level || eqb v 0) (number 7)
+abbrev pub readBoundary : (level : ℕ) → Reader ℕ
+readBoundary level = here λ l. require 10 l (λ v. leb 1 level || eqb v 0) (number 7)
 
 -- Refusal 9: sync not FFFF
 abbrev pub readSync : Reader ℕ
-readSync = here λ l. check 9 l (λ v. eqb v 0xFFFF) (number 16)
+readSync = here λ l. require 9 l (λ v. eqb v 0xFFFF) (number 16)
 
 -- what follows the sync
-unfoldable pub readRecord : Layout → Reader Rec
+unfoldable pub readRecord : (l : Layout) → Reader Rec
 readRecord l =
     (readLevel ⊗ λ level. readBoundary level ⊗ λ boundary. each (readChannel l) (kindsOf l) ⊗ λ chans.
     each (λ _. each (each readCode) (resolutions level boundary chans)) (times 8))
     >>= λ x. pure (record { level = x .0; boundary = x .1 .0; chans = x .1 .1 .0; codes = x .1 .1 .1 })
 
-unfoldable pub readFields : Layout → Reader Rec
+unfoldable pub readFields : (l : Layout) → Reader Rec
 readFields l = readSync >>= λ _. readRecord l
 
 -- the bits left at the first 1
-abbrev pub firstOne : List Bool → Option ℕ
+abbrev pub firstOne : (s : List Bool) → Option ℕ
 firstOne [] = none
 firstOne (true ∷ s) = some (suc (length s))
 firstOne (false ∷ s) = firstOne s
@@ -94,18 +94,18 @@ pub data Scanned : Type 0 where
   faulty : ℕ → ℕ → Scanned
 
 -- Refusal 14, last: fill holds a 1
-abbrev pub afterFill : ℕ → Rec → ℕ → Option ℕ → Scanned
+abbrev pub afterFill : (n : ℕ) (r : Rec) (left : ℕ) (one : Option ℕ) → Scanned
 afterFill n r left none = accepted r (n - left)
 afterFill n r left (some k) = faulty 14 (n - k)
 
-abbrev pub afterFields : ℕ → Read Rec → Scanned
+abbrev pub afterFields : (n : ℕ) (r : Read Rec) → Scanned
 afterFields n (ok r s) = afterFill n r (length s) (firstOne s)
 afterFields n (bad k left) = faulty k (n - left)
 
 -- every bit is counted from the frame's first bit, which is 0
-unfoldable pub scan : Layout → List Bool → Scanned
+unfoldable pub scan : (l : Layout) (s : List Bool) → Scanned
 scan l s = afterFields (length s) (readFields l s)
 
 -- Refusal 8, first: check wrong
-unfoldable pub strict : Layout → List ℕ → Scanned
+unfoldable pub strict : (l : Layout) (frame : List ℕ) → Scanned
 strict l frame = cond (isSealed frame) (scan l (bitsOf (body frame))) (faulty 8 0)

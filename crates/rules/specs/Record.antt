@@ -9,7 +9,7 @@ use lib.ListN.{getD, take, replicate}
 use Rattle.buffers.specs.Walk.{build, blocks, every}
 use Rattle.rules.specs.Format.{Each, times}
 use Rattle.rules.specs.Layout.{kindAt, kindsOf, codedCount, codedAt, sideCount, sidesAt, sideWidth, part}
-use Rattle.rules.specs.Resolution.{resolutionAt, resolutionsOf}
+use Rattle.rules.specs.Resolution.{resolutionAt, resolutionsOf, allResolutions}
 use Rattle.rules.specs.Code.{codeLimit}
 use Rattle.rules.specs.declared.ChannelType.{ChannelType}
 use Rattle.rules.specs.declared.Layout.{Layout}
@@ -33,10 +33,10 @@ pub record LegalHead (level boundary : ℕ) : Type 0 where
   pub silent : level ≡ 0 → boundary ≡ 0
 
 -- code magnitude at most r at resolution r below 8, else the clamp of **Code**
-unfoldable pub codeRange : ℕ → ℕ
+unfoldable pub codeRange : (resolution : ℕ) → ℕ
 codeRange r = cond (ltb r 8) r (codeLimit r)
 
-abbrev pub LegalCode : ℕ → ℤ → Type 0
+abbrev pub LegalCode : (resolution : ℕ) (code : ℤ) → Type 0
 LegalCode r c = natAbs c ≤ codeRange r
 
 -- factors and HFR scales 0..63; intensities 0..15
@@ -45,7 +45,7 @@ pub record LegalChan (l : Layout) (k : ChannelType) (c : Chan) : Type 0 where
   pub side : Each (λ _ v. v < 2 ^ sideWidth k) (times (sideCount l k)) (c .side)
 
 -- the resolutions of each channel's coded bands
-abbrev pub resolutions : ℕ → ℕ → List Chan → List (List ℕ)
+abbrev pub resolutions : (level boundary : ℕ) (chans : List Chan) → List (List ℕ)
 resolutions level boundary chans = map (λ c. resolutionsOf level boundary (c .factors)) chans
 
 pub record Legal (l : Layout) (r : Rec) : Type 0 where
@@ -55,20 +55,17 @@ pub record Legal (l : Layout) (r : Rec) : Type 0 where
 
 -- THE RECORD THAT LIES IN BUFFERS of document 01's lengths: factors C x 128, side C x 8, codes C x 1,024 by channel, subframe, band
 -- channel c, of its own 128 factors and 8 side values, and of all channels'
-abbrev pub chanIn : Layout → ℕ → List ℕ → List ℕ → Chan
+abbrev pub chanIn : (l : Layout) (channel : ℕ) (factors side : List ℕ) → Chan
 chanIn l c fs ss = record { factors = take (codedAt l c) fs; side = take (sidesAt l c) ss }
 
-abbrev pub chanOf : Layout → List ℕ → List ℕ → ℕ → Chan
+abbrev pub chanOf : (l : Layout) (factors side : List ℕ) (channel : ℕ) → Chan
 chanOf l factors side c = chanIn l c (part 128 factors c) (part 8 side c)
 
--- the resolutions of its coded bands, of all channels' C x 128; and its codes in subframe s
-abbrev pub resolutionsIn : Layout → List ℕ → ℕ → List ℕ
-resolutionsIn l rs c = take (codedAt l c) (part 128 rs c)
-
-abbrev pub codesIn : Layout → List ℤ → ℕ → ℕ → List ℤ
+-- its codes in subframe s
+abbrev pub codesIn : (l : Layout) (codes : List ℤ) (subframe channel : ℕ) → List ℤ
 codesIn l codes s c = take (codedAt l c) (part 128 (part 1024 codes c) s)
 
-unfoldable pub recOf : Layout → ℕ → ℕ → List ℕ → List ℕ → List ℤ → Rec
+unfoldable pub recOf : (l : Layout) (level boundary : ℕ) (factors side : List ℕ) (codes : List ℤ) → Rec
 recOf l level boundary factors side codes = record {
   level = level;
   boundary = boundary;
@@ -77,44 +74,55 @@ recOf l level boundary factors side codes = record {
 }
 
 -- AND ITS STORING THERE: everything unwritten is 0
-abbrev pub pad : {A : Type 0} → A → ℕ → List A → List A
+abbrev pub pad : {A : Type 0} (blank : A) (n : ℕ) (xs : List A) → List A
 pad d n xs = take n (xs ++ replicate n d)
 
 abbrev pub noChan : Chan
 noChan = record { factors = []; side = [] }
 
-unfoldable pub storeFactors : Layout → Rec → List ℕ
+unfoldable pub storeFactors : (l : Layout) (r : Rec) → List ℕ
 storeFactors l r = blocks (λ c. pad 0 128 ((getD (r .chans) c noChan) .factors)) (l .channels)
 
-unfoldable pub storeSide : Layout → Rec → List ℕ
+unfoldable pub storeSide : (l : Layout) (r : Rec) → List ℕ
 storeSide l r = blocks (λ c. pad 0 8 ((getD (r .chans) c noChan) .side)) (l .channels)
 
-unfoldable pub storeCodes : Layout → Rec → List ℤ
+unfoldable pub storeCodes : (l : Layout) (r : Rec) → List ℤ
 storeCodes l r = blocks (λ c. blocks (λ s. pad (pos 0) 128 (getD (getD (r .codes) s []) c [])) 8) (l .channels)
 
 -- LEGAL AS A TEST on the buffers: what is written is in its range, everything unwritten is 0
-unfoldable pub legalHead : ℕ → ℕ → Bool
+unfoldable pub legalHead : (level boundary : ℕ) → Bool
 legalHead level boundary = leb level 254 && (leb boundary 127 && (leb 1 level || eqb boundary 0))
 
 -- the first n of a row's values lie below m, and the others are 0
-unfoldable pub legalRow : ℕ → ℕ → ℕ → List ℕ → Bool
+unfoldable pub legalRow : (count below size : ℕ) (row : List ℕ) → Bool
 legalRow n m k xs = every (λ i. cond (ltb i n) (ltb (getD xs i 0) m) (eqb (getD xs i 0) 0)) k
 
-unfoldable pub legalCodes : ℕ → ℕ → ℕ → List ℕ → List ℤ → Bool
-legalCodes level boundary coded fs cs =
-    every (λ s. every (λ b. leb (natAbs (getD cs (s * 128 + b) (pos 0))) (cond (ltb b coded) (codeRange (resolutionAt level boundary fs b)) 0)) 128) 8
+-- the codes of a band, of a subframe and of a channel, of the resolutions of its 128 bands: past the coded count they are 0, and so is the range
+abbrev pub legalBand : (resolutions : List ℕ) (codes : List ℤ) (band : ℕ) → Bool
+legalBand rs cs b = leb (natAbs (getD cs b (pos 0))) (codeRange (getD rs b 0))
 
-unfoldable pub legalChannel : Layout → ℕ → ℕ → List ℕ → List ℕ → List ℤ → ℕ → Bool
-legalChannel l level boundary factors side codes c =
-    legalRow (codedAt l c) 64 128 (part 128 factors c)
-    && (legalRow (sidesAt l c) (2 ^ sideWidth (kindAt l c)) 8 (part 8 side c)
-    && legalCodes level boundary (codedAt l c) (part 128 factors c) (part 1024 codes c))
+unfoldable pub legalSubframe : (resolutions : List ℕ) (codes : List ℤ) → Bool
+legalSubframe rs cs = every (legalBand rs cs) 128
 
-unfoldable pub legalRecord : Layout → ℕ → ℕ → List ℕ → List ℕ → List ℤ → Bool
-legalRecord l level boundary factors side codes = legalHead level boundary && every (legalChannel l level boundary factors side codes) (l .channels)
+unfoldable pub legalCodes : (resolutions : List ℕ) (codes : List ℤ) → Bool
+legalCodes rs cs = every (λ s. legalSubframe rs (part 128 cs s)) 8
+
+-- channel c, of its own factors, side values, codes and resolutions
+unfoldable pub legalChannel : (l : Layout) (channel : ℕ) (factors side : List ℕ) (codes : List ℤ) (resolutions : List ℕ) → Bool
+legalChannel l c fs ss cs rs =
+    legalRow (codedAt l c) 64 128 fs && (legalRow (sidesAt l c) (2 ^ sideWidth (kindAt l c)) 8 ss && legalCodes rs cs)
+
+-- every channel of the buffers
+unfoldable pub legalChannels : (l : Layout) (factors side : List ℕ) (codes : List ℤ) (resolutions : List ℕ) → Bool
+legalChannels l factors side codes resolutions =
+    every (λ c. legalChannel l c (part 128 factors c) (part 8 side c) (part 1024 codes c) (part 128 resolutions c)) (l .channels)
+
+unfoldable pub legalRecord : (l : Layout) (level boundary : ℕ) (factors side : List ℕ) (codes : List ℤ) → Bool
+legalRecord l level boundary factors side codes =
+    legalHead level boundary && legalChannels l factors side codes (allResolutions l level boundary factors)
 
 -- DEMAND 3's premise, 'each code is in its range': each written code of the buffers, at the resolution of its band
-abbrev pub CodesInRange : Layout → ℕ → ℕ → List ℕ → List ℤ → Type 0
+abbrev pub CodesInRange : (l : Layout) (level boundary : ℕ) (factors : List ℕ) (codes : List ℤ) → Type 0
 CodesInRange l level boundary factors codes =
     (c s b : ℕ) → c < l .channels → s < 8 → b < codedAt l c →
     LegalCode (resolutionAt level boundary (part 128 factors c) b) (getD (part 1024 codes c) (s * 128 + b) (pos 0))

@@ -14,33 +14,33 @@ pub data Outcome : Type 0 where
   refused : ℕ → ℕ → Outcome
 
 -- 1 to 7 in this order
-unfoldable pub stageNumber : StageAnswer → Outcome
-stageNumber (stage.Delivered level boundary pairs bits) = delivered (level ∷ boundary ∷ pairs ∷ bits ∷ [])
-stageNumber stage.BadLayout = refused 1 0
-stageNumber stage.ShortBuffer = refused 2 0
-stageNumber (stage.BadIntensity i) = refused 3 i
-stageNumber (stage.BadSpectrum i) = refused 4 i
-stageNumber (stage.NoLevel pairs) = refused 5 pairs
-stageNumber (stage.NoBoundary level) = refused 6 level
-stageNumber stage.TooLong = refused 7 0
+unfoldable pub stageOutcome : (answer : StageAnswer) → Outcome
+stageOutcome (stage.Delivered level boundary pairs bits) = delivered (level ∷ boundary ∷ pairs ∷ bits ∷ [])
+stageOutcome stage.BadLayout = refused 1 0
+stageOutcome stage.ShortBuffer = refused 2 0
+stageOutcome (stage.BadIntensity i) = refused 3 i
+stageOutcome (stage.BadSpectrum i) = refused 4 i
+stageOutcome (stage.NoLevel pairs) = refused 5 pairs
+stageOutcome (stage.NoBoundary level) = refused 6 level
+stageOutcome stage.TooLong = refused 7 0
 
 -- 1, 2, 15, 7
-unfoldable pub writeNumber : WriteAnswer → Outcome
-writeNumber (write.Delivered level boundary bits) = delivered (level ∷ boundary ∷ bits ∷ [])
-writeNumber write.BadLayout = refused 1 0
-writeNumber write.ShortBuffer = refused 2 0
-writeNumber write.NotLegal = refused 15 0
-writeNumber write.TooLong = refused 7 0
+unfoldable pub writerOutcome : (answer : WriteAnswer) → Outcome
+writerOutcome (write.Delivered level boundary bits) = delivered (level ∷ boundary ∷ bits ∷ [])
+writerOutcome write.BadLayout = refused 1 0
+writerOutcome write.ShortBuffer = refused 2 0
+writerOutcome write.NotLegal = refused 15 0
+writerOutcome write.TooLong = refused 7 0
 
 -- 1, 2, 8, 9, then the first fault in bit order, 14 last
-unfoldable pub readNumber : ReadAnswer → Outcome
-readNumber (read.Delivered level boundary bits) = delivered (level ∷ boundary ∷ bits ∷ [])
-readNumber read.BadLayout = refused 1 0
-readNumber read.ShortBuffer = refused 2 0
-readNumber read.WrongCheck = refused 8 0
-readNumber read.WrongSync = refused 9 0
-readNumber (read.BadLevel bit) = refused 10 bit
-readNumber (read.BadWidth bit) = refused 11 bit
-readNumber (read.BadFactor bit) = refused 12 bit
-readNumber (read.PastEnd bit) = refused 13 bit
-readNumber (read.FillNotZero bit) = refused 14 bit
+unfoldable pub readerOutcome : (answer : ReadAnswer) → Outcome
+readerOutcome (read.Delivered level boundary bits) = delivered (level ∷ boundary ∷ bits ∷ [])
+readerOutcome read.BadLayout = refused 1 0
+readerOutcome read.ShortBuffer = refused 2 0
+readerOutcome read.WrongCheck = refused 8 0
+readerOutcome read.WrongSync = refused 9 0
+readerOutcome (read.BadLevel bit) = refused 10 bit
+readerOutcome (read.BadWidth bit) = refused 11 bit
+readerOutcome (read.BadFactor bit) = refused 12 bit
+readerOutcome (read.PastEnd bit) = refused 13 bit
+readerOutcome (read.FillNotZero bit) = refused 14 bit

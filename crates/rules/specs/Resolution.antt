@@ -12,18 +12,18 @@ use Rattle.rules.specs.Layout.{codedAt, part}
 use Rattle.rules.specs.declared.Layout.{Layout}
 
 -- Noise is level - 1, not below 0, in bands below the boundary; else level
-unfoldable pub noiseAt : ℕ → ℕ → ℕ → ℕ
+unfoldable pub noiseAt : (level boundary band : ℕ) → ℕ
 noiseAt level boundary band = cond (ltb band boundary) (level - 1) level
 
 -- the position, which can be far below zero before it is held to 0..58
-unfoldable pub curvePosition : ℕ → ℕ → ℤ
+unfoldable pub curvePosition : (noise factor : ℕ) → ℤ
 curvePosition noise factor = pos noise -ℤ pos (5 * factor / 2) +ℤ pos 2
 
-unfoldable pub heldPosition : ℕ → ℕ → ℕ
+unfoldable pub heldPosition : (noise factor : ℕ) → ℕ
 heldPosition noise factor = natAbs (heldZ (pos 0) (pos 58) (curvePosition noise factor))
 
 -- 0 for factor 0; else the curve, within the lowest and the highest resolution
-unfoldable pub resolutionIn : ℕ → ℕ → ℕ → ℕ → ℕ
+unfoldable pub resolutionIn : (lowest highest noise factor : ℕ) → ℕ
 resolutionIn lowest highest noise factor =
     cond (eqb factor 0) 0 (min (max (getD resolutionCurve (heldPosition noise factor) 0) lowest) highest)
 
@@ -33,23 +33,23 @@ lowestResolution = 1
 abbrev pub highestResolution : ℕ
 highestResolution = 15
 
-unfoldable pub resolution : ℕ → ℕ → ℕ
+unfoldable pub resolution : (noise factor : ℕ) → ℕ
 resolution noise factor = resolutionIn lowestResolution highestResolution noise factor
 
 -- of band b of a channel with these factors
-unfoldable pub resolutionAt : ℕ → ℕ → List ℕ → ℕ → ℕ
+unfoldable pub resolutionAt : (level boundary : ℕ) (factors : List ℕ) (band : ℕ) → ℕ
 resolutionAt level boundary fs b = resolution (noiseAt level boundary b) (getD fs b 0)
 
 -- of each of its coded bands
-unfoldable pub resolutionsOf : ℕ → ℕ → List ℕ → List ℕ
+unfoldable pub resolutionsOf : (level boundary : ℕ) (factors : List ℕ) → List ℕ
 resolutionsOf level boundary fs = build (resolutionAt level boundary fs) (length fs)
 
 -- of its 128 bands, 0 past the coded count; and of every channel's
-unfoldable pub bandResolution : ℕ → ℕ → List ℕ → ℕ → ℕ → ℕ
+unfoldable pub bandResolution : (level boundary : ℕ) (factors : List ℕ) (coded band : ℕ) → ℕ
 bandResolution level boundary fs coded b = cond (ltb b coded) (resolutionAt level boundary fs b) 0
 
-unfoldable pub channelResolutions : ℕ → ℕ → List ℕ → ℕ → List ℕ
+unfoldable pub channelResolutions : (level boundary : ℕ) (factors : List ℕ) (coded : ℕ) → List ℕ
 channelResolutions level boundary fs coded = build (bandResolution level boundary fs coded) 128
 
-unfoldable pub allResolutions : Layout → ℕ → ℕ → List ℕ → List ℕ
+unfoldable pub allResolutions : (l : Layout) (level boundary : ℕ) (factors : List ℕ) → List ℕ
 allResolutions l level boundary factors = blocks (λ c. channelResolutions level boundary (part 128 factors c) (codedAt l c)) (l .channels)

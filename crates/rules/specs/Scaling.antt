@@ -16,21 +16,21 @@ abbrev pub clip : Float
 clip = ofBits binary32 0x3F7FFFFE
 
 -- 1 / entry: the entry's index, from 0, is the factor
-unfoldable pub scaleOf : ℕ → Float
+unfoldable pub scaleOf : (factor : ℕ) → Float
 scaleOf factor = div binary32 oneF (getD scalingTable factor nan)
 
 -- spectrum x (1 / entry), each operation rounded once, held within ± the clip; 0.0 where the factor is 0
-unfoldable pub scaledValue : ℕ → Float → Float
+unfoldable pub scaledValue : (factor : ℕ) (x : Float) → Float
 scaledValue factor x = cond (eqb factor 0) zeroF (heldF (neg clip) clip (mul binary32 x (scaleOf factor)))
 
 -- a band's eight values, of a channel's spectra by subframe and band; past the coded count they are cleared
-unfoldable pub scaledBand : List Float → List ℕ → ℕ → ℕ → List Float
+unfoldable pub scaledBand : (spectra : List Float) (factors : List ℕ) (coded band : ℕ) → List Float
 scaledBand xs fs coded b = build (λ s. cond (ltb b coded) (scaledValue (getD fs b 0) (getD xs (s * 128 + b) nan)) zeroF) 8
 
 -- a channel's 1,024 scaled values, by band and subframe
-unfoldable pub channelScaled : List Float → List ℕ → ℕ → List Float
+unfoldable pub channelScaled : (spectra : List Float) (factors : List ℕ) (coded : ℕ) → List Float
 channelScaled xs fs coded = blocks (scaledBand xs fs coded) 128
 
 -- the scaled values of every channel
-unfoldable pub allScaled : Layout → List Float → List ℕ → List Float
+unfoldable pub allScaled : (l : Layout) (spectra : List Float) (factors : List ℕ) → List Float
 allScaled l spectra factors = blocks (λ c. channelScaled (part 1024 spectra c) (part 128 factors c) (codedAt l c)) (l .channels)

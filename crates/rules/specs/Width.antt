@@ -7,40 +7,40 @@ use lib.IntN.{ℤ, pos, _-ℤ_, natAbs}
 use lib.ListN.{length}
 
 -- m = 2^(d-1) - 1
-abbrev pub reachOf : ℕ → ℕ
+abbrev pub reachOf : (d : ℕ) → ℕ
 reachOf d = 2 ^ (d - 1) - 1
 
-abbrev pub deltaOf : ℕ → ℕ → ℤ
+abbrev pub deltaOf : (previous factor : ℕ) → ℤ
 deltaOf previous factor = pos factor -ℤ pos previous
 
 -- |delta| is at most m
-unfoldable pub near : ℕ → ℕ → ℕ → Bool
+unfoldable pub near : (d previous factor : ℕ) → Bool
 near d previous factor = leb (natAbs (deltaOf previous factor)) (reachOf d)
 
 -- d per later band if the delta is near, else d + 6
-unfoldable pub laterCost : ℕ → ℕ → List ℕ → ℕ
+unfoldable pub laterCost : (d previous : ℕ) (factors : List ℕ) → ℕ
 laterCost d previous [] = 0
 laterCost d previous (f ∷ fs) = cond (near d previous f) d (d + 6) + laterCost d f fs
 
 -- what width d in 1..5 costs
-unfoldable pub deltaCost : List ℕ → ℕ → ℕ
+unfoldable pub deltaCost : (factors : List ℕ) (d : ℕ) → ℕ
 deltaCost [] d = 9
 deltaCost (f ∷ fs) d = 9 + laterCost d f fs
 
 -- what each width costs: 0 has 3 bits, 6 has 3 + 6 x coded
-unfoldable pub cost : List ℕ → ℕ → ℕ
+unfoldable pub cost : (factors : List ℕ) (width : ℕ) → ℕ
 cost fs w = cond (eqb w 0) 3 (cond (eqb w 6) (3 + 6 * length fs) (deltaCost fs w))
 
-unfoldable pub allZero : List ℕ → Bool
+unfoldable pub allZero : (factors : List ℕ) → Bool
 allZero [] = true
 allZero (f ∷ fs) = eqb f 0 && allZero fs
 
 -- take 6 unless some d costs strictly less; then the smallest d of least cost
-unfoldable pub cheaper : List ℕ → ℕ → ℕ → ℕ
+unfoldable pub cheaper : (factors : List ℕ) (best d : ℕ) → ℕ
 cheaper fs best d = cond (ltb (cost fs d) (cost fs best)) d best
 
-unfoldable pub width : List ℕ → ℕ
+unfoldable pub width : (factors : List ℕ) → ℕ
 width fs = cond (allZero fs) 0 (foldl (cheaper fs) 6 (1 ∷ 2 ∷ 3 ∷ 4 ∷ 5 ∷ []))
 
-unfoldable pub widthCost : List ℕ → ℕ
+unfoldable pub widthCost : (factors : List ℕ) → ℕ
 widthCost fs = cost fs (width fs)

@@ -32,6 +32,14 @@ pub struct Room {
     pub frame: usize,
 }
 
+// The lengths of all that is lent to the stage.
+pub struct StageRoom {
+    pub spectra: usize,
+    pub intensities: usize,
+    pub scaled: usize,
+    pub stored: Room,
+}
+
 // What the stage answers: level, boundary, pairs removed and bits written, or a refusal with the number beside it.
 pub enum StageAnswer {
     Delivered(usize, usize, usize, usize),

@@ -48,7 +48,7 @@ fn later_bits(d: usize, previous: u8, factor: u8) -> usize
     }
 }
 
-pub fn delta_cost(factors: &[u8], n: usize, d: usize) -> usize
+fn delta_cost(factors: &[u8], n: usize, d: usize) -> usize
     requires { ⌜ (1 ≤ d) × (d ≤ 5) ⌝ }
     requires { ⌜ (n ≤ 128) × (n ≤ length (now factors)) ⌝ }
     ensures { λ r. ⌜ r ≡ deltaCost (take n (now (factors .entry))) d ⌝ }

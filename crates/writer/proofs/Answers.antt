@@ -12,30 +12,31 @@ use lib.Seq.{length-take-le}
 use Rattle.rules.specs.Layout.{Sizes, frameSize, spectrumLength, factorLength, sideLength, legalLayout, roomOf, hasRoom}
 use Rattle.rules.specs.Record.{Rec, recOf, legalRecord}
 use Rattle.rules.specs.Fields.{fields}
-use Rattle.rules.specs.Frame.{payload, frameOf}
-use Rattle.rules.specs.Refusals.{Outcome, writeNumber}
-use Rattle.rules.specs.Stage.{laid, noFrame, FrameLeft, recordLent, frameLeft, lentRecord, packed, written}
+use Rattle.rules.specs.Frame.{fieldEnd, frameOf}
+use Rattle.rules.specs.Refusals.{Outcome, writerOutcome}
+use Rattle.rules.specs.Lent.{laid, noFrame}
+use Rattle.rules.specs.Writer.{WriterLeft, writerLent, writerLeft, lentRecord, recordWritten, written}
 use Rattle.rules.specs.declared.Layout.{Layout}
 use Rattle.rules.specs.declared.WriteAnswer.{WriteAnswer}
 use Rattle.rules.specs.declared.WriteAnswer.the-variants.{Delivered, BadLayout, ShortBuffer, NotLegal, TooLong}
 use Rattle.rules.proofs.Stores.{record-front, legal-front}
-use Rattle.demands.proofs.Demand3.{frame-length}
+use Rattle.rules_demands.proofs.Demand3.{frame-length}
 
 -- ---- the gate
 
 module _ (l : Layout) (level boundary : ℕ) (F S : List ℕ) (C : List ℤ) (frame : List ℕ) where
-  pub gate-layout : legalLayout l ≡ false → frameLeft BadLayout frame ≡ written l (recordLent level boundary F S C frame)
-  unfolding written writeNumber
+  pub gate-layout : legalLayout l ≡ false → writerLeft BadLayout frame ≡ written l (writerLent level boundary F S C frame)
+  unfolding written writerOutcome
   gate-layout e = rw e
 
   module _ (e : legalLayout l ≡ true) where
-    pub gate-short : hasRoom l (roomOf (length F) (length S) (length C) (length frame)) ≡ false → frameLeft ShortBuffer frame ≡ written l (recordLent level boundary F S C frame)
-    unfolding written writeNumber
+    pub gate-short : hasRoom l (roomOf (length F) (length S) (length C) (length frame)) ≡ false → writerLeft ShortBuffer frame ≡ written l (writerLent level boundary F S C frame)
+    unfolding written writerOutcome
     gate-short h = rw (e, h)
 
-    pub gate-open : hasRoom l (roomOf (length F) (length S) (length C) (length frame)) ≡ true → packed l (recordLent level boundary F S C frame) ≡ written l (recordLent level boundary F S C frame)
+    pub room-granted : hasRoom l (roomOf (length F) (length S) (length C) (length frame)) ≡ true → recordWritten l (writerLent level boundary F S C frame) ≡ written l (writerLent level boundary F S C frame)
     unfolding written
-    gate-open h = rw (e, h)
+    room-granted h = rw (e, h)
 
 -- ---- the run, on a frame of the stated length
 
@@ -49,22 +50,22 @@ module _ (l : Layout) (level boundary : ℕ) (F S : List ℕ) (C : List ℤ) (fr
   abbrev rec : Rec
   rec = recOf l level boundary F S C
 
-  pub run-illegal : legalRecord l level boundary F S C ≡ false → frameLeft NotLegal frame ≡ packed l (recordLent level boundary F S C frame)
-  unfolding packed writeNumber
+  pub run-illegal : legalRecord l level boundary F S C ≡ false → writerLeft NotLegal frame ≡ recordWritten l (writerLent level boundary F S C frame)
+  unfolding recordWritten writerOutcome
   run-illegal e = rw e
 
   -- what the packer answers and leaves
   module _ (z : Sizes l) (n : length frame ≡ frameSize l) (e : legalRecord l level boundary F S C ≡ true)
       (count : ℕ) (bits : count ≡ length (fields l rec)) (left : List ℕ)
-      (stored : left ≡ cond (ltb (payload l) count) (replicate (frameSize l) 0) (frameOf l rec)) where
-    pub run-long : payload l < count → frameLeft TooLong left ≡ packed l (recordLent level boundary F S C frame)
-    unfolding packed writeNumber lentRecord
+      (stored : left ≡ cond (ltb (fieldEnd l) count) (replicate (frameSize l) 0) (frameOf l rec)) where
+    pub run-long : fieldEnd l < count → writerLeft TooLong left ≡ recordWritten l (writerLent level boundary F S C frame)
+    unfolding recordWritten writerOutcome lentRecord
     run-long h =
         let is : left ≡ laid (noFrame l) frame = stored ∙ rw (lt-ltb _ _ h) (sym (laid-exact (noFrame l) frame (omega (arith, blank-length l)))) in
         rw (e, ← bits, lt-ltb _ _ h, is)
 
-    pub run-done : count ≤ payload l → frameLeft (Delivered level boundary count) left ≡ packed l (recordLent level boundary F S C frame)
-    unfolding packed writeNumber lentRecord
+    pub run-done : count ≤ fieldEnd l → writerLeft (Delivered level boundary count) left ≡ recordWritten l (writerLent level boundary F S C frame)
+    unfolding recordWritten writerOutcome lentRecord
     run-done h =
         let is : left ≡ laid (frameOf l rec) frame = stored ∙ rw (le-ltb _ _ h) (sym (laid-exact (frameOf l rec) frame (omega (arith, frame-length l z rec)))) in
         rw (e, ← bits, le-ltb _ _ h, is)
@@ -76,7 +77,7 @@ pub lent-resolutions : (l : Layout) → Sizes l → length {A = ℕ} (take (l .c
 lent-resolutions l z = length-take-le (l .channels * 128) (replicate 2048 0) (omega arith)
 
 -- with a rest behind the frame
-abbrev behind : List ℕ → FrameLeft → FrameLeft
+abbrev behind : List ℕ → WriterLeft → WriterLeft
 behind rest x = record { outcome = x .outcome; frame = x .frame ++ rest }
 
 laid-front : (new old : List ℕ) (n : ℕ) → length new ≡ n → n ≤ length old → laid new (take n old) ++ drop n old ≡ laid new old
@@ -94,18 +95,18 @@ behind-cond rest false false o₁ o₂ o₃ f₁ f₂ f₃ g₁ g₂ g₃ p q r 
 
 module _ (l : Layout) (z : Sizes l) (level boundary : ℕ) (F S : List ℕ) (C : List ℤ) (frame : List ℕ) (h : frameSize l ≤ length frame) where
   cut-open : behind (drop (frameSize l) frame)
-      (packed l (recordLent level boundary (take (factorLength l) F) (take (sideLength l) S) (take (spectrumLength l) C) (take (frameSize l) frame)))
-      ≡ packed l (recordLent level boundary F S C frame)
-  unfolding packed lentRecord
+      (recordWritten l (writerLent level boundary (take (factorLength l) F) (take (sideLength l) S) (take (spectrumLength l) C) (take (frameSize l) frame)))
+      ≡ recordWritten l (writerLent level boundary F S C frame)
+  unfolding recordWritten lentRecord
   cut-open =
       rw (legal-front l level boundary F S C, record-front l level boundary F S C)
-      (behind-cond (drop (frameSize l) frame) (not (legalRecord l level boundary F S C)) (ltb (payload l) (length (fields l (recOf l level boundary F S C)))) _ _ _ _ _ _ _ _ _
+      (behind-cond (drop (frameSize l) frame) (not (legalRecord l level boundary F S C)) (ltb (fieldEnd l) (length (fields l (recOf l level boundary F S C)))) _ _ _ _ _ _ _ _ _
       (take-append-drop (frameSize l) frame)
       (laid-front (noFrame l) frame (frameSize l) (blank-length l) h)
       (laid-front (frameOf l (recOf l level boundary F S C)) frame (frameSize l) (frame-length l z (recOf l level boundary F S C)) h))
 
   -- as `cut` answers it
-  pub cut-left : (answer : WriteAnswer) (left : List ℕ) →
-      frameLeft answer left ≡ packed l (recordLent level boundary (take (factorLength l) F) (take (sideLength l) S) (take (spectrumLength l) C) (take (frameSize l) frame)) →
-      frameLeft answer (left ++ drop (frameSize l) frame) ≡ packed l (recordLent level boundary F S C frame)
-  cut-left answer left e = ap (behind (drop (frameSize l) frame)) e ∙ cut-open
+  pub parts-left : (answer : WriteAnswer) (left : List ℕ) →
+      writerLeft answer left ≡ recordWritten l (writerLent level boundary (take (factorLength l) F) (take (sideLength l) S) (take (spectrumLength l) C) (take (frameSize l) frame)) →
+      writerLeft answer (left ++ drop (frameSize l) frame) ≡ recordWritten l (writerLent level boundary F S C frame)
+  parts-left answer left e = ap (behind (drop (frameSize l) frame)) e ∙ cut-open

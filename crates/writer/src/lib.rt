@@ -3,17 +3,18 @@ ghost use mathlib.Core.Path.{_≡_};
 ghost use Prim.Native.Nat.{_*_};
 ghost use lib.ListN.{length};
 ghost use Rattle.rules.specs.Layout.{Sizes, frameSize, roomOf, Enough};
-ghost use Rattle.rules.specs.Stage.{recordLent, frameLeft, packed, written};
+ghost use Rattle.rules.specs.Writer.{writerLent, writerLeft, recordWritten, written};
 use packing::pack_frame;
-use records::is_legal;
+use resolutions::RESOLUTION_ROOM;
 use rules::Layout;
 use rules::Room;
 use rules::WriteAnswer;
 use rules::has_room;
 use rules::legal;
+use writer_legal::is_legal;
 
 // On buffers of the stated lengths.
-fn run(
+fn write_exact(
     layout: Layout,
     level: usize,
     boundary: usize,
@@ -25,7 +26,7 @@ fn run(
 ) -> WriteAnswer
     requires { ⌜ Sizes layout ⌝ }
     requires { ⌜ (length (now factors) ≡ layout .channels * 128) × (length (now side) ≡ layout .channels * 8) × (length (now codes) ≡ layout .channels * 1024) × (length (now resolutions) ≡ layout .channels * 128) × (length (now frame) ≡ frameSize layout) ⌝ }
-    ensures { λ r. ⌜ frameLeft r (now (frame .exit)) ≡ packed layout (recordLent level boundary (now (factors .entry)) (now (side .entry)) (now (codes .entry)) (now (frame .entry))) ⌝ }
+    ensures { λ r. ⌜ writerLeft r (now (frame .exit)) ≡ recordWritten layout (writerLent level boundary (now (factors .entry)) (now (side .entry)) (now (codes .entry)) (now (frame .entry))) ⌝ }
 {
     if is_legal(layout, level, boundary, factors, side, codes, resolutions) {
         let bits = pack_frame(
@@ -47,7 +48,7 @@ fn run(
 }
 
 // Lends the parts of the stated lengths, and room for the resolutions of up to 16 channels.
-fn cut(
+fn write_parts(
     layout: Layout,
     level: usize,
     boundary: usize,
@@ -58,14 +59,14 @@ fn cut(
 ) -> WriteAnswer
     requires { ⌜ Sizes layout ⌝ }
     requires { ⌜ Enough layout (roomOf (length (now factors)) (length (now side)) (length (now codes)) (length (now frame))) ⌝ }
-    ensures { λ r. ⌜ frameLeft r (now (frame .exit)) ≡ packed layout (recordLent level boundary (now (factors .entry)) (now (side .entry)) (now (codes .entry)) (now (frame .entry))) ⌝ }
+    ensures { λ r. ⌜ writerLeft r (now (frame .exit)) ≡ recordWritten layout (writerLent level boundary (now (factors .entry)) (now (side .entry)) (now (codes .entry)) (now (frame .entry))) ⌝ }
 {
     let m = layout.channels * 128;
     let k = layout.channels * 8;
     let n = layout.channels * 1024;
     let f = layout.frame_size;
-    let mut resolutions = [0u8; 2048];
-    run(
+    let mut resolutions = [0u8; RESOLUTION_ROOM];
+    write_exact(
         layout,
         level,
         boundary,
@@ -87,7 +88,7 @@ pub fn write_record(
     codes: &[i32],
     frame: &mut [u8],
 ) -> WriteAnswer
-    ensures { λ r. ⌜ frameLeft r (now (frame .exit)) ≡ written layout (recordLent level boundary (now (factors .entry)) (now (side .entry)) (now (codes .entry)) (now (frame .entry))) ⌝ }
+    ensures { λ r. ⌜ writerLeft r (now (frame .exit)) ≡ written layout (writerLent level boundary (now (factors .entry)) (now (side .entry)) (now (codes .entry)) (now (frame .entry))) ⌝ }
 {
     let room = Room {
         factors: factors.len(),
@@ -101,5 +102,5 @@ pub fn write_record(
     if !has_room(layout, room) {
         return WriteAnswer::ShortBuffer;
     }
-    cut(layout, level, boundary, factors, side, codes, frame)
+    write_parts(layout, level, boundary, factors, side, codes, frame)
 }

@@ -18,23 +18,23 @@ loop-holds c = search needs
 sub-loop : tie.Need-sub-loop Inv-loop μ-loop
 sub-loop c = search needs
 
-shared-slice-read-wide : tie.Need-shared-slice-read-wide Inv-loop μ-loop
-shared-slice-read-wide c = search needs
+shared-slice-read-length-byte : tie.Need-shared-slice-read-length-byte Inv-loop μ-loop
+shared-slice-read-length-byte c = search needs
 
-wide-requires : tie.Need-wide-requires Inv-loop μ-loop
-wide-requires c κs = search needs
+length-byte-requires : tie.Need-length-byte-requires Inv-loop μ-loop
+length-byte-requires c κs = search needs
 
 mul-n : tie.Need-mul-n Inv-loop μ-loop
 mul-n c = search needs
 
-add-wide : tie.Need-add-wide Inv-loop μ-loop
-add-wide c = search needs
+add-length-byte : tie.Need-add-length-byte Inv-loop μ-loop
+add-length-byte c = search needs
 
-shared-slice-read-wide-2 : tie.Need-shared-slice-read-wide-2 Inv-loop μ-loop
-shared-slice-read-wide-2 c = search needs
+shared-slice-read-length-byte-2 : tie.Need-shared-slice-read-length-byte-2 Inv-loop μ-loop
+shared-slice-read-length-byte-2 c = search needs
 
-wide-requires-2 : tie.Need-wide-requires-2 Inv-loop μ-loop
-wide-requires-2 c κs = search needs
+length-byte-requires-2 : tie.Need-length-byte-requires-2 Inv-loop μ-loop
+length-byte-requires-2 c κs = search needs
 
 add-n : tie.Need-add-n Inv-loop μ-loop
 add-n c = search needs
@@ -80,12 +80,12 @@ messages-spec =
     μ-loop
     loop-holds
     sub-loop
-    shared-slice-read-wide
-    wide-requires
+    shared-slice-read-length-byte
+    length-byte-requires
     mul-n
-    add-wide
-    shared-slice-read-wide-2
-    wide-requires-2
+    add-length-byte
+    shared-slice-read-length-byte-2
+    length-byte-requires-2
     add-n
     add-start
     sub-if1

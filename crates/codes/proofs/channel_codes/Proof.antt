@@ -3,7 +3,7 @@ use Prim.Native.Nat.{_≤_, _-_}
 use native.Mathlib.Omega.{arith}
 use borrow.Author.Needs.{needs}
 use Rattle.buffers.proofs.Blocks.{Blocked, blocked-none, blocked-more, blocked-exact}
-use Rattle.codes.specs.Subframe.{subframeCodes, codesBy}
+use Rattle.rules.specs.Code.{subframeCodes, channelCodes}
 use Rattle.codes.proofs.Channels.{subframe-size}
 use Rattle.codes.proofs.channel_codes.Statement.{statement}
 use Rattle.codes.proofs.channel_codes.Tie as tie
@@ -60,7 +60,7 @@ same-length : tie.Need-same-length Inv-loop μ-loop
 same-length c = c .before .loop .inv .1 .0
 
 returns : tie.Need-returns Inv-loop μ-loop
-unfolding codesBy
+unfolding channelCodes
 returns c =
     blocked-exact _ 128 (c .before .before .before .before .args .codes .now) (c .before .loop .s) 8 _ (search needs) (search needs) (search needs)
     (c .before .loop .inv .1)

@@ -1,19 +1,21 @@
 -- `codes::quantize_spectra` meets its contract. The invariant: the first c channels are stored. Assumes nothing.
 use mathlib.Core.Path.{_∙_}
-use Prim.Native.Nat.{_≤_, _-_, _*_}
+use Prim.Native.Nat.{_≤_, _+_, _-_, _*_}
 use native.Mathlib.Omega.{arith}
 use borrow.Author.Needs.{needs}
 use Rattle.buffers.proofs.Build.{back-width}
+use Rattle.buffers.proofs.Most.{part-most}
+use Rattle.rules.specs.Code.{allCodes}
 use Rattle.buffers.proofs.Blocks.{Blocked, blocked-none, blocked-more, blocked-exact}
-use Rattle.codes.proofs.Channels.{codesIn, codes-size, row-small, all-are}
+use Rattle.codes.proofs.Channels.{codesAt, codes-size}
 use Rattle.codes.proofs.quantize_spectra.Statement.{statement}
 use Rattle.codes.proofs.quantize_spectra.Tie as tie
 
 abbrev Inv-loop : tie.InvT-loop
-Inv-loop level boundary factors resolutions scaled codes₀ channels c₀ codes c = (c ≤ channels) × Blocked (codesIn resolutions scaled) 1024 codes₀ c codes
+Inv-loop resolutions scaled codes₀ channels c₀ codes c = (c ≤ channels) × Blocked (codesAt resolutions scaled) 1024 codes₀ c codes
 
 abbrev μ-loop : tie.MeasureT-loop
-μ-loop level boundary factors resolutions scaled codes₀ channels c₀ codes c = channels - c
+μ-loop resolutions scaled codes₀ channels c₀ codes c = channels - c
 
 loop-holds : tie.Need-loop-holds Inv-loop μ-loop
 loop-holds c = (search needs, blocked-none _ 1024 _)
@@ -69,10 +71,9 @@ part-channel-codes-end-3 c = search needs
 channel-codes-requires : tie.Need-channel-codes-requires Inv-loop μ-loop
 channel-codes-requires c κs =
     let s = c .before .before .before .before in
-    let start = s .before .before .before .before in
+    let start = s .before .before .before in
     let a = start .args in (
-      rw (back-width (s .loop .c * 128) 128)
-          (row-small (a .layout) (a .level) (a .boundary) (a .factors .now) (a .resolutions .now) (start .pre .1 .0) (s .loop .c) (c .before .before .before .loop-test .taken)),
+      part-most 15 (s .loop .c * 128) (s .loop .c * 128 + 128 - s .loop .c * 128) (a .resolutions .now) (start .pre .1 .0),
       search needs,
     )
 
@@ -85,9 +86,9 @@ loop-less c = search needs
 loop-again : tie.Need-loop-again Inv-loop μ-loop
 loop-again c =
     let s = c .before .before .before .before .before .before in
-    let a = s .before .before .before .before .args in (
+    let a = s .before .before .before .args in (
       search needs,
-      blocked-more (codesIn (a .resolutions .now) (a .scaled .now)) 1024 (a .layout .channels) (a .codes .now) (λ i h. codes-size _ _) (s .loop .c) (s .loop .codes)
+      blocked-more (codesAt (a .resolutions .now) (a .scaled .now)) 1024 (a .layout .channels) (a .codes .now) (λ i h. codes-size _ _) (s .loop .c) (s .loop .codes)
           (c .before .before .before .before .before .loop-test .taken) (s .loop .inv .1) (c .before .channel-codes .last .1 .1 .0) (omega arith)
           (c .before .channel-codes .ensures ∙ rw (back-width (s .loop .c * 1024) 1024, back-width (s .loop .c * 128) 128)),
     )
@@ -96,11 +97,11 @@ same-length : tie.Need-same-length Inv-loop μ-loop
 same-length c = c .before .loop .inv .1 .0
 
 returns : tie.Need-returns Inv-loop μ-loop
+unfolding allCodes
 returns c =
-    let start = c .before .before .before .before .before in
+    let start = c .before .before .before .before in
     let a = start .args in
     blocked-exact _ 1024 (a .codes .now) (c .before .loop .c) (a .layout .channels) _ (search needs) (search needs) (search needs) (c .before .loop .inv .1)
-    ∙ all-are (a .layout) (a .level) (a .boundary) (a .factors .now) (a .resolutions .now) (start .pre .1 .0) (a .scaled .now)
 
 pub quantize-spectra-spec : {M : Type 1} → statement M
 quantize-spectra-spec =

@@ -7,7 +7,7 @@ use native.Mathlib.Omega.{arith}
 use lib.Dec.{eqb}
 use lib.ListN.{length, getD}
 use Rattle.crc.specs.Sealed.{isSealed}
-use Rattle.crc.proofs.Ends.{length-body}
+use Rattle.crc.proofs.Ends.{high-or-low, length-body}
 use borrow.Author.Needs.{needs}
 use Rattle.crc.proofs.is_sealed.Statement.{statement}
 use Rattle.crc.proofs.is_sealed.Tie as tie
@@ -27,9 +27,6 @@ shared-slice-read-wide c = search needs
 wide-requires : tie.Need-wide-requires
 wide-requires c κs = search needs
 
-mul-stored : tie.Need-mul-stored
-mul-stored c = search needs
-
 add-wide : tie.Need-add-wide
 add-wide c = search needs
 
@@ -39,16 +36,14 @@ shared-slice-read-wide-2 c = search needs
 wide-requires-2 : tie.Need-wide-requires-2
 wide-requires-2 c κs = search needs
 
-add-stored : tie.Need-add-stored
-add-stored c = search needs
-
 returns : tie.Need-returns
 unfolding isSealed
 returns c =
     let f : List ℕ = c .before .before .before .before .before .before .before .args .frame .now in
     let last : length f - 2 + 1 ≡ length f - 1 = omega arith in
     ap₂ eqb
-    (ap₂ (λ x y. x * 256 + y) (c .before .before .wide .ensures .0) (c .wide2 .ensures .0 ∙ ap (λ i. getD f i 0) last))
+    (high-or-low (c .before .before .wide .result) (c .wide2 .result) (c .before .before .wide .ensures .1) (c .wide2 .ensures .1)
+    ∙ ap₂ (λ x y. x * 256 + y) (c .before .before .wide .ensures .0) (c .wide2 .ensures .0 ∙ ap (λ i. getD f i 0) last))
     (c .before .before .before .before .crc16-checksum .ensures)
 
 pub is-sealed-spec : {M : Type 1} → statement M
@@ -60,9 +55,7 @@ is-sealed-spec =
     crc16-checksum-requires
     shared-slice-read-wide
     wide-requires
-    mul-stored
     add-wide
     shared-slice-read-wide-2
     wide-requires-2
-    add-stored
     returns)

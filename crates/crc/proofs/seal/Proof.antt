@@ -4,9 +4,10 @@ use mathlib.Core.Path.{sym, ap, _∙_}
 use mathlib.Core.List.{List, [], _∷_, _++_}
 use Prim.Native.Nat.{ℕ, _/_, _%_}
 use native.Mathlib.Omega.{arith}
+use lib.Bits.{and-mask, mask-lt}
 use lib.ListN.{length-set}
 use Rattle.crc.specs.Sealed.{body}
-use Rattle.crc.proofs.Ends.{length-body, stored}
+use Rattle.crc.proofs.Ends.{length-body, last-two-stored}
 use borrow.Author.Needs.{needs}
 use Rattle.crc.proofs.seal.Statement.{statement}
 use Rattle.crc.proofs.seal.Tie as tie
@@ -24,13 +25,13 @@ crc16-checksum-requires : tie.Need-crc16-checksum-requires
 crc16-checksum-requires c κs = search needs
 
 cast-frame : tie.Need-cast-frame
-cast-frame c = search needs
+cast-frame c = omega (arith, mask-lt (c .crc16-checksum .result) 8)
 
 slice-write-frame : tie.Need-slice-write-frame
 slice-write-frame c = search needs
 
 cast-frame-2 : tie.Need-cast-frame-2
-cast-frame-2 c = search needs
+cast-frame-2 c = omega (arith, mask-lt (c .crc16-checksum .result) 8)
 
 add-frame : tie.Need-add-frame
 add-frame c = search needs
@@ -45,7 +46,7 @@ returns : tie.Need-returns
 returns c =
     let f : List ℕ = c .before .before .before .args .frame .now in
     let s : ℕ = c .crc16-checksum .result in
-    stored f (c .before .before .before .pre) (s / 256) (s % 256)
+    rw (and-mask s 8) (last-two-stored f (c .before .before .before .pre) (s / 256) (s % 256))
     ∙ ap (λ x. body f ++ (x / 256 ∷ x % 256 ∷ [])) (c .crc16-checksum .ensures)
 
 pub seal-spec : {M : Type 1} → statement M

@@ -15,15 +15,15 @@ use Rattle.crc.specs.Table.{IsTable}
 use Rattle.crc.proofs.table.Statement.{statement}
 use Rattle.crc.proofs.table.Tie as tie
 
-right : List ℕ → ℕ → Bool
-right xs n = eqb (getD xs n 0) (checksum (n ∷ []))
+entry-right : List ℕ → ℕ → Bool
+entry-right xs n = eqb (getD xs n 0) (checksum (n ∷ []))
 
-is-table : (xs : List ℕ) → every (right xs) 256 ≡ true → IsTable xs
-unfolding right
-is-table xs t = record { rule = λ n h. eqb-true (getD xs n 0) (checksum (n ∷ [])) (every-at (right xs) 256 n t h) }
+is-table : (xs : List ℕ) → every (entry-right xs) 256 ≡ true → IsTable xs
+unfolding entry-right
+is-table xs t = record { rule = λ n h. eqb-true (getD xs n 0) (checksum (n ∷ [])) (every-at (entry-right xs) 256 n t h) }
 
 returns : tie.Need-returns
-unfolding every right checksum value bitsOf bits
+unfolding every entry-right checksum value bitsOf bits
 returns c = is-table _ refl
 
 pub table-spec : {M : Type 1} → statement M

@@ -1,28 +1,32 @@
 -- `estimate::side_bits` meets its contract. Assumes nothing.
-use mathlib.Core.Path.{sym, _∙_}
+use mathlib.Core.Path.{ap₂}
+use Prim.Native.Nat.{ℕ, _*_, _≤_}
+use native.Mathlib.Nat.{mul-le-mul}
 use native.Mathlib.Omega.{arith}
 use borrow.Author.Needs.{needs}
-use Rattle.rules.specs.Layout.{secondaryAt, sidesAt}
 use Rattle.estimate.proofs.side_bits.Statement.{statement}
 use Rattle.estimate.proofs.side_bits.Tie as tie
 
-is-secondary-requires : tie.Need-is-secondary-requires
-is-secondary-requires c κs = search needs
+side-width-requires : tie.Need-side-width-requires
+side-width-requires c κs = search needs
 
-groups-requires : tie.Need-groups-requires
-groups-requires c κs = search needs
+side-count-requires : tie.Need-side-count-requires
+side-count-requires c κs = search needs
+
+cast-result : tie.Need-cast-result
+cast-result c = search needs
 
 mul-result : tie.Need-mul-result
-mul-result c = search needs
+mul-result c =
+    let n : c .side-count .result * c .before .side-width .result ≤ 8 * 6 = mul-le-mul (c .side-count .ensures .1) (c .before .side-width .ensures .1) in
+    record { fits = omega arith }
 
 returns : tie.Need-returns
-unfolding secondaryAt sidesAt
-returns c = (rw (sym (c .before .is-secondary .ensures) ∙ c .if1 .taken), omega arith)
-
-returns-2 : tie.Need-returns-2
-unfolding secondaryAt sidesAt
-returns-2 c = (rw (sym (c .before .before .is-secondary .ensures) ∙ c .before .if1 .left, c .groups .ensures .0), omega arith)
+returns c = (
+  ap₂ (λ (a b : ℕ). a * b) (c .side-count .ensures .0) (c .before .side-width .ensures .0),
+  mul-le-mul (c .side-count .ensures .1) (c .before .side-width .ensures .1),
+)
 
 pub side-bits-spec : {M : Type 1} → statement M
 side-bits-spec =
-    tie.close (tie.spec is-secondary-requires groups-requires mul-result returns returns-2)
+    tie.close (tie.spec side-width-requires side-count-requires cast-result mul-result returns)

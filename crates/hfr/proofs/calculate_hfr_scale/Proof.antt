@@ -7,14 +7,14 @@ use borrow.Author.Needs.{needs}
 use Rattle.hfr.proofs.calculate_hfr_scale.Statement.{statement}
 use Rattle.hfr.proofs.calculate_hfr_scale.Tie as tie
 
-spectrum-average-requires : tie.Need-spectrum-average-requires
-spectrum-average-requires c κs = search needs
+hfr-spectra-average-requires : tie.Need-hfr-spectra-average-requires
+hfr-spectra-average-requires c κs = search needs
 
 mean-requires : tie.Need-mean-requires
 mean-requires c κs = search needs
 
-source-average-requires : tie.Need-source-average-requires
-source-average-requires c κs = search needs
+hfr-source-average-requires : tie.Need-hfr-source-average-requires
+hfr-source-average-requires c κs = search needs
 
 mean-requires-2 : tie.Need-mean-requires-2
 mean-requires-2 c κs = search needs
@@ -28,17 +28,17 @@ find-scale-factor-requires c κs = search needs
 returns : tie.Need-returns
 unfolding hfrScale
 returns c =
-    let spectrum = c .before .before .before .before .mean .ensures ∙ ap mean (c .before .before .before .before .before .spectrum-average .ensures .0) in
-    let source = c .before .before .mean2 .ensures ∙ ap mean (c .before .before .before .source-average .ensures .0) in
+    let spectrum = c .before .before .before .before .mean .ensures ∙ ap mean (c .before .before .before .before .before .hfr-spectra-average .ensures .0) in
+    let source = c .before .before .mean2 .ensures ∙ ap mean (c .before .before .before .hfr-source-average .ensures .0) in
     c .find-scale-factor .ensures .0 ∙ ap factorOf (c .before .group-value .ensures ∙ ap₂ groupValue spectrum source)
 
 pub calculate-hfr-scale-spec : {M : Type 1} → statement M
 calculate-hfr-scale-spec =
     tie.close
     (tie.spec
-    spectrum-average-requires
+    hfr-spectra-average-requires
     mean-requires
-    source-average-requires
+    hfr-source-average-requires
     mean-requires-2
     group-value-requires
     find-scale-factor-requires

@@ -5,7 +5,7 @@ use native.Mathlib.Omega.{arith}
 use borrow.Author.Needs.{needs}
 use lib.ListN.{getD}
 use Rattle.buffers.proofs.Build.{Filled, filled-none, filled-more, filled-all}
-use Rattle.hfr.specs.Side.{intensitySide}
+use Rattle.rules.specs.Hfr.{intensitySide}
 use Rattle.hfr.proofs.copy_intensities.Statement.{statement}
 use Rattle.hfr.proofs.copy_intensities.Tie as tie
 

@@ -8,8 +8,7 @@ use borrow.Author.Needs.{needs}
 use borrow.Author.Tests.{lt-ltb, le-ltb}
 use lib.Dec.{ltb}
 use Rattle.buffers.proofs.Build.{Filled, filled-none, filled-more, filled-all}
-use Rattle.rules.specs.Hfr.{hfrScale}
-use Rattle.hfr.specs.Side.{scaleSide}
+use Rattle.rules.specs.Hfr.{hfrScale, scaleSide}
 use Rattle.hfr.proofs.fill_scales.Statement.{statement}
 use Rattle.hfr.proofs.fill_scales.Tie as tie
 

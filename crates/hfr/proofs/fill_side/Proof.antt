@@ -3,10 +3,9 @@ use mathlib.Core.Path.{refl, _∙_}
 use Prim.Native.Nat.{_≤_, _-_}
 use borrow.Author.Needs.{needs}
 use Rattle.buffers.proofs.Blocks.{Blocked, blocked-none, blocked-more, blocked-exact}
-use Rattle.rules.specs.Hfr.{allSide}
+use Rattle.rules.specs.Hfr.{allSide, sideAt}
 use Rattle.rules.proofs.LentRows.{next-le, nearer, next-fits, start-fits, end-fits, starts, ends, next-ends, lent-long}
 use Rattle.rules.proofs.Made.{side-size}
-use Rattle.hfr.specs.Side.{sideAt}
 use Rattle.hfr.proofs.fill_side.Statement.{statement}
 use Rattle.hfr.proofs.fill_side.Tie as tie
 

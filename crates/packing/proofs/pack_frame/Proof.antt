@@ -4,7 +4,7 @@ use borrow.Author.Tests.{lt-ltb, le-ltb}
 use lib.ListN.{replicate}
 use Rattle.rules.specs.Layout.{frameSize}
 use Rattle.rules.specs.Record.{Rec, recOf}
-use Rattle.packing.proofs.Frames.{payload-length, count-is, frame-length, frame-is}
+use Rattle.packing.proofs.Frames.{part-length, count-is, packed-length, frame-is}
 use borrow.Author.Needs.{needs}
 use Rattle.packing.proofs.pack_frame.Statement.{statement}
 use Rattle.packing.proofs.pack_frame.Tie as tie
@@ -24,7 +24,7 @@ clear c = c .clear-u8 .ensures ∙ ap (λ n. replicate n 0) (c .before .before .
 slice-aggregate-write-fields : tie.Need-slice-aggregate-write-fields
 slice-aggregate-write-fields c =
     let s = c .before .before .before .before .before .before .before .before .before .before in
-    sym (payload-length (s .args .layout) (s .pre .0) (clear (c .before .before .before .before)))
+    sym (part-length (s .args .layout) (s .pre .0) (clear (c .before .before .before .before)))
 
 write-fields-requires : tie.Need-write-fields-requires
 write-fields-requires c κs =
@@ -51,7 +51,7 @@ returns c =
     let cleared = clear (c .before .before .before .before .before .before .before .before .before .before .before .before) in
     let w = c .before .before .before .before .before .before .before .write-fields .ensures in (
       count-is l (s .pre .0) cleared (rec s) w,
-      c .before .before .clear-u82 .ensures ∙ ap (λ n. replicate n 0) (frame-length l (s .pre .0) cleared (rec s) w) ∙ rw (lt-ltb _ _ (c .before .before .before .before .if1 .taken)),
+      c .before .before .clear-u82 .ensures ∙ ap (λ n. replicate n 0) (packed-length l (s .pre .0) cleared (rec s) w) ∙ rw (lt-ltb _ _ (c .before .before .before .before .if1 .taken)),
     )
 
 seal-requires : tie.Need-seal-requires

@@ -4,8 +4,9 @@ use native.Mathlib.Omega.{arith}
 use lib.ListN.{length}
 use Rattle.bits.proofs.Runs.{writes-then}
 use Rattle.buffers.specs.Walk.{AtMost}
-use Rattle.resolutions.proofs.Bands.{resolutions-most, resolutions-long}
-use Rattle.packing.proofs.Frames.{fields-are}
+use Rattle.rules.proofs.Bands.{resolutions-long}
+use Rattle.resolutions.proofs.Bands.{resolutions-most}
+use Rattle.packing.proofs.Frames.{fields-packed}
 use borrow.Author.Needs.{needs}
 use Rattle.packing.proofs.write_fields.Statement.{statement}
 use Rattle.packing.proofs.write_fields.Tie as tie
@@ -22,10 +23,10 @@ write-codes-requires c κs =
     let a = s .args in
     let lent = s .pre .1 .1 .1 in
     let head = c .before .before .before .before .before .before .before .write-head .ensures in
-    let next = c .before .before .before .write-channels .ensures in (
+    let channels = c .before .before .before .write-channels .ensures in (
       s .pre .0,
       (
-        (omega (arith, head .1, next .1), ap length lent ∙ resolutions-long (a .layout) (a .level) (a .boundary) (a .factors .now), s .pre .1 .1 .0 .2),
+        (omega (arith, head .1, channels .1), ap length lent ∙ resolutions-long (a .layout) (a .level) (a .boundary) (a .factors .now), s .pre .1 .1 .0 .2),
         subst (λ rs. AtMost 15 rs) (sym lent) (resolutions-most (a .layout) (a .level) (a .boundary) (a .factors .now)),
       ),
     )
@@ -36,12 +37,12 @@ same-length c = search needs
 returns : tie.Need-returns
 returns c =
     let head = c .before .before .before .before .before .before .before .before .before .before .write-head .ensures in
-    let next = c .before .before .before .before .before .before .write-channels .ensures in
+    let channels = c .before .before .before .before .before .before .write-channels .ensures in
     let codes = c .before .before .write-codes .ensures in
     let s = c .before .before .before .before .before .before .before .before .before .before .before .before .before .before .before .before in
     let a = s .args in
-    rw (fields-are (a .layout) (a .level) (a .boundary) (a .factors .now) (a .side .now) (a .codes .now) (a .resolutions .now) (s .pre .0) (s .pre .1 .1 .0 .0) (s .pre .1 .1 .1))
-    (writes-then (head .0) (writes-then (next .0) (codes .0)))
+    rw (fields-packed (a .layout) (a .level) (a .boundary) (a .factors .now) (a .side .now) (a .codes .now) (a .resolutions .now) (s .pre .0) (s .pre .1 .1 .0 .0) (s .pre .1 .1 .1))
+    (writes-then (head .0) (writes-then (channels .0) (codes .0)))
 
 pub write-fields-spec : {M : Type 1} → statement M
 write-fields-spec =

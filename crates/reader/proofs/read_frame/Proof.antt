@@ -1,12 +1,12 @@
--- `read_frame` is `read`: refusals 1 and 2, and behind them `cut`. Assumes nothing.
+-- `read_frame` is `read`: refusals 1 and 2, and behind them `lend_exact`. Assumes nothing.
 use mathlib.Core.Bool.{true, false}
 use mathlib.Core.Path.{_≡_, _∙_, refl, sym}
 use borrow.Author.Needs.{needs}
 use borrow.Author.Tests.{not-true, not-false}
 use Rattle.rules.proofs.Layouts.{legal-sizes, room-facts}
 use Rattle.rules.specs.Layout.{legalLayout}
-use Rattle.rules.specs.Refusals.{readNumber}
-use Rattle.rules.specs.Stage.{read}
+use Rattle.rules.specs.Refusals.{readerOutcome}
+use Rattle.rules.specs.Reader.{read}
 use Rattle.reader.proofs.read_frame.Statement.{statement}
 use Rattle.reader.proofs.read_frame.Tie as tie
 
@@ -14,7 +14,7 @@ legal-requires : tie.Need-legal-requires
 legal-requires c κs = search needs
 
 returns : tie.Need-returns
-unfolding read readNumber
+unfolding read readerOutcome
 returns c =
     let e : legalLayout (c .before .before .before .before .before .args .layout) ≡ false = sym (c .before .legal .ensures) ∙ not-true _ (c .if1 .taken) in
     rw e refl
@@ -23,14 +23,14 @@ has-room-requires : tie.Need-has-room-requires
 has-room-requires c κs = legal-sizes _ (sym (c .before .legal .ensures) ∙ not-false _ (c .if1 .left))
 
 returns-2 : tie.Need-returns-2
-unfolding read readNumber
+unfolding read readerOutcome
 returns-2 c =
     let e : legalLayout (c .before .before .before .before .before .before .before .args .layout) ≡ true = sym (c .before .before .before .legal .ensures) ∙ not-false _ (c .before .before .if1 .left) in
     let r = sym (c .before .has-room .ensures) ∙ not-true _ (c .if2 .taken) in
     rw (e, r) refl
 
-cut-requires : tie.Need-cut-requires
-cut-requires c κs = (legal-sizes _ (sym (c .before .before .before .before .before .before .legal .ensures) ∙ not-false _ (c .before .before .before .before .before .if1 .left)), room-facts _ _ (sym (c .before .before .before .before .has-room .ensures) ∙ not-false _ (c .before .before .before .if2 .left)))
+lend-exact-requires : tie.Need-lend-exact-requires
+lend-exact-requires c κs = (legal-sizes _ (sym (c .before .before .before .before .before .before .legal .ensures) ∙ not-false _ (c .before .before .before .before .before .if1 .left)), room-facts _ _ (sym (c .before .before .before .before .has-room .ensures) ∙ not-false _ (c .before .before .before .if2 .left)))
 
 same-length : tie.Need-same-length
 same-length c = search needs
@@ -46,7 +46,7 @@ unfolding read
 returns-3 c =
     let e : legalLayout (c .before .before .before .before .before .before .before .before .before .before .before .before .before .before .before .before .args .layout) ≡ true = sym (c .before .before .before .before .before .before .before .before .before .before .before .before .legal .ensures) ∙ not-false _ (c .before .before .before .before .before .before .before .before .before .before .before .if1 .left) in
     let r = sym (c .before .before .before .before .before .before .before .before .before .before .has-room .ensures) ∙ not-false _ (c .before .before .before .before .before .before .before .before .before .if2 .left) in
-    c .before .before .before .before .before .cut .ensures ∙ rw (e, r) refl
+    c .before .before .before .before .before .lend-exact .ensures ∙ rw (e, r) refl
 
 pub read-frame-spec : {M : Type 1} → statement M
 read-frame-spec =
@@ -56,7 +56,7 @@ read-frame-spec =
     returns
     has-room-requires
     returns-2
-    cut-requires
+    lend-exact-requires
     same-length
     same-length-2
     same-length-3

@@ -19,8 +19,8 @@ loop-holds c = tt
 replay-case-requires : tie.Need-replay-case-requires Inv-loop μ-loop
 replay-case-requires c κs = tt
 
-counted-requires : tie.Need-counted-requires Inv-loop μ-loop
-counted-requires c κs = tt
+add-to-tally-requires : tie.Need-add-to-tally-requires Inv-loop μ-loop
+add-to-tally-requires c κs = tt
 
 is-damaged-requires : tie.Need-is-damaged-requires Inv-loop μ-loop
 is-damaged-requires c κs = tt
@@ -52,7 +52,7 @@ replay-cases-spec =
     word-requires
     loop-holds
     replay-case-requires
-    counted-requires
+    add-to-tally-requires
     is-damaged-requires
     returns
     past-case-requires

@@ -5,7 +5,7 @@ use borrow.Author.Needs.{needs}
 use borrow.Author.Tests.{not-true, not-false}
 use Rattle.rules.specs.Layout.{legalLayout}
 use Rattle.rules.proofs.Layouts.{legal-sizes, room-facts}
-use Rattle.writer.proofs.Answers.{gate-layout, gate-short, gate-open}
+use Rattle.writer.proofs.Answers.{gate-layout, gate-short, room-granted}
 use Rattle.writer.proofs.write_record.Statement.{statement}
 use Rattle.writer.proofs.write_record.Tie as tie
 
@@ -24,8 +24,8 @@ has-room-requires c κs = legal-sizes _ (lawful c)
 returns-2 : tie.Need-returns-2
 returns-2 c = gate-short _ _ _ _ _ _ _ (lawful (c .before .before)) (sym (c .before .has-room .ensures) ∙ not-true _ (c .if2 .taken))
 
-cut-requires : tie.Need-cut-requires
-cut-requires c κs =
+write-parts-requires : tie.Need-write-parts-requires
+write-parts-requires c κs =
     let t = c .before in
     (legal-sizes _ (lawful (t .before .before)), room-facts _ _ (sym (t .before .has-room .ensures) ∙ not-false _ (t .if2 .left)))
 
@@ -35,9 +35,9 @@ same-length c = search needs
 returns-3 : tie.Need-returns-3
 returns-3 c =
     let t = c .before .before .before .before in
-    c .before .before .cut .ensures ∙ gate-open _ _ _ _ _ _ _ (lawful (t .before .before)) (sym (t .before .has-room .ensures) ∙ not-false _ (t .if2 .left))
+    c .before .before .write-parts .ensures ∙ room-granted _ _ _ _ _ _ _ (lawful (t .before .before)) (sym (t .before .has-room .ensures) ∙ not-false _ (t .if2 .left))
 
 pub write-record-spec : {M : Type 1} → statement M
 write-record-spec =
     tie.close
-    (tie.spec legal-requires returns has-room-requires returns-2 cut-requires same-length returns-3)
+    (tie.spec legal-requires returns has-room-requires returns-2 write-parts-requires same-length returns-3)

@@ -1,11 +1,11 @@
--- `Place::add` meets its contract: where zeros follow, its stores are those of the window with the field laid over it.
+-- `Place::add` meets its contract: where zeros follow, its stores are those of the window with the field added to it.
 use mathlib.Core.Path.{_≡_, refl}
 use Prim.Native.Nat.{_+_, _*_, _<_}
 use native.Mathlib.Omega.{arith}
 use lib.ListN.{length, length-set}
 use Rattle.bits.proofs.Parts.{bytes-all}
-use Rattle.bits.proofs.Over.{over-none}
-use Rattle.bits.proofs.Tail.{Here, word-lt, added-1, added-2, added-3}
+use Rattle.bits.proofs.Overwrite.{overwrite-none}
+use Rattle.bits.proofs.Tail.{Here, word-lt, one-byte-added, two-bytes-added, three-bytes-added}
 use borrow.Author.Needs.{needs}
 use Rattle.bits.proofs.Place.add.Statement.{statement}
 use Rattle.bits.proofs.Place.add.Tie as tie
@@ -44,7 +44,7 @@ returns-2 : tie.Need-returns-2
 returns-2 c =
     let a = c .before .before .before .args in
     let n : a .bits ≡ 0 = omega arith in
-    record { next = refl; same = refl; inside = λ g z. rw (n, over-none); past = λ _. refl }
+    record { next = refl; same = refl; inside = λ g z. rw (n, overwrite-none); past = λ _. refl }
 
 bits-before-requires : tie.Need-bits-before-requires
 bits-before-requires c κs = search needs
@@ -71,7 +71,7 @@ same-length : tie.Need-same-length
 same-length c = search needs
 
 returns-3 : tie.Need-returns-3
-returns-3 c = added-1 (here (c .before .before .before)) (c .before .high-byte .ensures) (omega arith)
+returns-3 c = one-byte-added (here (c .before .before .before)) (c .before .high-byte .ensures) (omega arith)
 
 low-byte-requires : tie.Need-low-byte-requires
 low-byte-requires c κs = search needs
@@ -86,7 +86,7 @@ same-length-2 : tie.Need-same-length-2
 same-length-2 c = search needs
 
 returns-4 : tie.Need-returns-4
-returns-4 c = added-2 (here (c .before .before .before .before .before)) (c .before .before .before .high-byte .ensures) (c .before .low-byte .ensures) (omega arith)
+returns-4 c = two-bytes-added (here (c .before .before .before .before .before)) (c .before .before .before .high-byte .ensures) (c .before .low-byte .ensures) (omega arith)
 
 low-byte-requires-2 : tie.Need-low-byte-requires-2
 low-byte-requires-2 c κs = search needs
@@ -101,7 +101,7 @@ same-length-3 : tie.Need-same-length-3
 same-length-3 c = search needs
 
 returns-5 : tie.Need-returns-5
-returns-5 c = added-3 (here (c .before .before .before .before .before .before)) (c .before .before .before .before .high-byte .ensures) (c .before .before .low-byte .ensures) (c .low-byte2 .ensures)
+returns-5 c = three-bytes-added (here (c .before .before .before .before .before .before)) (c .before .before .before .before .high-byte .ensures) (c .before .before .low-byte .ensures) (c .low-byte2 .ensures)
 
 pub add-spec : {M : Type 1} → statement M
 add-spec =

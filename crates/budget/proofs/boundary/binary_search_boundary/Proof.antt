@@ -18,8 +18,8 @@ Inv-loop layout scaled factors level fixed low₀ high₀ low high =
 abbrev μ-loop : tie.MeasureT-loop
 μ-loop layout scaled factors level fixed low₀ high₀ low high = high - low
 
-header-total-requires : tie.Need-header-total-requires Inv-loop μ-loop
-header-total-requires c κs = search needs
+calculate-frame-header-length-requires : tie.Need-calculate-frame-header-length-requires Inv-loop μ-loop
+calculate-frame-header-length-requires c κs = search needs
 
 loop-holds : tie.Need-loop-holds Inv-loop μ-loop
 loop-holds c = (search needs, search needs, search needs, boundary-start _)
@@ -88,7 +88,7 @@ binary-search-boundary-spec =
     (tie.spec
     Inv-loop
     μ-loop
-    header-total-requires
+    calculate-frame-header-length-requires
     loop-holds
     add-loop
     add-mid

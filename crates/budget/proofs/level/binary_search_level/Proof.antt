@@ -5,18 +5,18 @@ use native.Mathlib.Omega.{arith}
 use borrow.Author.Needs.{needs}
 use Rattle.rules.specs.Level.{halve, levelOf}
 use Rattle.rules.proofs.Levels.{level-start, halve-up, halve-down, halve-end}
-use Rattle.budget.proofs.Searching.{over}
+use Rattle.budget.proofs.Searching.{overAt}
 use Rattle.budget.proofs.level.binary_search_level.Statement.{statement}
 use Rattle.budget.proofs.level.binary_search_level.Tie as tie
 
 abbrev Inv-loop : tie.InvT-loop
-Inv-loop layout scaled factors fixed low₀ high₀ low high = (low ≤ high) × (high ≤ 255) × (levelOf (over layout scaled factors) ≡ halve (over layout scaled factors) (high - low) low high)
+Inv-loop layout scaled factors fixed low₀ high₀ low high = (low ≤ high) × (high ≤ 255) × (levelOf (overAt layout scaled factors) ≡ halve (overAt layout scaled factors) (high - low) low high)
 
 abbrev μ-loop : tie.MeasureT-loop
 μ-loop layout scaled factors fixed low₀ high₀ low high = high - low
 
-header-total-requires : tie.Need-header-total-requires Inv-loop μ-loop
-header-total-requires c κs = search needs
+calculate-frame-header-length-requires : tie.Need-calculate-frame-header-length-requires Inv-loop μ-loop
+calculate-frame-header-length-requires c κs = search needs
 
 loop-holds : tie.Need-loop-holds Inv-loop μ-loop
 loop-holds c = (search needs, search needs, level-start _)
@@ -55,7 +55,7 @@ binary-search-level-spec =
     (tie.spec
     Inv-loop
     μ-loop
-    header-total-requires
+    calculate-frame-header-length-requires
     loop-holds
     add-mid
     is-over-requires

@@ -7,14 +7,14 @@ use borrow.Author.Needs.{needs}
 use Rattle.rules.specs.Level.{levelOf, remove, noiseLevel}
 use Rattle.rules.specs.Stage.{foundOf}
 use Rattle.rules.proofs.Levels.{remove-done, remove-stop, remove-turn}
-use Rattle.budget.proofs.Searching.{over}
+use Rattle.budget.proofs.Searching.{overAt}
 use Rattle.budget.proofs.level.calculate_noise_level.Statement.{statement}
 use Rattle.budget.proofs.level.calculate_noise_level.Tie as tie
 
 abbrev Inv-loop : tie.InvT-loop
 Inv-loop layout scaled factors₀ top₀ pairs₀ level₀ factors top pairs level =
-    (length factors ≡ length factors₀) × (2 * pairs + top ≤ 128) × (level ≤ 255) × (level ≡ levelOf (over layout scaled factors))
-    × (foundOf layout scaled factors₀ ≡ remove layout (over layout scaled) (64 - pairs) top pairs factors)
+    (length factors ≡ length factors₀) × (2 * pairs + top ≤ 128) × (level ≤ 255) × (level ≡ levelOf (overAt layout scaled factors))
+    × (foundOf layout scaled factors₀ ≡ remove layout (overAt layout scaled) (64 - pairs) top pairs factors)
 
 abbrev μ-loop : tie.MeasureT-loop
 μ-loop layout scaled factors₀ top₀ pairs₀ level₀ factors top pairs level = top

@@ -11,20 +11,20 @@ bytes-at-requires c κs = tt
 clip-requires : tie.Need-clip-requires
 clip-requires c κs = tt
 
-slice-aggregate-stage-run : tie.Need-slice-aggregate-stage-run
-slice-aggregate-stage-run c = sym (length-take-le _ _ (c .before .clip .ensures))
+slice-aggregate-judge-stage : tie.Need-slice-aggregate-judge-stage
+slice-aggregate-judge-stage c = sym (length-take-le _ _ (c .before .clip .ensures))
 
-sub-stage-run : tie.Need-sub-stage-run
-sub-stage-run c = search needs
+sub-judge-stage : tie.Need-sub-judge-stage
+sub-judge-stage c = search needs
 
-part-stage-run-start : tie.Need-part-stage-run-start
-part-stage-run-start c = search needs
+part-judge-stage-start : tie.Need-part-judge-stage-start
+part-judge-stage-start c = search needs
 
-part-stage-run-end : tie.Need-part-stage-run-end
-part-stage-run-end c = search needs
+part-judge-stage-end : tie.Need-part-judge-stage-end
+part-judge-stage-end c = search needs
 
-stage-run-requires : tie.Need-stage-run-requires
-stage-run-requires c κs = tt
+judge-stage-requires : tie.Need-judge-stage-requires
+judge-stage-requires c κs = tt
 
 returns : tie.Need-returns
 returns c = tt
@@ -35,9 +35,9 @@ stage-parts-spec =
     (tie.spec
     bytes-at-requires
     clip-requires
-    slice-aggregate-stage-run
-    sub-stage-run
-    part-stage-run-start
-    part-stage-run-end
-    stage-run-requires
+    slice-aggregate-judge-stage
+    sub-judge-stage
+    part-judge-stage-start
+    part-judge-stage-end
+    judge-stage-requires
     returns)

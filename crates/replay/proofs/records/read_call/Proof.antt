@@ -37,8 +37,8 @@ read-frame-requires c κs = tt
 read-answer-requires : tie.Need-read-answer-requires
 read-answer-requires c κs = tt
 
-sums-of-requires : tie.Need-sums-of-requires
-sums-of-requires c κs = tt
+read-sums-requires : tie.Need-read-sums-requires
+read-sums-requires c κs = tt
 
 returns : tie.Need-returns
 returns c = tt
@@ -58,5 +58,5 @@ read-call-spec =
     slice-aggregate-read-frame-3
     read-frame-requires
     read-answer-requires
-    sums-of-requires
+    read-sums-requires
     returns)

@@ -19,8 +19,8 @@ write-record-requires c κs = tt
 write-answer-requires : tie.Need-write-answer-requires
 write-answer-requires c κs = tt
 
-sum-of-requires : tie.Need-sum-of-requires
-sum-of-requires c κs = tt
+write-sums-requires : tie.Need-write-sums-requires
+write-sums-requires c κs = tt
 
 returns : tie.Need-returns
 returns c = tt
@@ -34,5 +34,5 @@ write-call-spec =
     slice-aggregate-write-record
     write-record-requires
     write-answer-requires
-    sum-of-requires
+    write-sums-requires
     returns)

@@ -1,0 +1,50 @@
+-- `cli::frames::do_all` is safe and ends. Nothing has to hold from turn to turn. Assumes nothing.
+use native.Mathlib.Omega.{arith}
+use borrow.Author.Needs.{needs}
+use Rattle.cli.proofs.frames.do_all.Statement.{statement}
+use Rattle.cli.proofs.frames.do_all.Tie as tie
+
+abbrev Inv-loop : tie.InvT-loop
+Inv-loop job run₀ turns₀ run turns = Unit {0}
+
+abbrev μ-loop : tie.MeasureT-loop
+μ-loop job run₀ turns₀ run turns = turns
+
+at-start-requires : tie.Need-at-start-requires Inv-loop μ-loop
+at-start-requires c κs = tt
+
+loop-holds : tie.Need-loop-holds Inv-loop μ-loop
+loop-holds c = tt
+
+do-next-requires : tie.Need-do-next-requires Inv-loop μ-loop
+do-next-requires c κs = tt
+
+sub-turns : tie.Need-sub-turns Inv-loop μ-loop
+sub-turns c = search needs
+
+loop-less : tie.Need-loop-less Inv-loop μ-loop
+loop-less c = omega arith
+
+loop-again : tie.Need-loop-again Inv-loop μ-loop
+loop-again c = tt
+
+returns : tie.Need-returns Inv-loop μ-loop
+returns c = tt
+
+returns-2 : tie.Need-returns-2 Inv-loop μ-loop
+returns-2 c = tt
+
+pub do-all-spec : {M : Type 1} → statement M
+do-all-spec =
+    tie.close
+    (tie.spec
+    Inv-loop
+    μ-loop
+    at-start-requires
+    loop-holds
+    do-next-requires
+    sub-turns
+    loop-less
+    loop-again
+    returns
+    returns-2)

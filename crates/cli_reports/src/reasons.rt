@@ -1,0 +1,56 @@
+// What is told of a refusal.
+use refusals::Refusal;
+use refusals::refused;
+use rules::Layout;
+use rules::legal;
+use text::forms::put_entry;
+use text::forms::put_form;
+use text::lines::put_text;
+use text::lines::say_line;
+
+// The line of each refusal, with its number and, where document 01 has one, the number beside it; line 0 is for any other.
+const FORMS: [u8; 815] = *b"refusal #: unknown\n\
+    refusal #: the layout is outside its limits\n\
+    refusal #: a lent buffer is too short\n\
+    refusal # at #: a secondary's intensity is above 15\n\
+    refusal # at #: a spectrum value is NaN or infinite\n\
+    refusal # with pairs removed: #: no level fits the frame, after every removal of bands\n\
+    refusal # at level #: no boundary is found\n\
+    refusal #: the fields do not fit the frame\n\
+    refusal #: the check is wrong\n\
+    refusal #: the sync is not FFFF\n\
+    refusal # at bit #: the level is above 254, or the boundary is not 0 at level 0\n\
+    refusal # at bit #: the width of the factor deltas is not the one that the writer chooses\n\
+    refusal # at bit #: an escape is needless, or a factor is outside 0 to 63\n\
+    refusal # at bit #: a field passes the end of the fields\n\
+    refusal # at bit #: the fill holds a 1\n\
+    refusal #: the record is not legal\n";
+
+fn line_for(number: usize) -> usize {
+    if 15 < number { 0 } else { number }
+}
+
+// Puts the refusal from a place on, and writes the line.
+fn say_told(fd: i32, line: &mut [u8], at: usize, told: Refusal) -> bool {
+    let numbers = [told.number, told.beside];
+    let end = put_entry(line, at, &FORMS, line_for(told.number), &numbers);
+    say_line(fd, line, end)
+}
+
+// A frame's refusal, on the descriptor.
+pub fn say_refusal(fd: i32, frame: usize, told: Refusal) -> bool {
+    let mut line = [0u8; 256];
+    let at = put_form(&mut line, 0, b"frame #: ", &[frame]);
+    say_told(fd, &mut line, at, told)
+}
+
+// Is the layout within its limits? If not, that is said.
+pub fn is_possible(layout: Layout) -> bool {
+    if legal(layout) {
+        return true;
+    }
+    let mut line = [0u8; 256];
+    let at = put_text(&mut line, 0, b"hcaframe: ");
+    say_told(2, &mut line, at, refused(1, 0));
+    false
+}

@@ -1,0 +1,91 @@
+// The layout that the words say, and what is counted by it.
+ghost use Prim.Native.Nat.{_≤_};
+use crate::options::Options;
+use crate::options::number;
+use rules::Layout;
+use rules::is_secondary;
+use rules::legal;
+use text::places::clip;
+
+pub fn layout_from_words(options: Options) -> Layout {
+    let kinds = options.kinds;
+    Layout {
+        channels: options.channels,
+        kinds: kinds,
+        base: number(options, 2),
+        stereo: number(options, 3),
+        total: number(options, 4),
+        frame_size: number(options, 5),
+    }
+}
+
+fn channels(layout: Layout) -> usize
+    ensures { λ r. ⌜ r ≤ 16 ⌝ }
+{
+    clip(layout.channels, 16)
+}
+
+// Spectrum values, or codes.
+pub fn value_count(layout: Layout) -> usize
+    ensures { λ r. ⌜ r ≤ 16384 ⌝ }
+{
+    channels(layout) * 1024
+}
+
+// The values' bytes in a file.
+pub fn spectra_size(layout: Layout) -> usize
+    ensures { λ r. ⌜ r ≤ 65536 ⌝ }
+{
+    channels(layout) * 4096
+}
+
+pub fn factor_count(layout: Layout) -> usize
+    ensures { λ r. ⌜ r ≤ 2048 ⌝ }
+{
+    channels(layout) * 128
+}
+
+// Side values, or intensities.
+pub fn side_value_count(layout: Layout) -> usize
+    ensures { λ r. ⌜ r ≤ 128 ⌝ }
+{
+    channels(layout) * 8
+}
+
+// A record's bytes: level and boundary, then 128 factors, 8 side values and 1,024 codes a channel.
+pub fn record_size(layout: Layout) -> usize
+    ensures { λ r. ⌜ r ≤ 67720 ⌝ }
+{
+    8 + channels(layout) * 4232
+}
+
+pub fn has_secondary(layout: Layout) -> bool {
+    let mut c = 0;
+    while c < 16 {
+        if c < layout.channels && is_secondary(layout, c) {
+            return true;
+        }
+        c += 1;
+    }
+    false
+}
+
+// How many coded bands a channel has, 0 for one that is not there.
+pub fn coded(layout: Layout, channel: usize) -> usize {
+    if legal(layout) {
+        if channel < 16 {
+            return rules::coded_count(layout, channel);
+        }
+    }
+    0
+}
+
+// How many side values.
+pub fn sides(layout: Layout, channel: usize) -> usize {
+    if legal(layout) {
+        if channel < 16 {
+            return rules::side_count(layout, channel);
+        }
+    }
+    0
+}

@@ -1,0 +1,176 @@
+// Document 01, **Frame**: sync, level and boundary, and each channel's factors and side values.
+ghost use mathlib.Core.Path.{_≡_};
+ghost use mathlib.Core.Bool.{true};
+ghost use mathlib.Core.List.{_++_};
+ghost use Prim.Native.Nat.{_+_, _-_, _*_, _^_, _<_, _≤_};
+ghost use lib.ListN.{length, getD, take};
+ghost use Rattle.buffers.specs.Walk.{build};
+ghost use Rattle.bits.specs.Bits.{bits};
+ghost use Rattle.bits.specs.Place.{Writes};
+ghost use Rattle.rules.specs.Format.{eachBits, times};
+ghost use Rattle.rules.specs.Layout.{Sizes, kindAt, kindsOf};
+ghost use Rattle.rules.specs.Width.{near, width};
+ghost use Rattle.rules.specs.Record.{chanIn, chanOf};
+ghost use Rattle.rules.specs.Fields.{deltaSymbol, deltaBits, factorBits, allFactorBits, channelFields};
+ghost use Rattle.widths.specs.Previous.{factorBefore};
+use bits::Place;
+use rules::Layout;
+use rules::coded_count;
+use rules::side_count;
+use rules::side_width;
+use widths::calculate_optimal_delta_length;
+use widths::delta;
+use widths::is_near;
+use widths::reach;
+
+// FFFF, the level in 9 bits, the boundary in 7.
+pub fn write_head(place: Place, payload: &mut [u8], level: usize, boundary: usize) -> Place
+    requires { ⌜ (level ≤ 511) × (boundary ≤ 127) × (place .at < 2 ^ 49) ⌝ }
+    ensures { λ r. ⌜ Writes (now (payload .entry)) (place .at) (bits 16 0xFFFF ++ (bits 9 level ++ bits 7 boundary)) (now (payload .exit)) (r .at) × (r .at ≡ place .at + 32) ⌝ }
+{
+    let a = place.write(payload, 0xFFFF, 16);
+    let b = a.write(payload, level as u32, 9);
+    b.write(payload, boundary as u32, 7)
+}
+
+// All ones in d bits, and the factor in 6.
+fn write_escape(place: Place, payload: &mut [u8], d: usize, factor: u8) -> Place
+    requires { ⌜ (1 ≤ d) × (d ≤ 5) × (place .at < 2 ^ 49) ⌝ }
+    ensures { λ r. ⌜ Writes (now (payload .entry)) (place .at) (bits d (2 ^ d - 1) ++ bits 6 factor) (now (payload .exit)) (r .at) × (r .at ≡ place .at + d + 6) ⌝ }
+{
+    let width = d as u32;
+    let next = place.write(payload, bits::ones(width), width);
+    next.write(payload, factor as u32, 6)
+}
+
+// m + delta, the delta signed, where it is near.
+fn delta_symbol(d: usize, previous: u8, factor: u8) -> u32
+    requires { ⌜ (1 ≤ d) × (d ≤ 5) × (near d previous factor ≡ true) ⌝ }
+    ensures { λ r. ⌜ r ≡ deltaSymbol d previous factor ⌝ }
+{
+    (reach(d) as i32 + delta(previous, factor)) as u32
+}
+
+// A later factor at width d: m + delta in d bits, or an escape.
+fn write_delta(place: Place, payload: &mut [u8], d: usize, previous: u8, factor: u8) -> Place
+    requires { ⌜ (1 ≤ d) × (d ≤ 5) × (place .at < 2 ^ 49) ⌝ }
+    ensures { λ r. ⌜ Writes (now (payload .entry)) (place .at) (deltaBits d previous factor) (now (payload .exit)) (r .at) × (r .at ≤ place .at + 11) ⌝ }
+{
+    if is_near(d, previous, factor) {
+        let symbol = delta_symbol(d, previous, factor);
+        return place.write(payload, symbol, d as u32);
+    }
+    write_escape(place, payload, d, factor)
+}
+
+// Factor i at a width: the first, and each at width 6, in 6 bits.
+fn write_factor(place: Place, payload: &mut [u8], factors: &[u8], i: usize, width: usize) -> Place
+    requires { ⌜ (1 ≤ width) × (width ≤ 6) × (place .at < 2 ^ 49) × (i < length (now factors)) ⌝ }
+    ensures { λ r. ⌜ Writes (now (payload .entry)) (place .at) (factorBits width (factorBefore i (getD (now (factors .entry)) (i - 1) 0)) (getD (now (factors .entry)) i 0)) (now (payload .exit)) (r .at) × (r .at ≤ place .at + 11) ⌝ }
+{
+    let factor = factors[i];
+    if i == 0 {
+        return place.write(payload, factor as u32, 6);
+    }
+    if width == 6 {
+        return place.write(payload, factor as u32, 6);
+    }
+    write_delta(place, payload, width, factors[i - 1], factor)
+}
+
+fn write_factors(
+    place: Place,
+    payload: &mut [u8],
+    factors: &[u8],
+    coded: usize,
+    width: usize,
+) -> Place
+    requires { ⌜ (1 ≤ width) × (width ≤ 6) × (place .at < 2 ^ 48) × (length (now factors) ≡ 128) × (coded ≤ 128) ⌝ }
+    ensures { λ r. ⌜ Writes (now (payload .entry)) (place .at) (allFactorBits width coded (take coded (now (factors .entry)))) (now (payload .exit)) (r .at) × (r .at ≤ place .at + 1408) ⌝ }
+{
+    let mut at = place;
+    let mut i = 0;
+    while i < coded {
+        at = write_factor(at, payload, factors, i, width);
+        i += 1;
+    }
+    at
+}
+
+// The width in 3 bits, and the coded factors; width 0 has none.
+fn write_scale_factors(place: Place, payload: &mut [u8], factors: &[u8], coded: usize) -> Place
+    requires { ⌜ (place .at < 2 ^ 47) × (length (now factors) ≡ 128) × (coded ≤ 128) ⌝ }
+    ensures { λ r. ⌜ Writes (now (payload .entry)) (place .at) (bits 3 (width (take coded (now (factors .entry)))) ++ allFactorBits (width (take coded (now (factors .entry)))) coded (take coded (now (factors .entry)))) (now (payload .exit)) (r .at) × (r .at ≤ place .at + 1411) ⌝ }
+{
+    let best = calculate_optimal_delta_length(factors, coded);
+    let width = best.bits;
+    let next = place.write(payload, width as u32, 3);
+    if width == 0 {
+        return next;
+    }
+    write_factors(next, payload, factors, coded, width)
+}
+
+// The first side values, each in `width` bits.
+fn write_side(place: Place, payload: &mut [u8], side: &[u8], count: usize, width: u32) -> Place
+    requires { ⌜ (place .at < 2 ^ 47) × (length (now side) ≡ 8) × (count ≤ 8) × (width ≤ 6) ⌝ }
+    ensures { λ r. ⌜ Writes (now (payload .entry)) (place .at) (eachBits (λ _. bits width) (times count) (take count (now (side .entry)))) (now (payload .exit)) (r .at) × (r .at ≤ place .at + 48) ⌝ }
+{
+    let mut at = place;
+    let mut i = 0;
+    while i < count {
+        at = at.write(payload, side[i] as u32, width);
+        i += 1;
+    }
+    at
+}
+
+// A channel's width, factors and side values.
+fn write_channel(
+    place: Place,
+    payload: &mut [u8],
+    layout: Layout,
+    channel: usize,
+    factors: &[u8],
+    side: &[u8],
+) -> Place
+    requires { ⌜ Sizes layout ⌝ }
+    requires { ⌜ (place .at < 2 ^ 46) × (channel < 16) × (length (now factors) ≡ 128) × (length (now side) ≡ 8) ⌝ }
+    ensures { λ r. ⌜ Writes (now (payload .entry)) (place .at) (channelFields layout (kindAt layout channel) (chanIn layout channel (now (factors .entry)) (now (side .entry)))) (now (payload .exit)) (r .at) × (r .at ≤ place .at + 1459) ⌝ }
+{
+    let coded = coded_count(layout, channel);
+    let next = write_scale_factors(place, payload, factors, coded);
+    let count = side_count(layout, channel);
+    let width = side_width(layout, channel);
+    write_side(next, payload, side, count, width)
+}
+
+pub fn write_channels(
+    place: Place,
+    payload: &mut [u8],
+    layout: Layout,
+    factors: &[u8],
+    side: &[u8],
+) -> Place
+    requires { ⌜ Sizes layout ⌝ }
+    requires { ⌜ (place .at < 2 ^ 45) × (length (now factors) ≡ layout .channels * 128) × (length (now side) ≡ layout .channels * 8) ⌝ }
+    ensures { λ r. ⌜ Writes (now (payload .entry)) (place .at) (eachBits (channelFields layout) (kindsOf layout) (build (chanOf layout (now (factors .entry)) (now (side .entry))) (layout .channels))) (now (payload .exit)) (r .at) × (r .at ≤ place .at + 23344) ⌝ }
+{
+    let channels = layout.channels;
+    let mut at = place;
+    let mut c = 0;
+    while c < channels {
+        let f = c * 128;
+        let s = c * 8;
+        at = write_channel(
+            at,
+            payload,
+            layout,
+            c,
+            &factors[f..f + 128],
+            &side[s..s + 8],
+        );
+        c += 1;
+    }
+    at
+}

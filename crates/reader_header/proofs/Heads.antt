@@ -1,0 +1,118 @@
+-- Level, boundary and channels, one way through the record's reader after the other. Assumes nothing.
+use mathlib.Core.Path.{_≡_, refl, sym, _∙_, subst}
+use mathlib.Core.List.{List}
+use mathlib.Core.Bool.{true, false, _||_}
+use Prim.Native.Nat.{ℕ, _≤_, _<_}
+use native.Mathlib.Omega.{arith}
+use borrow.Author.Tests.{le-leb, lt-leb}
+use lib.Dec.{leb, eqb}
+use lib.IntN.{ℤ}
+use Rattle.bits.specs.Bits.{bitsOf}
+use Rattle.bits.specs.Place.{leftAt, fieldAt}
+use Rattle.bits.specs.declared.Place.{Place}
+use Rattle.bits.specs.declared.Field.the-variants as field
+use Rattle.rules.specs.Format.{Read, ok, bad, Reader, pure, _>>=_, andThen, each, times}
+use Rattle.rules.specs.Layout.{kindsOf}
+use Rattle.rules.specs.Record.{Chan, Rec, resolutions}
+use Rattle.rules.specs.Reading.{readCode, readLevel, readBoundary, readChannel, readRecord}
+use Rattle.rules.specs.declared.Layout.{Layout}
+use Rattle.reader_values.specs.declared.faults.Fault.{Fault}
+use Rattle.reader_values.specs.declared.faults.Fault.the-variants as fault
+use Rattle.reader_values.specs.declared.Value.the-variants as value
+use Rattle.reader_values.specs.declared.faults.Step.{Step}
+use Rattle.reader_values.specs.declared.faults.Step.the-variants as step
+use Rattle.reader_values.specs.Values.{ValueTold}
+use Rattle.reader_values.proofs.Answered.{number-read, number-cut, judged-cut, judged-yes, judged-no}
+use Rattle.reader_header.specs.Answers.{StoredChannels}
+use Rattle.reader_header.specs.declared.head.Head.{Head}
+use Rattle.reader_header.specs.declared.head.Head.the-variants as head
+use Rattle.reader_header.specs.Headed.{HeadTold, codesThen, Started, Headed, headAfter}
+
+abbrev Codes : Type 0
+Codes = List (List (List ℤ))
+
+-- the record of its four fields is the record that the last of them ends
+codes-last : (level boundary : ℕ) (chans : List Chan) (x : Read Codes)
+    → andThen {A = Rec} {B = ℕ × (ℕ × (List Chan × Codes))}
+    (andThen {A = ℕ × (ℕ × (List Chan × Codes))} {B = ℕ × (List Chan × Codes)}
+    (andThen {A = ℕ × (List Chan × Codes)} {B = List Chan × Codes} (andThen {A = List Chan × Codes} x (λ cs. pure (chans, cs))) (λ y. pure (boundary, y)))
+    (λ y. pure (level, y)))
+    (λ y. pure (record { level = y .0; boundary = y .1 .0; chans = y .1 .1 .0; codes = y .1 .1 .1 }))
+    ≡ andThen {A = Rec} x (λ cs. pure (record { level = level; boundary = boundary; chans = chans; codes = cs }))
+codes-last level boundary chans (ok cs t) = refl
+codes-last level boundary chans (bad n k) = refl
+
+channels-last : (level boundary : ℕ) (x : Read (List Chan))
+    → andThen {A = Rec} {B = ℕ × (ℕ × (List Chan × Codes))}
+    (andThen {A = ℕ × (ℕ × (List Chan × Codes))} {B = ℕ × (List Chan × Codes)}
+    (andThen {A = ℕ × (List Chan × Codes)} {B = List Chan × Codes}
+    (andThen {A = List Chan × Codes} x (λ chans. each (λ _. each (each readCode) (resolutions level boundary chans)) (times 8) >>= λ cs. pure (chans, cs)))
+    (λ y. pure (boundary, y)))
+    (λ y. pure (level, y)))
+    (λ y. pure (record { level = y .0; boundary = y .1 .0; chans = y .1 .1 .0; codes = y .1 .1 .1 }))
+    ≡ andThen {A = Rec} x (codesThen level boundary)
+channels-last level boundary (ok chans t) = codes-last level boundary chans (each (λ _. each (each readCode) (resolutions level boundary chans)) (times 8) t)
+channels-last level boundary (bad n k) = refl
+
+-- LEVEL AND BOUNDARY
+module _ (l : Layout) (s : List ℕ) where
+  level-refused : {f : Fault} → ValueTold s (readLevel (bitsOf s)) 255 (value.Refused f) → Started l s (head.Refused f)
+  unfolding readRecord
+  level-refused t = record { is = rw (t .is) refl; within = t .within; holds = tt }
+
+  pub level-past : {k : ℕ} → fieldAt s 0 9 ≡ field.Past k → Started l s (head.Refused (fault.PastEnd 0))
+  level-past e = level-refused (judged-cut s 0 9 (fault.BadLevel 0) (λ v. leb v 254) (number-cut s 0 9 (omega arith) e) refl)
+
+  module _ {v : ℕ} {q : Place} (e : fieldAt s 0 9 ≡ field.Of v q) where
+    pub level-high : 254 < v → Started l s (head.Refused (fault.BadLevel 0))
+    level-high h = level-refused (judged-no s 0 9 (fault.BadLevel 0) (λ v. leb v 254) (number-read s 0 9 e) refl (lt-leb v 254 h) (omega arith))
+
+    module _ (h : v ≤ 254) where
+      level-kept : ValueTold s (readLevel (bitsOf s)) 255 (value.Of v q)
+      level-kept = judged-yes s 0 9 (fault.BadLevel 0) (λ v. leb v 254) (number-read s 0 9 e) refl (le-leb v 254 h) (omega arith)
+
+      boundary-refused : {f : Fault} → ValueTold s (readBoundary v (leftAt s (q .at))) 128 (value.Refused f) → Started l s (head.Refused f)
+      unfolding readRecord
+      boundary-refused t = record { is = rw (level-kept .is, t .is) refl; within = t .within; holds = tt }
+
+      pub boundary-past : {k : ℕ} → fieldAt s (q .at) 7 ≡ field.Past k → Started l s (head.Refused (fault.PastEnd (q .at)))
+      boundary-past i =
+          boundary-refused
+          (judged-cut s (q .at) 7 (fault.BadLevel (q .at)) (λ b. leb 1 v || eqb b 0) (number-cut s (q .at) 7 (level-kept .within) i) refl)
+
+      module _ {b : ℕ} {p : Place} (i : fieldAt s (q .at) 7 ≡ field.Of b p) where
+        pub boundary-wrong : (leb 1 v || eqb b 0) ≡ false → Started l s (head.Refused (fault.BadLevel (q .at)))
+        boundary-wrong z =
+            boundary-refused
+            (judged-no s (q .at) 7 (fault.BadLevel (q .at)) (λ b. leb 1 v || eqb b 0) (number-read s (q .at) 7 i) refl z (level-kept .within))
+
+        pub started : (leb 1 v || eqb b 0) ≡ true → Started l s (head.Of v b p)
+        unfolding readRecord
+        started z =
+            let t = number-read s (q .at) 7 i in
+            let u = judged-yes s (q .at) 7 (fault.BadLevel (q .at)) (λ b. leb 1 v || eqb b 0) {m′ = 128} t refl z (t .small) in
+            record {
+              is = rw (level-kept .is, u .is) (channels-last v b (each (readChannel l) (kindsOf l) (leftAt s (p .at))));
+              within = u .within;
+              holds = h;
+            }
+
+-- an answer of a known variant
+module _ {l : Layout} {s : List ℕ} {rest : ℕ → ℕ → Reader Rec} {P : ℕ → ℕ → Type 0} {r : Head} (t : HeadTold l s rest P r) where
+  pub head-of : {o : Head} → r ≡ o → HeadTold l s rest P o
+  head-of e = subst (λ o. HeadTold l s rest P o) e t
+
+  -- a refusal is the same whatever was to follow
+  pub head-refused : {rest′ : ℕ → ℕ → Reader Rec} {P′ : ℕ → ℕ → Type 0} {f : Fault} → r ≡ head.Refused f → HeadTold l s rest′ P′ r
+  head-refused {rest′} {P′} e =
+      let u = head-of e in
+      subst (λ o. HeadTold l s rest′ P′ o) (sym e) (record { is = u .is; within = u .within; holds = tt })
+
+-- THE CHANNELS after them
+pub headed-after : (l : Layout) (s F S : List ℕ) {v b : ℕ} {q : Place} → Started l s (head.Of v b q)
+    → (o : Step) → StoredChannels l s (each (readChannel l) (kindsOf l) (leftAt s (q .at))) F S o → {r : Head} → r ≡ headAfter v b o → Headed l s F S r
+headed-after l s F S {v} {b} {q} t o u e = subst (λ r. Headed l s F S r) (sym e) (go o u)
+  where
+    go : (o : Step) → StoredChannels l s (each (readChannel l) (kindsOf l) (leftAt s (q .at))) F S o → Headed l s F S (headAfter v b o)
+    go (step.At _) u = record { is = t .is ∙ rw (u .done .is) refl; within = u .done .within; holds = (t .holds, u .rows) }
+    go (step.Refused f) u = record { is = t .is ∙ rw (u .done .is) refl; within = u .done .within; holds = tt }

@@ -1,0 +1,4 @@
+pub mod HeaderChannels
+pub mod Heads
+pub mod Walks
+pub mod Widths

@@ -1,0 +1,100 @@
+// The strict reader's header: level, boundary, and each channel's width, factors and side values.
+pub mod head;
+mod rows;
+
+ghost use mathlib.Core.Path.{_≡_};
+ghost use Prim.Native.Nat.{_≤_, _<_};
+ghost use lib.ListN.{length};
+ghost use Rattle.bits.specs.Place.{leftAt};
+ghost use Rattle.rules.specs.Layout.{Sizes, kindAt, kindsOf, factorLength, sideLength};
+ghost use Rattle.rules.specs.Format.{each};
+ghost use Rattle.rules.specs.Reading.{readChannel};
+ghost use Rattle.reader_values.specs.Steps.{Inside};
+ghost use Rattle.reader_header.specs.Answers.{StoredChannel, StoredChannels};
+ghost use Rattle.reader_header.specs.Headed.{Headed};
+use crate::head::Head;
+use crate::head::head_after;
+use crate::head::read_head;
+use crate::rows::read_side;
+use crate::rows::read_width;
+use bits::Place;
+use reader_values::faults::Step;
+use rules::Layout;
+
+// A channel's width, factors and side values, into its 128 factors and its 8 side values.
+fn read_channel(
+    layout: Layout,
+    channel: usize,
+    part: &[u8],
+    place: Place,
+    factors: &mut [u8],
+    side: &mut [u8],
+) -> Step
+    requires { ⌜ Sizes layout ⌝ }
+    requires { ⌜ Inside (now part) (place .at) ⌝ }
+    requires { ⌜ (channel < 16) × (length (now factors) ≡ 128) × (length (now side) ≡ 8) ⌝ }
+    ensures { λ r. ⌜ StoredChannel layout channel (now (part .entry))
+        (readChannel layout (kindAt layout channel) (leftAt (now (part .entry)) (place .at)))
+        (now (factors .exit)) (now (side .exit)) r ⌝ }
+{
+    let coded = rules::coded_count(layout, channel);
+    let step = read_width(part, place, coded, factors);
+    let Step::At(next) = step else {
+        return step;
+    };
+    let count = rules::side_count(layout, channel);
+    let width = rules::side_width(layout, channel);
+    read_side(part, next, count, width, side)
+}
+
+// Every channel's, one after the other.
+fn read_channels(
+    layout: Layout,
+    part: &[u8],
+    place: Place,
+    factors: &mut [u8],
+    side: &mut [u8],
+) -> Step
+    requires { ⌜ Sizes layout ⌝ }
+    requires { ⌜ Inside (now part) (place .at) ⌝ }
+    requires { ⌜ (length (now factors) ≡ factorLength layout) × (length (now side) ≡ sideLength layout) ⌝ }
+    ensures { λ r. ⌜ StoredChannels layout (now (part .entry))
+        (each (readChannel layout) (kindsOf layout) (leftAt (now (part .entry)) (place .at)))
+        (now (factors .exit)) (now (side .exit)) r ⌝ }
+{
+    let channels = layout.channels;
+    let mut at = place;
+    let mut c = 0;
+    while c < channels {
+        let f = c * 128;
+        let s = c * 8;
+        let step = read_channel(
+            layout,
+            c,
+            part,
+            at,
+            &mut factors[f..f + 128],
+            &mut side[s..s + 8],
+        );
+        let Step::At(next) = step else {
+            return step;
+        };
+        at = next;
+        c += 1;
+    }
+    Step::At(at)
+}
+
+// Level, boundary and every channel's factors and side values.
+pub fn read_header(layout: Layout, part: &[u8], factors: &mut [u8], side: &mut [u8]) -> Head
+    requires { ⌜ Sizes layout ⌝ }
+    requires { ⌜ (length (now part) ≤ 65535) × (length (now factors) ≡ factorLength layout) × (length (now side) ≡ sideLength layout) ⌝ }
+    ensures { λ r. ⌜ Headed layout (now (part .entry)) (now (factors .exit)) (now (side .exit)) r ⌝ }
+{
+    let head = read_head(part);
+    let Head::Of(level, boundary, place) = head else {
+        return head;
+    };
+    let step = read_channels(layout, part, place, factors, side);
+    head_after(level, boundary, step)
+}

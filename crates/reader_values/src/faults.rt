@@ -1,0 +1,17 @@
+// A refusal that the strict reader finds in a field, and what a part of the reader that stores values answers. A place counts
+// the bits of the part of the frame after the sync.
+use bits::Place;
+
+// Refusals 10 to 13, each with the bit that it names.
+pub enum Fault {
+    BadLevel(usize),
+    BadWidth(usize),
+    BadFactor(usize),
+    PastEnd(usize),
+}
+
+// The place after the values that were stored, or a refusal.
+pub enum Step {
+    At(Place),
+    Refused(Fault),
+}

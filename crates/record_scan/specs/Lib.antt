@@ -1,2 +1,0 @@
-pub mod Headed
-pub mod Scans

@@ -1,0 +1,66 @@
+// Document 01's refusals: the number, and the number beside it.
+ghost use mathlib.Core.Path.{_≡_};
+ghost use Rattle.rules.specs.Refusals.{refused, stageOutcome, writerOutcome, readerOutcome};
+ghost use Rattle.refusals.specs.Refusals.{refusalOf};
+use rules::ReadAnswer;
+use rules::StageAnswer;
+use rules::WriteAnswer;
+
+// A number of 0 stands for no refusal.
+pub struct Refusal {
+    pub number: usize,
+    pub beside: usize,
+}
+
+pub fn refused(number: usize, beside: usize) -> Refusal
+    ensures { λ r. ⌜ r ≡ refusalOf (refused number beside) ⌝ }
+{
+    Refusal {
+        number: number,
+        beside: beside,
+    }
+}
+
+pub fn stage_refusal(answer: StageAnswer) -> Refusal
+    ensures { λ r. ⌜ r ≡ refusalOf (stageOutcome answer) ⌝ }
+{
+    match answer {
+        StageAnswer::Delivered(_, _, _, _) => refused(0, 0),
+        StageAnswer::BadLayout => refused(1, 0),
+        StageAnswer::ShortBuffer => refused(2, 0),
+        StageAnswer::BadIntensity(i) => refused(3, i),
+        StageAnswer::BadSpectrum(i) => refused(4, i),
+        StageAnswer::NoLevel(n) => refused(5, n),
+        StageAnswer::NoBoundary(n) => refused(6, n),
+        StageAnswer::TooLong => refused(7, 0),
+    }
+}
+
+pub fn read_refusal(answer: ReadAnswer) -> Refusal
+    ensures { λ r. ⌜ r ≡ refusalOf (readerOutcome answer) ⌝ }
+{
+    match answer {
+        ReadAnswer::Delivered(_, _, _) => refused(0, 0),
+        ReadAnswer::BadLayout => refused(1, 0),
+        ReadAnswer::ShortBuffer => refused(2, 0),
+        ReadAnswer::WrongCheck => refused(8, 0),
+        ReadAnswer::WrongSync => refused(9, 0),
+        ReadAnswer::BadLevel(n) => refused(10, n),
+        ReadAnswer::BadWidth(n) => refused(11, n),
+        ReadAnswer::BadFactor(n) => refused(12, n),
+        ReadAnswer::PastEnd(n) => refused(13, n),
+        ReadAnswer::FillNotZero(n) => refused(14, n),
+    }
+}
+
+pub fn write_refusal(answer: WriteAnswer) -> Refusal
+    ensures { λ r. ⌜ r ≡ refusalOf (writerOutcome answer) ⌝ }
+{
+    match answer {
+        WriteAnswer::Delivered(_, _, _) => refused(0, 0),
+        WriteAnswer::BadLayout => refused(1, 0),
+        WriteAnswer::ShortBuffer => refused(2, 0),
+        WriteAnswer::NotLegal => refused(15, 0),
+        WriteAnswer::TooLong => refused(7, 0),
+    }
+}

@@ -1,4 +1,0 @@
-// What hcaframe tells of frames: the tables, what a frame holds, and the refusals.
-pub mod dump;
-pub mod refusals;
-pub mod table;

@@ -1,0 +1,62 @@
+-- The record writer: what it answers and leaves in the lent frame, for every call, refused ones too.
+use mathlib.Core.List.{List, [], _∷_}
+use mathlib.Core.Bool.{Bool, cond, not}
+use Prim.Native.Nat.{ℕ}
+use lib.Dec.{ltb}
+use lib.IntN.{ℤ}
+use lib.ListN.{length}
+use Rattle.rules.specs.Layout.{legalLayout, roomOf, hasRoom}
+use Rattle.rules.specs.Record.{Rec, recOf, legalRecord}
+use Rattle.rules.specs.Fields.{fields}
+use Rattle.rules.specs.Frame.{fieldEnd, frameOf}
+use Rattle.rules.specs.Refusals.{Outcome, delivered, refused, writerOutcome}
+use Rattle.rules.specs.Lent.{laid, noFrame}
+use Rattle.rules.specs.declared.Layout.{Layout}
+use Rattle.rules.specs.declared.WriteAnswer.{WriteAnswer}
+
+-- a record as it is lent, and the frame's buffer
+pub record WriterLent : Type 0 where
+  pub level : ℕ
+  pub boundary : ℕ
+  pub factors : List ℕ
+  pub side : List ℕ
+  pub codes : List ℤ
+  pub frame : List ℕ
+
+pub record WriterLeft : Type 0 where
+  pub outcome : Outcome
+  pub frame : List ℕ
+
+abbrev pub writerLent : (level boundary : ℕ) (factors side : List ℕ) (codes : List ℤ) (frame : List ℕ) → WriterLent
+writerLent level boundary factors side codes frame = record {
+  level = level;
+  boundary = boundary;
+  factors = factors;
+  side = side;
+  codes = codes;
+  frame = frame;
+}
+
+abbrev pub writerLeft : (answer : WriteAnswer) (frame : List ℕ) → WriterLeft
+writerLeft answer frame = record { outcome = writerOutcome answer; frame = frame }
+
+abbrev pub writerRoom : (l : Layout) (t : WriterLent) → Bool
+writerRoom l t = hasRoom l (roomOf (length (t .factors)) (length (t .side)) (length (t .codes)) (length (t .frame)))
+
+unfoldable pub lentRecord : (l : Layout) (t : WriterLent) → Rec
+lentRecord l t = recOf l (t .level) (t .boundary) (t .factors) (t .side) (t .codes)
+
+-- refusals 15 and 7, of a legal layout and buffers that are long enough
+unfoldable pub recordWritten : (l : Layout) (t : WriterLent) → WriterLeft
+recordWritten l t =
+    let bitCount = length (fields l (lentRecord l t)) in
+    cond (not (legalRecord l (t .level) (t .boundary) (t .factors) (t .side) (t .codes))) (record { outcome = refused 15 0; frame = t .frame })
+    (cond (ltb (fieldEnd l) bitCount) (record { outcome = refused 7 0; frame = laid (noFrame l) (t .frame) })
+    (record { outcome = delivered (t .level ∷ t .boundary ∷ bitCount ∷ []); frame = laid (frameOf l (lentRecord l t)) (t .frame) }))
+
+-- refusals 1 and 2
+unfoldable pub written : (l : Layout) (t : WriterLent) → WriterLeft
+written l t =
+    cond (not (legalLayout l)) (record { outcome = refused 1 0; frame = t .frame })
+    (cond (not (writerRoom l t)) (record { outcome = refused 2 0; frame = t .frame })
+    (recordWritten l t))

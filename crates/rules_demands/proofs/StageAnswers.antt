@@ -1,0 +1,151 @@
+-- Demand 2 for the stage as it is called: refusals 5 to 7, and the delivery, come exactly as defined. Assumes nothing.
+use mathlib.Core.Path.{_≡_, refl, sym, _∙_, ap}
+use mathlib.Core.List.{List, [], _∷_}
+use mathlib.Core.Option.{Option}
+use mathlib.Core.Logic.{_↔_}
+use mathlib.Core.Bool.{true, false, not}
+use Prim.Native.Nat.{ℕ, _-_, _/_, _≤_, _<_}
+use native.Mathlib.Omega.{arith}
+use borrow.Author.Tests.{ltb-false, lt-ltb, le-ltb, not-false, eqb-false}
+use lib.Dec.{ltb, eqb}
+use lib.ListN.{length, take}
+use Rattle.buffers.specs.Walk.{first}
+use Rattle.buffers.proofs.Tests.{cond-both}
+use Rattle.rules.specs.Layout.{legalLayout, startBand, spectrumLength, sideLength}
+use Rattle.rules.specs.Fields.{fields}
+use Rattle.rules.specs.Frame.{fieldEnd}
+use Rattle.rules.specs.Refusals.{Outcome, delivered, refused}
+use Rattle.rules.specs.Stage.{StageLent, StageLeft, cleared, stageLaid, gated, lentRoom, stageHasRoom, badIntensity, badSpectrum, gate, Made, made, madeRecord, finished, packed, settled, stage}
+use Rattle.rules.specs.declared.Layout.{Layout}
+use Rattle.rules.proofs.Layouts.{legal-sizes}
+use Rattle.rules.proofs.Cuts.{by-order}
+use Rattle.rules.proofs.Made.{made-level, made-none, made-boundary}
+
+-- ---- what the statements name
+
+-- a call that passes refusals 1 to 4: each search for a bad value comes to its end without one
+pub record Passes (l : Layout) (t : StageLent) : Type 0 where
+  pub layout : legalLayout l ≡ true
+  pub room : stageHasRoom l (lentRoom t) ≡ true
+  pub intensities : sideLength l ≤ first (badIntensity l (t .intensities)) (sideLength l)
+  pub spectra : spectrumLength l ≤ first (badSpectrum (t .spectra)) (spectrumLength l)
+
+-- what the rules make of a call
+abbrev pub madeBy : Layout → StageLent → Made
+madeBy l t = made l (take (spectrumLength l) (t .spectra)) (take (sideLength l) (t .intensities))
+
+-- the level that is found (255: none), the pairs removed, the boundary, the sum of the field lengths
+abbrev pub levelBy : Layout → StageLent → ℕ
+levelBy l t = madeBy l t .found .level
+
+abbrev pub pairsBy : Layout → StageLent → ℕ
+pairsBy l t = madeBy l t .found .pairs
+
+abbrev pub boundaryBy : Layout → StageLent → ℕ
+boundaryBy l t = madeBy l t .boundary
+
+abbrev pub bitsBy : Layout → StageLent → ℕ
+bitsBy l t = length (fields l (madeRecord l (madeBy l t)))
+
+-- ---- how a call ends
+
+-- an answer's place in the order of the tests: a delivery comes after the seven refusals
+abbrev placeOf : Outcome → ℕ
+placeOf (refused k p) = k
+placeOf (delivered ns) = 8
+
+clash : {A : Type 0} {o p q : Outcome} → o ≡ p → o ≡ q → eqb (placeOf p) (placeOf q) ≡ false → A
+clash e f d = absurd (eqb-false _ _ d (ap placeOf (sym e ∙ f)))
+
+module _ (l : Layout) (t : StageLent) where
+  -- what is answered behind a gate that is shut or open
+  abbrev Later : Option Outcome → Type 0
+  Later g = 5 ≤ placeOf (gated g t (settled l (madeBy l t)) .outcome) → Passes l t
+
+  pub passes : 5 ≤ placeOf (stage l t .outcome) → Passes l t
+  unfolding stage gate gated
+  passes =
+      cond-both Later (not (legalLayout l)) (λ _ h. absurd (omega arith))
+      (λ a. cond-both Later (not (stageHasRoom l (lentRoom t))) (λ _ h. absurd (omega arith))
+      (λ b. cond-both Later (ltb (first (badIntensity l (t .intensities)) (sideLength l)) (sideLength l)) (λ _ h. absurd (omega arith))
+      (λ c. cond-both Later (ltb (first (badSpectrum (t .spectra)) (spectrumLength l)) (spectrumLength l)) (λ _ h. absurd (omega arith))
+      (λ d _. record { layout = not-false _ a; room = not-false _ b; intensities = ltb-false _ _ c; spectra = ltb-false _ _ d }))))
+
+  pub boundary-small : boundaryBy l t ≤ 127
+  boundary-small = made-boundary l (take (spectrumLength l) (t .spectra)) (take (sideLength l) (t .intensities))
+
+  module _ (k : Passes l t) where
+    settles : stage l t ≡ stageLaid t (settled l (madeBy l t))
+    unfolding stage gate gated
+    settles = rw (k .layout, k .room, le-ltb _ _ (k .intensities), le-ltb _ _ (k .spectra))
+
+    ends-none : 254 < levelBy l t → stage l t ≡ stageLaid t (cleared l (refused 5 (pairsBy l t)))
+    unfolding settled
+    ends-none h = settles ∙ rw (lt-ltb _ _ h)
+
+    ends-long : levelBy l t ≤ 254 → fieldEnd l < bitsBy l t → stage l t ≡ stageLaid t (cleared l (refused 7 0))
+    unfolding settled packed
+    ends-long h g = settles ∙ rw (le-ltb _ _ h, le-ltb _ _ boundary-small, lt-ltb _ _ g)
+
+    pub ends-done : levelBy l t ≤ 254 → bitsBy l t ≤ fieldEnd l → stage l t ≡ stageLaid t (finished l (madeBy l t))
+    unfolding settled packed
+    ends-done h g = settles ∙ rw (le-ltb _ _ h, le-ltb _ _ boundary-small, le-ltb _ _ g)
+
+    abbrev answers : List ℕ
+    answers = levelBy l t ∷ boundaryBy l t ∷ pairsBy l t ∷ bitsBy l t ∷ []
+
+    -- the answers alone
+    says-none : 254 < levelBy l t → stage l t .outcome ≡ refused 5 (pairsBy l t)
+    says-none h = ap (λ (x : StageLeft). x .outcome) (ends-none h)
+
+    says-long : levelBy l t ≤ 254 → fieldEnd l < bitsBy l t → stage l t .outcome ≡ refused 7 0
+    says-long h g = ap (λ (x : StageLeft). x .outcome) (ends-long h g)
+
+    says-done : levelBy l t ≤ 254 → bitsBy l t ≤ fieldEnd l → stage l t .outcome ≡ delivered answers
+    unfolding finished
+    says-done h g = ap (λ (x : StageLeft). x .outcome) (ends-done h g)
+
+    -- it is one of the three
+    says : {P : Type 0} → (254 < levelBy l t → stage l t .outcome ≡ refused 5 (pairsBy l t) → P)
+        → (levelBy l t ≤ 254 → fieldEnd l < bitsBy l t → stage l t .outcome ≡ refused 7 0 → P)
+        → (levelBy l t ≤ 254 → bitsBy l t ≤ fieldEnd l → stage l t .outcome ≡ delivered answers → P) → P
+    says none long done =
+        by-order 254 (levelBy l t) (λ h. none h (says-none h))
+        (λ h. by-order (fieldEnd l) (bitsBy l t) (λ g. long h g (says-long h g)) (λ g. done h g (says-done h g)))
+
+-- ---- DEMAND 2
+
+-- Refusal 5 comes just where no level is found, beside it the pairs removed.
+pub no-level : (l : Layout) (t : StageLent) (p : ℕ) → Passes l t → (stage l t .outcome ≡ refused 5 p) ↔ ((levelBy l t ≡ 255) × (p ≡ pairsBy l t))
+no-level l t p k = (
+  (λ e. says l t k (λ h q. (omega (arith, made-level l (take (spectrumLength l) (t .spectra)) (take (sideLength l) (t .intensities))), (cc)))
+      (λ _ _ q. clash e q refl) (λ _ _ q. clash e q refl)),
+  (λ x. let (h, q) = x in rw q (says-none l t k (omega arith))),
+)
+
+-- Those are all pairs that there are: (N - 1) / 2.
+pub no-level-pairs : (l : Layout) (t : StageLent) (p : ℕ) → stage l t .outcome ≡ refused 5 p → p ≡ (startBand l - 1) / 2
+no-level-pairs l t p e =
+    let k = passes l t (rw e (omega arith)) in
+    let (h, q) = no-level l t p k .0 e in
+    q ∙ made-none l (take (spectrumLength l) (t .spectra)) (take (sideLength l) (t .intensities)) (legal-sizes l (k .layout)) h
+
+-- Refusal 6 never comes.
+pub never-six : (l : Layout) (t : StageLent) (p : ℕ) → stage l t .outcome ≡ refused 6 p → ⊥
+never-six l t p e = says l t (passes l t (rw e (omega arith))) (λ _ q. clash e q refl) (λ _ _ q. clash e q refl) (λ _ _ q. clash e q refl)
+
+-- Refusal 7 comes just where a level is found and the fields do not fit.
+pub too-long : (l : Layout) (t : StageLent) → Passes l t → (stage l t .outcome ≡ refused 7 0) ↔ ((levelBy l t ≤ 254) × (fieldEnd l < bitsBy l t))
+too-long l t k = (
+  (λ e. says l t k (λ _ q. clash e q refl) (λ h g _. (h, g)) (λ _ _ q. clash e q refl)),
+  (λ x. says-long l t k (x .0) (x .1)),
+)
+
+-- A frame comes just where a level is found and the fields fit; the answer is level, boundary, pairs and the sum of the field lengths.
+pub delivers : (l : Layout) (t : StageLent) (ns : List ℕ) → Passes l t
+    → (stage l t .outcome ≡ delivered ns)
+    ↔ ((levelBy l t ≤ 254) × (bitsBy l t ≤ fieldEnd l) × (ns ≡ levelBy l t ∷ boundaryBy l t ∷ pairsBy l t ∷ bitsBy l t ∷ []))
+delivers l t ns k = (
+  (λ e. says l t k (λ _ q. clash e q refl) (λ _ _ q. clash e q refl) (λ h g q. (h, g, (cc)))),
+  (λ x. let (h, g, q) = x in rw q (says-done l t k h g)),
+)

@@ -1,4 +1,0 @@
-pub mod Padding
-pub mod Channels
-pub mod Eight
-pub mod Resolved

@@ -1,0 +1,99 @@
+// Document 01, **Refusal numbers** 1 to 4: what is refused before anything is written.
+ghost use mathlib.Core.Path.{_≡_};
+ghost use Prim.Native.Nat.{_≤_};
+ghost use lib.ListN.{length};
+ghost use Rattle.buffers.specs.Walk.{first};
+ghost use Rattle.rules.specs.Layout.{Sizes};
+ghost use Rattle.rules.specs.Stage.{stageHasRoom, badIntensity, badSpectrum, gate};
+ghost use Rattle.stage_gate.specs.Gate.{gateOutcome};
+use floats::finite;
+use rules::Layout;
+use rules::StageRoom;
+use rules::has_room;
+use rules::is_secondary;
+use rules::legal;
+
+// Whether a call may go on, or its first refusal.
+pub enum Gate {
+    Open,
+    BadLayout,
+    ShortBuffer,
+    BadIntensity(usize),
+    BadSpectrum(usize),
+}
+
+// A longer buffer is fine.
+fn enough(layout: Layout, room: StageRoom) -> bool
+    requires { ⌜ Sizes layout ⌝ }
+    ensures { λ r. ⌜ r ≡ stageHasRoom layout room ⌝ }
+{
+    let n = layout.channels * 1024;
+    let k = layout.channels * 8;
+    if room.spectra < n {
+        return false;
+    }
+    if room.intensities < k {
+        return false;
+    }
+    if room.scaled < n {
+        return false;
+    }
+    has_room(layout, room.stored)
+}
+
+// n if there is none.
+fn first_bad_intensity(layout: Layout, intensities: &[u8], n: usize) -> usize
+    requires { ⌜ (n ≤ 128) × (n ≤ length (now intensities)) ⌝ }
+    ensures { λ r. ⌜ r ≡ first (badIntensity layout (now (intensities .entry))) n ⌝ }
+{
+    let mut i = 0;
+    while i < n {
+        if 15 < intensities[i] {
+            if is_secondary(layout, i / 8) {
+                return i;
+            }
+        }
+        i += 1;
+    }
+    i
+}
+
+// n if there is none.
+fn first_bad_spectrum(spectra: &[f32], n: usize) -> usize
+    requires { ⌜ n ≤ length (now spectra) ⌝ }
+    ensures { λ r. ⌜ r ≡ first (badSpectrum (now (spectra .entry))) n ⌝ }
+{
+    let mut i = 0;
+    while i < n {
+        if finite(spectra[i]) {
+            i += 1;
+        } else {
+            return i;
+        }
+    }
+    i
+}
+
+// The first refusal in document 01's order. The lengths come by value, so that only two slices travel.
+pub fn first_refusal(layout: Layout, room: StageRoom, spectra: &[f32], intensities: &[u8]) -> Gate
+    requires { ⌜ (room .spectra ≡ length (now spectra)) × (room .intensities ≡ length (now intensities)) ⌝ }
+    ensures { λ r. ⌜ gateOutcome r ≡ gate layout room (now (spectra .entry)) (now (intensities .entry)) ⌝ }
+{
+    if legal(layout) {
+        if enough(layout, room) {
+            let k = layout.channels * 8;
+            let i = first_bad_intensity(layout, intensities, k);
+            if i < k {
+                return Gate::BadIntensity(i);
+            }
+            let n = layout.channels * 1024;
+            let j = first_bad_spectrum(spectra, n);
+            if j < n {
+                return Gate::BadSpectrum(j);
+            }
+            return Gate::Open;
+        }
+        return Gate::ShortBuffer;
+    }
+    Gate::BadLayout
+}

@@ -1,0 +1,3 @@
+mod Wiped
+mod Prepared
+mod Ends

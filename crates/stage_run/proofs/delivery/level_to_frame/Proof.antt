@@ -1,0 +1,52 @@
+-- `stage_run::delivery::level_to_frame` meets its contract. Assumes nothing.
+use mathlib.Core.Path.{_∙_}
+use Rattle.stage_run.proofs.Ends.{level-none, settled-packed}
+use borrow.Author.Needs.{needs}
+use Rattle.stage_run.proofs.delivery.level_to_frame.Statement.{statement}
+use Rattle.stage_run.proofs.delivery.level_to_frame.Tie as tie
+
+calculate-noise-level-requires : tie.Need-calculate-noise-level-requires
+calculate-noise-level-requires c κs =
+    let s = c .before .before .before .before .before in
+    (s .pre .0, (s .pre .1 .scaled, s .pre .1 .factors))
+
+same-length : tie.Need-same-length
+same-length c = search needs
+
+returns : tie.Need-returns
+returns c =
+    let n = c .before .before .before .calculate-noise-level .ensures in
+    level-none _ _ _ _ _ _ _ (n .0) (n .1) (n .2) _ _ (c .if1 .taken)
+
+boundary-to-frame-requires : tie.Need-boundary-to-frame-requires
+boundary-to-frame-requires c κs =
+    let s = c .before .before .before .before .before .before .before .before .before .before .before .before in
+    let z = s .pre .1 in
+    (s .pre .0, (c .before .before .before .if1 .left, record { scaled = z .scaled; codes = z .codes; factors = c .before .before .before .before .before .before .calculate-noise-level .kept .1 .1 .0 ∙ z .factors; side = z .side; frame = z .frame }))
+
+same-length-2 : tie.Need-same-length-2
+same-length-2 c = search needs
+
+same-length-3 : tie.Need-same-length-3
+same-length-3 c = search needs
+
+same-length-4 : tie.Need-same-length-4
+same-length-4 c = search needs
+
+returns-2 : tie.Need-returns-2
+returns-2 c =
+    let n = c .before .before .before .before .before .before .before .before .before .before .calculate-noise-level .ensures in
+    settled-packed _ _ _ _ _ _ _ (n .0) (n .1) (n .2) _ (c .before .before .before .before .before .before .before .if1 .left) (c .before .before .before .boundary-to-frame .ensures)
+
+pub level-to-frame-spec : {M : Type 1} → statement M
+level-to-frame-spec =
+    tie.close
+    (tie.spec
+    calculate-noise-level-requires
+    same-length
+    returns
+    boundary-to-frame-requires
+    same-length-2
+    same-length-3
+    same-length-4
+    returns-2)

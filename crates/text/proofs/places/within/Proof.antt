@@ -1,0 +1,14 @@
+-- `text::places::within` meets its contract. Assumes nothing.
+use borrow.Author.Needs.{needs}
+use Rattle.io.proofs.Counting.{counts}
+use Rattle.text.proofs.places.within.Statement.{statement}
+use Rattle.text.proofs.places.within.Tie as tie
+
+clip-requires : tie.Need-clip-requires
+clip-requires c κs = search needs
+
+returns : tie.Need-returns
+returns c = counts _ _ (c .clip .ensures)
+
+pub within-spec : {M : Type 1} → statement M
+within-spec = tie.close (tie.spec clip-requires returns)

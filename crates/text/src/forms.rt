@@ -1,0 +1,72 @@
+// Lines with numbers in them.
+use crate::lines::put_column;
+use crate::lines::put_number;
+use crate::lines::put_out;
+use crate::lines::say_line;
+use crate::places::ahead;
+use crate::tables::line_end;
+use crate::tables::line_start;
+use crate::words::put_byte;
+
+fn number_at(numbers: &[usize], k: usize) -> usize {
+    if k < numbers.len() { numbers[k] } else { 0 }
+}
+
+// Puts a byte of a form: the number in place of a #.
+fn put_piece(line: &mut [u8], at: usize, b: u8, n: usize) -> usize {
+    if b == b'#' {
+        return put_number(line, at, n);
+    }
+    put_byte(line, at, b);
+    ahead(at, 1)
+}
+
+// The next number's place, past a byte of a form.
+fn past(k: usize, b: u8) -> usize {
+    if b == b'#' { ahead(k, 1) } else { k }
+}
+
+// Puts the form from a place on, with the next of the numbers for each #; answers the place past it.
+pub fn put_form(line: &mut [u8], place: usize, form: &[u8], numbers: &[usize]) -> usize {
+    let mut at = place;
+    let mut k = 0;
+    let mut i = 0;
+    while i < form.len() {
+        at = put_piece(line, at, form[i], number_at(numbers, k));
+        k = past(k, form[i]);
+        i += 1;
+    }
+    at
+}
+
+// Puts the form that is line k of a table.
+pub fn put_entry(line: &mut [u8], at: usize, table: &[u8], k: usize, numbers: &[usize]) -> usize {
+    let a = line_start(table, k);
+    let e = line_end(table, a);
+    put_form(line, at, &table[a..e], numbers)
+}
+
+// Writes the form with its numbers, up to 256 bytes; false where they could not all be written.
+pub fn say_form(fd: i32, form: &[u8], numbers: &[usize]) -> bool {
+    let mut line = [0u8; 256];
+    let n = put_form(&mut line, 0, form, numbers);
+    put_out(fd, &line, n)
+}
+
+// Puts each number at the right of a column of its width.
+fn put_row(line: &mut [u8], numbers: &[usize], widths: &[usize]) -> usize {
+    let mut at = 0;
+    let mut i = 0;
+    while i < numbers.len() && i < widths.len() {
+        at = put_column(line, at, numbers[i], widths[i]);
+        i += 1;
+    }
+    at
+}
+
+// A line of a table on standard output.
+pub fn say_row(numbers: &[usize], widths: &[usize]) -> bool {
+    let mut line = [0u8; 128];
+    let n = put_row(&mut line, numbers, widths);
+    say_line(1, &mut line, n)
+}

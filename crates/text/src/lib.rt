@@ -1,0 +1,11 @@
+// What the programs share, and nothing of HCA: numbers, floats and names in bytes; lines, tables and forms; blocks read, and files written whole or
+// not at all.
+pub mod blocks;
+pub mod forms;
+pub mod lines;
+pub mod names;
+pub mod numbers;
+pub mod output;
+pub mod places;
+pub mod tables;
+pub mod words;

@@ -1,0 +1,74 @@
+// A line of text is put together in a lent buffer, which is cut at its end, and then written with one call.
+use crate::places::ahead;
+use crate::places::within;
+use crate::words::absolute_value;
+use crate::words::put_byte;
+
+// Puts the text from a place on; answers the place past it.
+pub fn put_text(line: &mut [u8], place: usize, text: &[u8]) -> usize {
+    let mut at = place;
+    let mut i = 0;
+    while i < text.len() {
+        put_byte(line, at, text[i]);
+        at = ahead(at, 1);
+        i += 1;
+    }
+    at
+}
+
+// Puts n spaces.
+fn put_spaces(line: &mut [u8], place: usize, n: usize) -> usize {
+    let mut at = place;
+    let mut i = 0;
+    while i < n {
+        put_byte(line, at, b' ');
+        at = ahead(at, 1);
+        i += 1;
+    }
+    at
+}
+
+// Puts the number's digits.
+pub fn put_number(line: &mut [u8], at: usize, n: usize) -> usize {
+    let mut digits = [0u8; 20];
+    let k = io::decimal(n as u64, &mut digits);
+    put_text(line, at, &digits[..k])
+}
+
+fn gap(k: usize, width: usize) -> usize {
+    if k < width { width - k } else { 0 }
+}
+
+// Puts the number's digits at the right of a column.
+pub(crate) fn put_column(line: &mut [u8], at: usize, n: usize, width: usize) -> usize {
+    let mut digits = [0u8; 20];
+    let k = io::decimal(n as u64, &mut digits);
+    let start = put_spaces(line, at, gap(k, width));
+    put_text(line, start, &digits[..k])
+}
+
+// Puts a signed number.
+pub fn put_int(line: &mut [u8], at: usize, x: i32) -> usize {
+    if x < 0 {
+        let next = put_text(line, at, b"-");
+        return put_number(line, next, absolute_value(x));
+    }
+    put_number(line, at, absolute_value(x))
+}
+
+// Writes the line's first n bytes and a line end; false where they could not all be written.
+pub fn say_line(fd: i32, line: &mut [u8], at: usize) -> bool {
+    let end = put_text(line, at, b"\n");
+    put_out(fd, line, end)
+}
+
+// Writes the first n bytes, or all of them where there are fewer.
+pub fn put_out(fd: i32, data: &[u8], n: usize) -> bool {
+    let k = within(n, data);
+    io::write_all(fd, &data[..k])
+}
+
+// Writes the text as it is.
+pub fn say(fd: i32, text: &[u8]) -> bool {
+    io::write_all(fd, text)
+}

@@ -1,0 +1,44 @@
+// Places in data of any length. A place past the end is no fault: reading there gives 0.
+ghost use Prim.Native.Nat.{_≤_};
+ghost use Rattle.io.specs.Counts.{Counts};
+
+// The lesser of the two.
+pub fn clip(n: usize, limit: usize) -> usize
+    ensures { λ r. ⌜ r ≤ limit ⌝ }
+{
+    if limit < n { limit } else { n }
+}
+
+// How many bytes a call may be given: n of the data, or all of them where there are fewer.
+pub(crate) fn within(n: usize, data: &[u8]) -> usize
+    ensures { λ r. ⌜ Counts r (now («data» .entry)) ⌝ }
+{
+    clip(n, data.len())
+}
+
+// The end of n bytes from a on, or of the data.
+pub fn end(a: usize, n: usize, len: usize) -> usize
+    requires { ⌜ a ≤ len ⌝ }
+    ensures { λ r. ⌜ (a ≤ r) × (r ≤ len) ⌝ }
+{
+    if len - a < n { len } else { a + n }
+}
+
+// A place n further. No buffer is this long, so a place held at a million is past every end.
+pub fn ahead(at: usize, n: usize) -> usize {
+    if 1000000 < at {
+        return 1000000;
+    }
+    if 1000000 < n {
+        return 1000000;
+    }
+    at + n
+}
+
+// n more, where there is room for it: a count of frames or bytes never wraps.
+pub fn more(count: usize, n: usize) -> usize {
+    if usize::MAX - count < n {
+        return usize::MAX;
+    }
+    count + n
+}

@@ -1,0 +1,203 @@
+// Document 01, **Legal record**: is a record that lies in lent buffers legal?
+ghost use mathlib.Core.Path.{_≡_};
+ghost use mathlib.Core.Bool.{true, cond};
+ghost use Prim.Native.Nat.{_*_, _^_, _<_};
+ghost use lib.Dec.{leb, ltb, eqb};
+ghost use lib.IntN.{pos, natAbs};
+ghost use lib.ListN.{length};
+ghost use Rattle.rules.specs.Layout.{Sizes, kindAt, sideWidth};
+ghost use Rattle.rules.specs.Resolution.{allResolutions};
+ghost use Rattle.rules.specs.Record.{codeRange, legalHead, legalRow, legalSubframe, legalCodes, legalChannel, legalChannels, legalRecord};
+use quantizer::tables::limit_of;
+use resolutions::calculate_frame_resolutions;
+use rules::Layout;
+use rules::coded_count;
+use rules::is_secondary;
+use rules::side_count;
+
+fn legal_head(level: usize, boundary: usize) -> bool
+    ensures { λ r. ⌜ r ≡ legalHead level boundary ⌝ }
+{
+    if 254 < level {
+        return false;
+    }
+    if 127 < boundary {
+        return false;
+    }
+    if 0 < level {
+        return true;
+    }
+    boundary == 0
+}
+
+fn legal_value(value: u8, written: bool, limit: u8) -> bool
+    ensures { λ r. ⌜ r ≡ cond written (ltb value limit) (eqb value 0) ⌝ }
+{
+    if written {
+        return value < limit;
+    }
+    value == 0
+}
+
+// The first n values lie below the limit, and the others are 0.
+fn legal_row(values: &[u8], n: usize, limit: u8) -> bool
+    ensures { λ r. ⌜ r ≡ legalRow n limit (length (now (values .entry))) (now (values .entry)) ⌝ }
+{
+    let mut i = 0;
+    while i < values.len() {
+        if legal_value(values[i], i < n, limit) {
+            i += 1;
+        } else {
+            return false;
+        }
+    }
+    true
+}
+
+// The largest magnitude of a code; 0 past the tables, which end at resolution 15.
+fn code_range(r: u8) -> i64
+    ensures { λ z. ⌜ z ≡ pos (codeRange r) ⌝ }
+{
+    if r < 8 {
+        return r as i64;
+    }
+    if 15 < r {
+        return 0;
+    }
+    limit_of(r)
+}
+
+// In an i64, where every i32 has its magnitude.
+fn legal_code(code: i32, r: u8) -> bool
+    ensures { λ b. ⌜ b ≡ leb (natAbs code) (codeRange r) ⌝ }
+{
+    let range = code_range(r);
+    let wide = code as i64;
+    if wide < 0 {
+        return 0 - wide <= range;
+    }
+    wide <= range
+}
+
+// One subframe of a channel: its codes lie in the ranges of their bands' resolutions.
+fn legal_subframe(resolutions: &[u8], codes: &[i32]) -> bool
+    requires { ⌜ (length (now resolutions) ≡ 128) × (length (now codes) ≡ 128) ⌝ }
+    ensures { λ r. ⌜ r ≡ legalSubframe (now (resolutions .entry)) (now (codes .entry)) ⌝ }
+{
+    let mut b = 0;
+    while b < 128 {
+        if legal_code(codes[b], resolutions[b]) {
+            b += 1;
+        } else {
+            return false;
+        }
+    }
+    true
+}
+
+// The eight subframes of a channel.
+fn legal_codes(resolutions: &[u8], codes: &[i32]) -> bool
+    requires { ⌜ (length (now resolutions) ≡ 128) × (length (now codes) ≡ 1024) ⌝ }
+    ensures { λ r. ⌜ r ≡ legalCodes (now (resolutions .entry)) (now (codes .entry)) ⌝ }
+{
+    let mut s = 0;
+    while s < 8 {
+        let at = s * 128;
+        if legal_subframe(resolutions, &codes[at..at + 128]) {
+            s += 1;
+        } else {
+            return false;
+        }
+    }
+    true
+}
+
+// Above a secondary's intensities, else above the HFR scales.
+fn side_limit(layout: Layout, channel: usize) -> u8
+    requires { ⌜ channel < 16 ⌝ }
+    ensures { λ r. ⌜ r ≡ 2 ^ sideWidth (kindAt layout channel) ⌝ }
+{
+    if is_secondary(layout, channel) {
+        16
+    } else {
+        64
+    }
+}
+
+fn legal_channel(
+    layout: Layout,
+    channel: usize,
+    factors: &[u8],
+    side: &[u8],
+    codes: &[i32],
+    resolutions: &[u8],
+) -> bool
+    requires { ⌜ Sizes layout ⌝ }
+    requires { ⌜ (channel < 16) × (length (now factors) ≡ 128) × (length (now side) ≡ 8) × (length (now codes) ≡ 1024) × (length (now resolutions) ≡ 128) ⌝ }
+    ensures { λ r. ⌜ r ≡ legalChannel layout channel (now (factors .entry)) (now (side .entry)) (now (codes .entry)) (now (resolutions .entry)) ⌝ }
+{
+    let coded = coded_count(layout, channel);
+    if !legal_row(factors, coded, 64) {
+        return false;
+    }
+    let sides = side_count(layout, channel);
+    let limit = side_limit(layout, channel);
+    if !legal_row(side, sides, limit) {
+        return false;
+    }
+    legal_codes(resolutions, codes)
+}
+
+fn legal_channels(
+    layout: Layout,
+    factors: &[u8],
+    side: &[u8],
+    codes: &[i32],
+    resolutions: &[u8],
+) -> bool
+    requires { ⌜ Sizes layout ⌝ }
+    requires { ⌜ (length (now factors) ≡ layout .channels * 128) × (length (now side) ≡ layout .channels * 8) × (length (now codes) ≡ layout .channels * 1024) × (length (now resolutions) ≡ layout .channels * 128) ⌝ }
+    ensures { λ r. ⌜ r ≡ legalChannels layout (now (factors .entry)) (now (side .entry)) (now (codes .entry)) (now (resolutions .entry)) ⌝ }
+{
+    let channels = layout.channels;
+    let mut c = 0;
+    while c < channels {
+        let f = c * 128;
+        let s = c * 8;
+        let k = c * 1024;
+        if legal_channel(
+            layout,
+            c,
+            &factors[f..f + 128],
+            &side[s..s + 8],
+            &codes[k..k + 1024],
+            &resolutions[f..f + 128],
+        ) {
+            c += 1;
+        } else {
+            return false;
+        }
+    }
+    true
+}
+
+// Is the record legal? Leaves the resolutions of its bands, which the packer needs too.
+pub fn is_legal(
+    layout: Layout,
+    level: usize,
+    boundary: usize,
+    factors: &[u8],
+    side: &[u8],
+    codes: &[i32],
+    resolutions: &mut [u8],
+) -> bool
+    requires { ⌜ Sizes layout ⌝ }
+    requires { ⌜ (length (now factors) ≡ layout .channels * 128) × (length (now side) ≡ layout .channels * 8) × (length (now codes) ≡ layout .channels * 1024) × (length (now resolutions) ≡ layout .channels * 128) ⌝ }
+    ensures { λ r. ⌜ (r ≡ legalRecord layout level boundary (now (factors .entry)) (now (side .entry)) (now (codes .entry))) × (r ≡ true → now (resolutions .exit) ≡ allResolutions layout level boundary (now (factors .entry))) ⌝ }
+{
+    if legal_head(level, boundary) {
+        calculate_frame_resolutions(layout, level, boundary, factors, resolutions);
+        return legal_channels(layout, factors, side, codes, resolutions);
+    }
+    false
+}
