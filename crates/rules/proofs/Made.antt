@@ -180,7 +180,7 @@ module _ (l : Layout) (spectra scaled : List Float) (is : List ℕ) where
   unfolding allSide
   side-long = length-blocks (sideAt l spectra scaled is) 8 (l .channels) (λ c _. side-size l c _ _ _) (l .channels) (omega arith)
 
-  side-at : (c j : ℕ) → c < l .channels → j < 8 → getD (part 8 (allSide l spectra scaled is) c) j 0
+  pub side-at : (c j : ℕ) → c < l .channels → j < 8 → getD (part 8 (allSide l spectra scaled is) c) j 0
       ≡ cond (secondaryAt l c) (getD (part 8 is c) j 0) (cond (ltb j (groupCount l)) (hfrScale l (part 1024 spectra c) (part 1024 scaled c) j) 0)
   unfolding allSide channelSide
   side-at c j h g =
@@ -268,7 +268,7 @@ module _ (l : Layout) (spectra : List Float) (is : List ℕ) where
   unfolding made madeFrom
   made-boundary = boundary-of-le _ _
 
-  made-silent : made l spectra is .found .level ≡ 0 → made l spectra is .boundary ≡ 0
+  pub made-silent : made l spectra is .found .level ≡ 0 → made l spectra is .boundary ≡ 0
   unfolding made madeFrom
   made-silent e = boundary-silent _ _ e
 

@@ -72,6 +72,12 @@ module _ (l : Layout) (t : StageLent) where
 -- ---- the record writer: 15 is judged before 7 and keeps the frame, 7 clears it
 
 module _ (l : Layout) (t : WriterLent) where
+  -- a record that is not legal is refused with 15, whether its fields would fit or not
+  pub not-legal : legalLayout l ≡ true → writerRoom l t ≡ true → legalRecord l (t .level) (t .boundary) (t .factors) (t .side) (t .codes) ≡ false
+      → written l t ≡ record { outcome = refused 15 0; frame = t .frame }
+  unfolding written recordWritten
+  not-legal a m e = rw (a, m, e)
+
   abbrev WriteLeaves : WriterLeft → Type 0
   WriteLeaves x = (n k : ℕ) → x .outcome ≡ refused n k → (n ≢ 7 → x .frame ≡ t .frame) × (n ≡ 7 → x .frame ≡ laid (noFrame l) (t .frame))
 
@@ -86,10 +92,6 @@ module _ (l : Layout) (t : WriterLent) where
       (λ _. cond-both WriteLeaves (not (legalRecord l (t .level) (t .boundary) (t .factors) (t .side) (t .codes))) (λ _. write-keeps 15 (λ e. absurd (omega arith)))
       (λ _. cond-both WriteLeaves (ltb (fieldEnd l) (length (fields l (lentRecord l t)))) (λ _ n k e. let z : 7 ≡ n = cc e in (λ g. absurd (g (sym z)), λ _. refl))
       (λ _ n k e. absurd (never e)))))
-
-  pub not-legal : legalRecord l (t .level) (t .boundary) (t .factors) (t .side) (t .codes) ≡ false → recordWritten l t ≡ record { outcome = refused 15 0; frame = t .frame }
-  unfolding recordWritten
-  not-legal e = rw e
 
 -- ---- the strict reader: 1 and 2 keep every buffer, the others clear the stated lengths
 

@@ -117,11 +117,11 @@ pub accepted-record : (l : Layout) (u : ReaderLent) (r : Rec) (n : ℕ) → lega
     → recOf l (r .level) (r .boundary) (read l u .factors) (read l u .side) (read l u .codes) ≡ r
 accepted-record l u r n a m f = reads-record l u r n (framed-reads l u r n a m f) (f .legal)
 
--- One frame, one record: two calls of the writer that deliver the same bytes were lent the same record.
-pub one-frame : (l : Layout) (t t′ : WriterLent) (ns ns′ : List ℕ) → written l t .outcome ≡ delivered ns → written l t′ .outcome ≡ delivered ns′
+-- Equal frames, equal records: two calls of the writer that deliver the same bytes were lent the same record.
+pub equal-frames-equal-records : (l : Layout) (t t′ : WriterLent) (ns ns′ : List ℕ) → written l t .outcome ≡ delivered ns → written l t′ .outcome ≡ delivered ns′
     → take (frameSize l) (written l t .frame) ≡ take (frameSize l) (written l t′ .frame)
     → Holds l t (t′ .level) (t′ .boundary) (t′ .factors) (t′ .side) (t′ .codes)
-one-frame l t t′ ns ns′ e e′ q =
+equal-frames-equal-records l t t′ ns ns′ e e′ q =
     let w = writes l t ns e in
     let w′ = writes l t′ ns′ e′ in
     let same = injective l (lentRecord l t) (lentRecord l t′) (writes-legal l t w) (writes-legal l t′ w′) (w .fits) (w′ .fits)

@@ -8,3 +8,12 @@ pub mod Calls
 pub mod StageAnswers
 pub mod StageCalls
 pub mod Outcomes
+pub mod Exactly
+pub mod ReaderNumbers
+pub mod ReaderExactly
+pub mod WriterExactly
+pub mod OneFrame
+pub mod Pairs
+pub mod Buffers
+pub mod Searched
+pub mod FirstSubframe

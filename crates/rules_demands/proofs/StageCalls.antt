@@ -24,7 +24,7 @@ use Rattle.rules.proofs.Layouts.{legal-sizes}
 use Rattle.rules.proofs.Cuts.{part-of-front}
 use Rattle.rules_demands.proofs.Demand3.{frame-length}
 use Rattle.rules.proofs.Stores.{record-front, legal-front}
-use Rattle.rules.proofs.Made.{front-small, made-factors, made-side, made-codes, made-legal}
+use Rattle.rules.proofs.Made.{front-small, made-factors, made-side, made-codes, made-silent, made-legal}
 use Rattle.rules_demands.proofs.Deliveries.{laid-front}
 use Rattle.rules_demands.proofs.Calls.{Holds, handed, Packed, packed-written, read-after-write}
 use Rattle.rules_demands.proofs.StageAnswers.{Passes, madeBy, levelBy, boundaryBy, bitsBy, passes, boundary-small, ends-done, delivers}
@@ -110,9 +110,9 @@ module _ (l : Layout) (t : StageLent) (level boundary pairs n : ℕ) (e : stage 
   unfolding finished
   left-frame = rw (done .left) (laid-front (frameSize l) (frameOf l its) (t .frame) frame-size)
 
-  -- Unconditionally: the level and the boundary are in their ranges,
-  pub stage-head : (level ≤ 254) × (boundary ≤ 127)
-  stage-head = rw (done .levels, done .boundaries) (done .small, boundary-small l t)
+  -- Unconditionally: the level and the boundary are in their ranges, the boundary 0 at level 0,
+  pub stage-head : (level ≤ 254) × (boundary ≤ 127) × (level ≡ 0 → boundary ≡ 0)
+  stage-head = rw (done .levels, done .boundaries) (done .small, boundary-small l t, made-silent l spectra intensities)
 
   -- and the frame is that of the record that the call left, every field of it, n bits in all.
   pub stage-packed : Packed l (recordIn l level boundary (stage l t)) n (take (frameSize l) (stage l t .frame))

@@ -9,8 +9,9 @@ use Rattle.rules.specs.Frame.{frameOf}
 use Rattle.rules.specs.Refusals.{delivered, refused}
 use Rattle.rules.specs.Lent.{laid, noSide, noFrame}
 use Rattle.rules.specs.Stage.{made, madeRecord}
+use Rattle.rules_demands.proofs.FirstSubframe.{firstOnly}
 use Rattle.rules_worked.proofs.Runs.{run-made}
-use Rattle.rules_worked.proofs.Inputs.{five, six, secondary, quiet, loud, later, removed, right, frames, firstOnly, loudBytes}
+use Rattle.rules_worked.proofs.Inputs.{five, six, secondary, quiet, loud, later, removed, right, frames, loudBytes}
 use Rattle.rules_worked.proofs.Worked.{left, five-delivered, six-refused, secondary-refused, loud-delivered, later-delivered, removed-delivered, quiet-frame, loud-frame, later-frame}
 
 -- one that refuses all input

@@ -1,8 +1,8 @@
 -- Inputs, and what each rule of document 01 makes of them, by computation. Assumes nothing.
 use mathlib.Core.Path.{_≡_, refl}
-use mathlib.Core.List.{List, [], _∷_, _++_, map}
+use mathlib.Core.List.{List, [], _∷_, _++_}
 use Prim.Native.Nat.{ℕ, _+_}
-use lib.IntN.{ℤ, pos}
+use lib.IntN.{pos}
 use lib.Ieee.{Float, binary32, ofBits, le, lt, neg, add, mul, div, toSigned, ofInt}
 use lib.ListN.{replicate}
 use Rattle.bits.specs.Bits.{bits, value, bitsOf, pack}
@@ -21,11 +21,12 @@ use Rattle.rules.specs.Code.{stepOf, stepShift, rawCode, magnitudeBits, codeLim
 use Rattle.rules.specs.Estimate.{valueBits, bandBits, channelBits, headerBits, fixedBits, spectralBits, usedBits, exceeds}
 use Rattle.rules.specs.Level.{clearTwo, clearPair}
 use Rattle.rules.specs.Boundary.{lastOf}
-use Rattle.rules.specs.Record.{Rec, recOf}
+use Rattle.rules.specs.Record.{recOf}
 use Rattle.rules.specs.Fields.{deltaSymbol, deltaBits, smallBits, codeBits, fields}
 use Rattle.rules.specs.Frame.{filledFields, frameOf}
 use Rattle.rules.specs.Lent.{noFloats, noCodes, noFactors, noSide}
 use Rattle.rules.specs.Stage.{stageHasRoom, madeRecord}
+use Rattle.rules_demands.proofs.FirstSubframe.{firstOnly}
 use Rattle.rules_worked.proofs.Runs.{halving, narrowing, removalStep, removing, allFinite, Example, Right}
 use Rattle.rules.specs.declared.ChannelType.{ChannelType}
 use Rattle.rules.specs.declared.ChannelType.the-variants.{Discrete, StereoSecondary}
@@ -149,9 +150,25 @@ hfr = record {
   bits = 120;
 }
 
-pub right : Right five × Right six × Right secondary × Right quiet × Right loud × Right later × Right removed × Right hfr
+-- one band whose later subframes lie just below the dead zone: the estimate of 146 bits fits 152, and the fields take 137 where 136 are there
+abbrev pub edged : Example
+edged = record {
+  layout = uniform Discrete 1 1 0 19;
+  spectra = ofBits binary32 0x342A8D26 ∷ replicate 127 zeroF ++ blocks (λ _. ofBits binary32 0x2E634C94 ∷ replicate 127 zeroF) 7;
+  factors = 1 ∷ replicate 127 0;
+  made = record {
+    scaled = ofBits binary32 0x3F40213B ∷ replicate 7 (ofBits binary32 0x39800759) ++ replicate 1016 zeroF;
+    side = replicate 8 0;
+    found = record { level = 0; pairs = 0; factors = 1 ∷ replicate 127 0 };
+    boundary = 0;
+    codes = pos 1537 ∷ replicate 127 (pos 0) ++ blocks (λ _. pos 1 ∷ replicate 127 (pos 0)) 7;
+  };
+  bits = 137;
+}
+
+pub right : Right five × Right six × Right secondary × Right quiet × Right loud × Right later × Right removed × Right hfr × Right edged
 unfolding legalLayout stageHasRoom hasRoom allFinite madeRecord allFactors channelFactors bandFactor peakOf factorOf countLe scalingTable folded maxF absF build blocks allScaled channelScaled scaledBand scaledValue heldF allSide channelSide intensitySide scaleSide groupCount bandsPerGroup ceilDiv secondaryAt kindAt codedAt sidesAt removing removalStep halving narrowing exceeds usedBits fixedBits spectralBits headerBits channelBits bandBits valueBits resolutionAt resolution resolutionIn noiseAt width widthCost allZero cost sumTo lastOf allResolutions channelResolutions bandResolution allCodes channelCodes subframeCodes codeAt recordedCode recOf fields kindsOf codeBits resolutionsOf bits ofBits le lt rawCode stepOf stepShift codePlace stepTable spectrumBits toSigned add mul heldZ clearPair clearTwo codeOf maxBitTable magnitudeBits codeLimit curvePosition heldPosition resolutionCurve deadZoneTable scaleOf neg div spectrumValue smallBits cheaper deltaCost laterCost near deltaBits deltaSymbol hfrScale spectrumAverage sourceAverage groupAverage bandsTaken noAverage withEight mean meanF groupValue minF ofInt
-right = (refl, refl, refl, refl, refl, refl, refl, refl)
+right = (refl, refl, refl, refl, refl, refl, refl, refl, refl)
 
 -- and the bytes of some frames
 abbrev pub bytesOf : Example → List ℕ
@@ -168,14 +185,6 @@ loudBytes = 0xFF ∷ 0xFF ∷ 0x56 ∷ 0x81 ∷ 0x3B ∷ 0xB8 ∷ 0xE0 ∷ 0x00 
 
 abbrev pub laterBytes : List ℕ
 laterBytes = 0xFF ∷ 0xFF ∷ 0x56 ∷ 0x81 ∷ 0x3B ∷ 0xB8 ∷ 0xE0 ∷ 0x00 ∷ 0x00 ∷ 0x00 ∷ 0xE0 ∷ 0x38 ∷ 0x0E ∷ 0x03 ∷ 0x80 ∷ 0xA4 ∷ 0xF4 ∷ []
-
--- a record whose last seven subframes hold zeros
-abbrev pub silenced : List (List (List ℤ)) → List (List (List ℤ))
-silenced [] = []
-silenced (c ∷ cs) = c ∷ map (map (map (λ _. pos 0))) cs
-
-abbrev pub firstOnly : Rec → Rec
-firstOnly r = record { level = r .level; boundary = r .boundary; chans = r .chans; codes = silenced (r .codes) }
 
 pub frames :
     (bytesOf five ≡ fiveBytes) × (bytesOf quiet ≡ quietBytes) × (bytesOf loud ≡ loudBytes) × (bytesOf later ≡ laterBytes)

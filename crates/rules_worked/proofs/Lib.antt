@@ -2,3 +2,5 @@ pub mod Runs
 pub mod Inputs
 pub mod Worked
 pub mod Empty
+pub mod Refusal7
+pub mod Pinned

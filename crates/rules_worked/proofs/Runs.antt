@@ -205,7 +205,7 @@ module _ (e : Example) (r : Right e) where
       (ap (λ w. w .factors) r) (ap (λ w. w .made .scaled) r) (ap (λ w. w .made .side) r) (remove-is _ _ _ _ _ _ ∙ ap (λ w. w .made .found) r)
       (boundary-is _ _ ∙ ap (λ w. w .made .boundary) r) (ap (λ w. w .made .codes) r)
 
-  run : stage (e .layout) (lent (e .layout) (e .spectra)) ≡ stageLaid (lent (e .layout) (e .spectra)) (settled (e .layout) (e .made))
+  pub run : stage (e .layout) (lent (e .layout) (e .spectra)) ≡ stageLaid (lent (e .layout) (e .spectra)) (settled (e .layout) (e .made))
   run =
       let exact : length (e .spectra) ≡ spectrumLength (e .layout) = ap (λ w. w .size) r in
       stage-made (e .layout) (lent (e .layout) (e .spectra)) (ap (λ w. w .legal) r) (ap (λ w. w .room) r) exact (ap (λ w. w .whole) r) (λ i. omega (arith, getD-copies {A = ℕ} 0 (sideLength (e .layout)) i))

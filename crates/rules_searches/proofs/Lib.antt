@@ -1,0 +1,3 @@
+pub mod FoundLevel
+pub mod FoundBoundary
+pub mod FoundPairs

@@ -1,0 +1,33 @@
+-- Refusal 7 can follow a found level, as document 01 says: an input at which it does. Assumes nothing.
+use mathlib.Core.Path.{_≡_, _∙_, ap}
+use Prim.Native.Nat.{_≤_, _<_}
+use native.Mathlib.Omega.{arith}
+use borrow.Author.Tests.{lt-ltb, le-ltb}
+use lib.ListN.{length}
+use Rattle.rules.specs.Fields.{fields}
+use Rattle.rules.specs.Frame.{fieldEnd}
+use Rattle.rules.specs.Refusals.{refused}
+use Rattle.rules.specs.Lent.{noSide}
+use Rattle.rules.specs.Stage.{Made, cleared, stageLaid, made, madeRecord, packed, settled}
+use Rattle.rules.specs.declared.Layout.{Layout}
+use Rattle.rules_worked.proofs.Runs.{lent, run-made, run}
+use Rattle.rules_worked.proofs.Inputs.{edged, right}
+use Rattle.rules_worked.proofs.Worked.{left}
+
+settled-long : (l : Layout) (m : Made) → m .found .level ≤ 254 → m .boundary ≤ 127 → fieldEnd l < length (fields l (madeRecord l m)) → settled l m ≡ cleared l (refused 7 0)
+unfolding settled packed
+settled-long l m h b n = rw (le-ltb 254 (m .found .level) h, le-ltb 127 (m .boundary) b, lt-ltb (fieldEnd l) (length (fields l (madeRecord l m))) n)
+
+-- the level found is 0,
+pub edged-level : made (edged .layout) (edged .spectra) (noSide (edged .layout)) .found .level ≡ 0
+edged-level = ap (λ (m : Made). m .found .level) (run-made edged (right .8))
+
+-- the fields take a bit more than there are,
+pub edged-bits : length (fields (edged .layout) (madeRecord (edged .layout) (made (edged .layout) (edged .spectra) (noSide (edged .layout))))) ≡ 137
+edged-bits = ap (λ (m : Made). length (fields (edged .layout) (madeRecord (edged .layout) m))) (run-made edged (right .8)) ∙ ap (λ w. w .bits) (right .8)
+
+-- and the call is refused with 7, all buffers zero.
+pub edged-refused : left edged ≡ stageLaid (lent (edged .layout) (edged .spectra)) (cleared (edged .layout) (refused 7 0))
+edged-refused =
+    run edged (right .8)
+    ∙ ap (stageLaid (lent (edged .layout) (edged .spectra))) (settled-long (edged .layout) (edged .made) (omega arith) (omega arith) (omega (arith, ap (λ w. w .bits) (right .8))))
