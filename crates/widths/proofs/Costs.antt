@@ -1,17 +1,18 @@
 -- The costs of document 01's **Width**, as the code walks them. Assumes nothing.
 use mathlib.Core.Path.{_≡_, refl, sym, ap, _∙_}
 use mathlib.Core.List.{List, [], _∷_}
-use mathlib.Core.Bool.{true, false, cond}
+use mathlib.Core.Bool.{true, false, cond, _&&_}
 use Prim.Native.Nat.{ℕ, zero, suc, _+_, _-_, _*_, _^_, _%_, _≤_, _<_}
 use native.Mathlib.Numerals.{add-one}
 use native.Mathlib.Omega.{arith}
-use borrow.Author.Tests.{lt-ltb, le-ltb, le-leb, lt-leb, ltb-true, ltb-false, ne-eqb, eq-eqb}
-use lib.Dec.{leb, ltb}
+use borrow.Author.Tests.{lt-ltb, le-ltb, le-leb, lt-leb, ltb-true, ltb-false, ne-eqb}
+use lib.Dec.{leb, ltb, eqb}
 use lib.IntN.{ℤ, pos, negsuc, negℤ, natAbs}
 use lib.Signed.{ltZ, leZ}
 use lib.ListN.{length, take, getD, drop-of-length-le}
 use lib.Seq.{slice, slice-cons, length-take-le}
-use Rattle.rules.specs.Width.{reachOf, near, laterCost, deltaCost, cost, allZero, cheaper, width, widthCost}
+use Rattle.buffers.proofs.Tests.{cond-both}
+use Rattle.rules.specs.Width.{reachOf, deltaOf, near, laterCost, deltaCost, cost, allZero, cheaper, width, widthCost}
 
 -- the code's shift
 pub shifted : (d : ℕ) → 1 ≤ d → d ≤ 5 → ((1 * 2 ^ (d - 1)) % 2 ^ 64 ≡ reachOf d + 1) × (reachOf d ≤ 15)
@@ -35,6 +36,12 @@ size-above (pos n) m h = refl
 size-above (negsuc n) zero h = cc
 size-above (negsuc n) (suc m) h = sym (le-leb (suc n) (suc m) (omega (arith, ltb-false m n h)))
 
+-- |delta| by the two differences that stop at 0
+pub distance-is : (p f : ℕ) → natAbs (deltaOf p f) ≡ p - f + (f - p)
+distance-is zero f = omega arith
+distance-is (suc p) f =
+    cond-both (λ (z : ℤ). natAbs z ≡ suc p - f + (f - suc p)) (ltb f (suc p)) (λ t. omega (arith, ltb-true f (suc p) t)) (λ t. omega (arith, ltb-false f (suc p) t))
+
 -- what the first n factors cost past j
 abbrev pub costPast : ℕ → List ℕ → ℕ → ℕ → ℕ
 costPast d fs n j = laterCost d (getD fs j 0) (slice (j + 1) n fs)
@@ -47,13 +54,9 @@ cost-start d (f ∷ fs) (suc n) = refl
 
 -- the first n factors, from i on: all zero, and what they cost
 module _ (fs : List ℕ) (n i : ℕ) where
-  pub zero-stop : n ≤ length fs → i < n → 0 < getD fs i 0 → allZero (slice i n fs) ≡ false
+  pub zero-next : n ≤ length fs → i < n → allZero (slice i n fs) ≡ (eqb (getD fs i 0) 0 && allZero (slice (i + 1) n fs))
   unfolding allZero
-  zero-stop fits h p = rw (slice-cons i n fs 0 h fits, ne-eqb (getD fs i 0) 0 (λ e. omega arith))
-
-  pub zero-next : n ≤ length fs → i < n → getD fs i 0 ≤ 0 → allZero (slice i n fs) ≡ allZero (slice (i + 1) n fs)
-  unfolding allZero
-  zero-next fits h p = rw (slice-cons i n fs 0 h fits, eq-eqb (getD fs i 0) 0 (omega arith), add-one)
+  zero-next fits h = rw (slice-cons i n fs 0 h fits, add-one)
 
   slice-none : n ≤ length fs → n ≤ i → slice i n fs ≡ []
   slice-none fits h = let q : length (take n fs) ≤ i = rw (length-take-le n fs fits) h in drop-of-length-le (take n fs) q
@@ -88,15 +91,15 @@ module _ (fs : List ℕ) (k b c m : ℕ) (h : k < 5) (w : Best fs k b c) (e : m 
   unfolding cost
   one-more = rw (ne-eqb (k + 1) 0 (λ q. omega arith), ne-eqb (k + 1) 6 (λ q. omega arith)) e
 
-  next : bestOf fs (k + 1) ≡ cond (ltb m c) (k + 1) b
+  best-so-far-next : bestOf fs (k + 1) ≡ cond (ltb m c) (k + 1) b
   unfolding bestOf cheaper
-  next = rw (one-more, w .1, add-one k, ← w .0)
+  best-so-far-next = rw (one-more, w .1, add-one k, ← w .0)
 
   pub best-less : m < c → Best fs (k + 1) (k + 1) m
-  best-less l = (rw (next, lt-ltb m c l), one-more)
+  best-less l = (rw (best-so-far-next, lt-ltb m c l), one-more)
 
   pub best-same : c ≤ m → Best fs (k + 1) b c
-  best-same l = (rw (next, le-ltb m c l), w .1)
+  best-same l = (rw (best-so-far-next, le-ltb m c l), w .1)
 
 pub best-all : (fs : List ℕ) (b c : ℕ) → allZero fs ≡ false → Best fs 5 b c → (b ≡ width fs) × (c ≡ widthCost fs)
 unfolding bestOf width widthCost

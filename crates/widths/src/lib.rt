@@ -2,12 +2,32 @@
 ghost use mathlib.Core.Path.{_≡_};
 ghost use Prim.Native.Nat.{_+_, _*_, _≤_};
 ghost use mathlib.Core.Bool.{cond};
+ghost use lib.Dec.{leb};
+ghost use lib.IntN.{natAbs};
 ghost use lib.ListN.{length, take};
-ghost use Rattle.rules.specs.Width.{reachOf, deltaOf, near, deltaCost, allZero, width, widthCost};
+ghost use Rattle.rules.specs.Width.{reachOf, deltaOf, near, width, widthCost};
+ghost use Rattle.widths.specs.Walks.{Short, longer, firstWalk, walkOn, orLess, chosenOf};
 
 pub struct Width {
     pub bits: usize,
     pub cost: usize,
+}
+
+// The lengths of widths 1 to 5 for the factors walked so far. None passes 1,406; narrow, so that
+// eight factors are priced side by side.
+struct Lengths {
+    one: u16,
+    two: u16,
+    three: u16,
+    four: u16,
+    five: u16,
+}
+
+// With them the last factor, and whether all so far are 0.
+struct Walk {
+    lengths: Lengths,
+    previous: u8,
+    is_zero: bool,
 }
 
 // m = 2^(d-1) - 1: how far a delta of d bits reaches.
@@ -36,65 +56,126 @@ pub fn is_near(d: usize, previous: u8, factor: u8) -> bool
     z <= m
 }
 
+// |delta|, any two bytes apart.
+fn distance(previous: u8, factor: u8) -> u8
+    ensures { λ r. ⌜ r ≡ natAbs (deltaOf previous factor) ⌝ }
+{
+    if previous < factor {
+        return factor - previous;
+    }
+    previous - factor
+}
+
 // What a later band takes: its delta, or an escape and the factor's 6 bits.
-fn later_bits(d: usize, previous: u8, factor: u8) -> usize
+fn bits_at(d: u16, distance: u8) -> u16
     requires { ⌜ (1 ≤ d) × (d ≤ 5) ⌝ }
-    ensures { λ r. ⌜ (r ≡ cond (near d previous factor) d (d + 6)) × (r ≤ 11) ⌝ }
+    ensures { λ r. ⌜ (r ≡ cond (leb distance (reachOf d)) d (d + 6)) × (r ≤ 11) ⌝ }
 {
-    if is_near(d, previous, factor) {
-        d
-    } else {
-        d + 6
+    if distance as usize <= reach(d as usize) {
+        return d;
     }
+    d + 6
 }
 
-fn delta_cost(factors: &[u8], n: usize, d: usize) -> usize
-    requires { ⌜ (1 ≤ d) × (d ≤ 5) ⌝ }
-    requires { ⌜ (n ≤ 128) × (n ≤ length (now factors)) ⌝ }
-    ensures { λ r. ⌜ r ≡ deltaCost (take n (now (factors .entry))) d ⌝ }
-{
-    let mut sum = 9;
-    let mut j = 0;
-    while j + 1 < n {
-        sum += later_bits(d, factors[j], factors[j + 1]);
-        j += 1;
-    }
-    sum
-}
-
-fn all_zero(factors: &[u8], n: usize) -> bool
-    requires { ⌜ n ≤ length (now factors) ⌝ }
-    ensures { λ r. ⌜ r ≡ allZero (take n (now (factors .entry))) ⌝ }
-{
-    let mut i = 0;
-    while i < n {
-        if 0 < factors[i] {
-            return false;
+impl Width {
+    // A width of strictly less cost takes its place.
+    fn or_less(self, bits: usize, length: u16) -> Width
+        requires { ⌜ (self .bits ≤ 6) × (bits ≤ 6) ⌝ }
+        ensures { λ r. ⌜ (r ≡ orLess bits length self) × (r .bits ≤ 6) × (r .cost ≤ self .cost) ⌝ }
+    {
+        let cost = length as usize;
+        if cost < self.cost {
+            return Width { bits, cost };
         }
-        i += 1;
+        self
     }
-    true
+}
+
+impl Lengths {
+    // With one factor more.
+    fn with(self, previous: u8, factor: u8) -> Lengths
+        requires { ⌜ Short self ⌝ }
+        ensures { λ r. ⌜ r ≡ longer self previous factor ⌝ }
+    {
+        let z = distance(previous, factor);
+        Lengths {
+            one: self.one + bits_at(1, z),
+            two: self.two + bits_at(2, z),
+            three: self.three + bits_at(3, z),
+            four: self.four + bits_at(4, z),
+            five: self.five + bits_at(5, z),
+        }
+    }
+
+    // 6, unless a width of 1 to 5 costs strictly less: then the first of least cost.
+    fn chosen(self, n: usize) -> Width
+        requires { ⌜ n ≤ 128 ⌝ }
+        ensures { λ r. ⌜ (r ≡ chosenOf self n) × (r .bits ≤ 6) × (r .cost ≤ 3 + 6 * n) ⌝ }
+    {
+        let six = Width {
+            bits: 6,
+            cost: 3 + 6 * n,
+        };
+        six.or_less(1, self.one)
+            .or_less(2, self.two)
+            .or_less(3, self.three)
+            .or_less(4, self.four)
+            .or_less(5, self.five)
+    }
+}
+
+impl Walk {
+    // 3 bits of the width and 6 of the first factor.
+    fn of_first(first: u8) -> Walk
+        ensures { λ r. ⌜ r ≡ firstWalk first ⌝ }
+    {
+        let lengths = Lengths {
+            one: 9,
+            two: 9,
+            three: 9,
+            four: 9,
+            five: 9,
+        };
+        Walk {
+            lengths,
+            previous: first,
+            is_zero: first == 0,
+        }
+    }
+
+    // With one factor more, which is the last from then on.
+    fn with(self, factor: u8) -> Walk
+        requires { ⌜ Short (self .lengths) ⌝ }
+        ensures { λ r. ⌜ r ≡ walkOn self factor ⌝ }
+    {
+        let lengths = self.lengths;
+        let longer = lengths.with(self.previous, factor);
+        Walk {
+            lengths: longer,
+            previous: factor,
+            is_zero: self.is_zero & (factor == 0),
+        }
+    }
 }
 
 // 0 where all factors are 0; else 6, unless a width of 1 to 5 costs strictly less: then the first
-// of least cost.
+// of least cost. Each factor is read once.
 pub fn calculate_optimal_delta_length(factors: &[u8], n: usize) -> Width
     requires { ⌜ (n ≤ 128) × (n ≤ length (now factors)) ⌝ }
     ensures { λ r. ⌜ (r .bits ≡ width (take n (now (factors .entry)))) × (r .cost ≡ widthCost (take n (now (factors .entry)))) × (r .bits ≤ 6) × (r .cost ≤ 3 + 6 * n) ⌝ }
 {
-    if all_zero(factors, n) {
+    if n == 0 {
         return Width { bits: 0, cost: 3 };
     }
-    let mut bits = 6;
-    let mut cost = 3 + 6 * n;
-    let mut k = 0;
-    while k < 5 {
-        let length = delta_cost(factors, n, k + 1);
-        if length < cost {
-            bits = k + 1;
-            cost = length;
-        }
-        k += 1;
+    let mut walk = Walk::of_first(factors[0]);
+    let mut i = 1;
+    while i < n {
+        walk = walk.with(factors[i]);
+        i += 1;
     }
-    Width { bits, cost }
+    if walk.is_zero {
+        return Width { bits: 0, cost: 3 };
+    }
+    let lengths = walk.lengths;
+    lengths.chosen(n)
 }

@@ -1,4 +1,4 @@
--- `widths::is_near` meets its contract. Each signed number that is tested is read back from its bits. Assumes nothing.
+-- `widths::is_near` meets its contract. EachWidth signed number that is tested is read back from its bits. Assumes nothing.
 use mathlib.Core.Path.{_≡_, sym, ap, ap₂, _∙_}
 use native.Mathlib.Omega.{arith}
 use Prim.Native.Nat.{ℕ}
