@@ -5,6 +5,7 @@ cd "$(dirname "$0")"
 sh import.sh
 cargo build --release --offline --locked
 cargo test --quiet --release --offline -p published
+cargo test --quiet --release --offline -p compare --lib
 target/release/vectors --check vec
 target/release/replay-vectors vec/stage.vec vec/records.vec
 target/release/compare-stage --small

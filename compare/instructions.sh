@@ -10,7 +10,7 @@ trap 'rm -f "$out"' EXIT
 
 count() { # the input's name, and how many frames it has
     valgrind --tool=callgrind --collect-atstart=no --toggle-collect='*counted_*' --callgrind-out-file="$out" \
-        target/release/bench --reps 1 --frames "$2" --only "$1" >/dev/null 2>&1
+        target/release/bench --runs 1 --passes 1 --frames "$2" --only "$1" >/dev/null 2>&1
     callgrind_annotate --inclusive=yes --threshold=100 "$out" | awk -v name="$1" -v frames="$2" '
         match($0, /counted_(rust|library|reader)/) {
             side = substr($0, RSTART + 8, RLENGTH - 8)

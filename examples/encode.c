@@ -11,43 +11,29 @@
 
 #define FRAME_SIZE 170 /* 64 kbit/s at 48 kHz: 1,024 samples a frame */
 
+/* Lengths of the buffers of one channel. */
+#define SPECTRA HCA_SPECTRA_LENGTH(1)
+#define SCALED HCA_SCALED_LENGTH(1)
+#define CODES HCA_CODES_LENGTH(1)
+#define FACTORS HCA_FACTORS_LENGTH(1)
+#define INTENSITIES HCA_INTENSITIES_LENGTH(1)
+#define SIDE HCA_SIDE_LENGTH(1)
+
 /* Everything a mono frame needs, lent to the calls. */
-static float spectra[HCA_SPECTRA];
-static float scaled[HCA_SPECTRA];
-static int32_t codes[HCA_SPECTRA], codes_read[HCA_SPECTRA];
-static uint8_t factors[HCA_FACTORS], factors_read[HCA_FACTORS];
-static uint8_t side[HCA_SIDE], side_read[HCA_SIDE];
+static float spectra[SPECTRA];
+static float scaled[SCALED];
+static int32_t codes[CODES], codes_read[CODES];
+static uint8_t factors[FACTORS], factors_read[FACTORS];
+static uint8_t side[SIDE], side_read[SIDE];
 static uint8_t frame[FRAME_SIZE], frame_again[FRAME_SIZE];
 
-static const uint32_t layout[HCA_LAYOUT] = {1, 64, 0, 100, FRAME_SIZE}; /* channels, base, stereo, total, frame size */
+static const uint32_t layout[HCA_LAYOUT_COUNT] = {1, 64, 0, 100, FRAME_SIZE}; /* channels, base, stereo, total, frame size */
 static const uint8_t kinds[1] = {HCA_DISCRETE};
-static const uint8_t intensities[HCA_SIDE] = {0}; /* only secondaries have them */
-
-static const char *text_of(uint32_t refusal)
-{
-    switch (refusal) {
-    case HCA_BAD_LAYOUT: return "the layout is outside its limits";
-    case HCA_SHORT_BUFFER: return "a buffer is too short for the layout";
-    case HCA_BAD_INTENSITY: return "a secondary's intensity is above 15";
-    case HCA_BAD_SPECTRUM: return "a spectrum value is NaN or infinite";
-    case HCA_NO_LEVEL: return "no noise level fits: raise the frame size";
-    case HCA_NO_BOUNDARY: return "no boundary fits";
-    case HCA_TOO_LONG: return "the fields do not fit: raise the frame size";
-    case HCA_WRONG_CHECK: return "the frame's check is wrong";
-    case HCA_WRONG_SYNC: return "the frame does not begin with FF FF";
-    case HCA_BAD_LEVEL: return "level or boundary is out of range";
-    case HCA_BAD_WIDTH: return "a width is not the one that the writer chooses";
-    case HCA_BAD_FACTOR: return "a scale factor is out of range or escaped without need";
-    case HCA_PAST_END: return "a field would pass the frame's end";
-    case HCA_FILL_NOT_ZERO: return "the fill holds a 1";
-    case HCA_NOT_LEGAL: return "the record is not legal";
-    default: return "a number that this program does not know";
-    }
-}
+static const uint8_t intensities[INTENSITIES] = {0}; /* only secondaries have them */
 
 static int refused(const char *call, uint32_t refusal, const uint32_t *answer)
 {
-    fprintf(stderr, "%s: refusal %u at %u: %s\n", call, (unsigned)refusal, (unsigned)answer[0], text_of(refusal));
+    fprintf(stderr, "%s: refusal %u at %u: %s\n", call, (unsigned)refusal, (unsigned)answer[0], hca_refusal_text(refusal));
     return 1;
 }
 
@@ -72,35 +58,36 @@ static void make_spectra(void)
 
 int main(void)
 {
-    uint32_t answer[HCA_ANSWER], answer_read[HCA_ANSWER], answer_again[HCA_ANSWER];
+    uint32_t answer[HCA_ANSWER_COUNT], answer_read[HCA_ANSWER_COUNT], answer_again[HCA_ANSWER_COUNT];
     uint32_t refusal;
 
     make_spectra();
-    refusal = hca_encode_frame(layout, HCA_LAYOUT, kinds, 1, spectra, HCA_SPECTRA, intensities, HCA_SIDE,
-                               scaled, HCA_SPECTRA, codes, HCA_SPECTRA, factors, HCA_FACTORS, side, HCA_SIDE,
-                               frame, FRAME_SIZE, answer, HCA_ANSWER);
+    refusal = hca_encode_frame(layout, HCA_LAYOUT_COUNT, kinds, 1, spectra, SPECTRA, intensities, INTENSITIES,
+                               scaled, SCALED, codes, CODES, factors, FACTORS, side, SIDE,
+                               frame, FRAME_SIZE, answer, HCA_ANSWER_COUNT);
     if (refusal != HCA_OK)
         return refused("hca_encode_frame", refusal, answer);
-    printf("level %u, boundary %u, pairs removed %u, bits %u of %u\n", (unsigned)answer[HCA_LEVEL],
-           (unsigned)answer[HCA_BOUNDARY], (unsigned)answer[HCA_PAIRS], (unsigned)answer[HCA_ENCODED_BITS],
-           8u * (FRAME_SIZE - 2));
+    printf("level %u, boundary %u, pairs removed %u, bits %u of %u\n", (unsigned)answer[HCA_ENCODED_LEVEL],
+           (unsigned)answer[HCA_ENCODED_BOUNDARY], (unsigned)answer[HCA_ENCODED_PAIRS],
+           (unsigned)answer[HCA_ENCODED_BITS], 8u * (FRAME_SIZE - 2));
 
-    refusal = hca_read_frame(layout, HCA_LAYOUT, kinds, 1, frame, FRAME_SIZE, factors_read, HCA_FACTORS,
-                             side_read, HCA_SIDE, codes_read, HCA_SPECTRA, answer_read, HCA_ANSWER);
+    refusal = hca_read_frame(layout, HCA_LAYOUT_COUNT, kinds, 1, frame, FRAME_SIZE, factors_read, FACTORS,
+                             side_read, SIDE, codes_read, CODES, answer_read, HCA_ANSWER_COUNT);
     if (refusal != HCA_OK)
         return refused("hca_read_frame", refusal, answer_read);
-    if (answer_read[HCA_LEVEL] != answer[HCA_LEVEL] || answer_read[HCA_BOUNDARY] != answer[HCA_BOUNDARY] ||
-        answer_read[HCA_BITS] != answer[HCA_ENCODED_BITS] || memcmp(codes_read, codes, sizeof codes) != 0 ||
+    if (answer_read[HCA_RECORD_LEVEL] != answer[HCA_ENCODED_LEVEL] ||
+        answer_read[HCA_RECORD_BOUNDARY] != answer[HCA_ENCODED_BOUNDARY] ||
+        answer_read[HCA_RECORD_BITS] != answer[HCA_ENCODED_BITS] || memcmp(codes_read, codes, sizeof codes) != 0 ||
         memcmp(factors_read, factors, sizeof factors) != 0 || memcmp(side_read, side, sizeof side) != 0) {
         fprintf(stderr, "read back: another record\n");
         return 1;
     }
     printf("read back: the same record\n");
 
-    /* level and boundary stand first in an answer, as a record wants them */
-    refusal = hca_write_record(layout, HCA_LAYOUT, kinds, 1, answer_read, 2, factors_read, HCA_FACTORS,
-                               side_read, HCA_SIDE, codes_read, HCA_SPECTRA, frame_again, FRAME_SIZE,
-                               answer_again, HCA_ANSWER);
+    /* level and boundary stand first in the reader's answer, as a record wants them */
+    refusal = hca_write_record(layout, HCA_LAYOUT_COUNT, kinds, 1, answer_read, HCA_RECORD_COUNT, factors_read, FACTORS,
+                               side_read, SIDE, codes_read, CODES, frame_again, FRAME_SIZE,
+                               answer_again, HCA_ANSWER_COUNT);
     if (refusal != HCA_OK)
         return refused("hca_write_record", refusal, answer_again);
     if (memcmp(frame_again, frame, FRAME_SIZE) != 0) {

@@ -3,6 +3,7 @@
 # run.sh valgrind [CALLS]   the same under valgrind, buffers on the heap (2,000 by default)
 # run.sh libfuzzer [SECONDS]    the same checks over libFuzzer's bytes (60 s by default); needs clang with libFuzzer
 # run.sh faults             a library with one fault after the other: each has to be found
+# run.sh stack [CALLS]      the most stack that each function takes (20,000 calls by default; x86-64)
 # Needs target/staticlib/libhca.a (rt staticlib hca) or HCA_LIB_DIR, and a C compiler.
 set -eu
 cd "$(dirname "$0")"
@@ -15,6 +16,7 @@ if [ ! -f "$lib" ]; then
 fi
 mkdir -p "$out"
 flags="-std=c99 -O2 -g -Wall -Wextra -Werror"
+wrap=-Wl,--wrap=hca_encode_frame,--wrap=hca_write_record,--wrap=hca_read_frame,--wrap=hca_checksum
 sanitizers="-fsanitize=address,undefined -fno-sanitize-recover=undefined"
 
 build_driver() { # $1: the program, then flags
@@ -36,7 +38,6 @@ libfuzzer)
     "$out/target" -max_len=256 -print_final_stats=1 -max_total_time="${2:-60}" -artifact_prefix="$out/" "$out/corpus"
     ;;
 faults)
-    wrap=-Wl,--wrap=hca_encode_frame,--wrap=hca_write_record,--wrap=hca_read_frame,--wrap=hca_checksum
     build_driver driver-faulty "$wrap" faults.c
     "$out/driver-faulty" --calls 20000 >/dev/null || { echo "a fault where there is none"; exit 1; }
     missed=0
@@ -50,6 +51,11 @@ faults)
     done
     echo "$missed faults missed"
     [ "$missed" -eq 0 ]
+    ;;
+stack)
+    # bound before it runs: else the first call of memset would count the linker's own work
+    build_driver driver-stack "$wrap" -Wl,-z,now stack.c
+    "$out/driver-stack" --calls "${2:-20000}" | tail -n 2
     ;;
 *)
     # shellcheck disable=SC2086

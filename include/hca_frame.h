@@ -16,7 +16,8 @@
    A buffer may be longer than is needed: the rest is not looked at and stays as it was.
 
    Threads. There is no state, no heap, no lock, no file, no errno: any number of threads may call at once, each with
-   its own written buffers. A call needs less than 64 KiB of stack.
+   its own written buffers. Stack: at most 3,472 bytes a call, its arguments among them, whatever the layout; measured on
+   a painted stack over hostile calls of up to 16 channels (fuzz/run.sh stack). Plan with 8 KiB: a later build may differ.
 
    Result. 0 (HCA_OK) where the call delivered, else the number of the refusal: see enum hca_refusal. */
 #ifndef HCA_FRAME_H
@@ -29,11 +30,22 @@
 extern "C" {
 #endif
 
-/* Elements per channel. */
-#define HCA_SPECTRA 1024    /* spectra, scaled, codes: 8 subframes x 128 bands */
-#define HCA_FACTORS 128     /* factors: one a band */
-#define HCA_SIDE 8          /* intensities, side */
+/* The version of this header and of its library; the number is 10,000 x major + 100 x minor + patch. */
+#define HCA_VERSION "0.1.0"
+#define HCA_VERSION_NUMBER 100
+
 #define HCA_MAX_CHANNELS 16
+#define HCA_SUBFRAME_COUNT 8    /* of a frame */
+#define HCA_BAND_COUNT 128      /* of a subframe */
+
+/* Elements that each buffer needs, by the number of channels; frame needs the layout's frame size. */
+#define HCA_KINDS_LENGTH(channels) ((size_t)(channels))
+#define HCA_SPECTRA_LENGTH(channels) ((size_t)(channels) * HCA_SUBFRAME_COUNT * HCA_BAND_COUNT)
+#define HCA_SCALED_LENGTH(channels) ((size_t)(channels) * HCA_BAND_COUNT * HCA_SUBFRAME_COUNT)
+#define HCA_CODES_LENGTH(channels) ((size_t)(channels) * HCA_SUBFRAME_COUNT * HCA_BAND_COUNT)
+#define HCA_FACTORS_LENGTH(channels) ((size_t)(channels) * HCA_BAND_COUNT)
+#define HCA_INTENSITIES_LENGTH(channels) ((size_t)(channels) * HCA_SUBFRAME_COUNT)
+#define HCA_SIDE_LENGTH(channels) ((size_t)(channels) * HCA_SUBFRAME_COUNT)
 
 /* layout: five numbers in this order. Numbers after the fifth are not looked at, but a later version may: pass five. */
 enum hca_layout {
@@ -42,7 +54,7 @@ enum hca_layout {
     HCA_STEREO = 2,         /* further bands that all but secondaries code; may be 0; base + stereo is at most total */
     HCA_TOTAL = 3,          /* bands in all: 1 to 128; those from base + stereo on are reconstructed (HFR) */
     HCA_FRAME_SIZE = 4,     /* F, bytes of a frame with its check: 8 to 65,535 */
-    HCA_LAYOUT = 5          /* how many numbers a layout has */
+    HCA_LAYOUT_COUNT = 5    /* how many numbers a layout has */
 };
 
 /* kinds: one byte a channel, in any arrangement. Bytes after the first C are not looked at. */
@@ -52,17 +64,27 @@ enum hca_kind {
     HCA_STEREO_SECONDARY = 2    /* codes the base bands only; its side values are intensities */
 };
 
-/* answer: at least four places.
-   Where a call delivered, the first places hold the numbers below, and the places after them stay as they were.
+/* answer: at least HCA_ANSWER_COUNT places, for each of the three calls.
+   Where a call delivered, the first places hold the numbers of its enum below, and the places after them stay as they were.
    Where it refused, answer[0] holds the number beside the refusal, and the other places stay as they were.
-   An answer of under four places is refusal 2 (after 1) and stays as it was. */
-enum hca_answer {
-    HCA_LEVEL = 0,          /* all three calls: noise level, 0 to 254 */
-    HCA_BOUNDARY = 1,       /* all three calls: bands below it are coded one level finer; 0 to 127, 0 at level 0 */
-    HCA_BITS = 2,           /* hca_read_frame, hca_write_record: bits of all fields, those before the fill */
-    HCA_PAIRS = 2,          /* hca_encode_frame: pairs of bands removed before a level was found */
-    HCA_ENCODED_BITS = 3,   /* hca_encode_frame: bits of all fields, those before the fill */
-    HCA_ANSWER = 4          /* how many places an answer has */
+   An answer of fewer places is refusal 2 (after 1) and stays as it was. */
+enum { HCA_ANSWER_COUNT = 4 };
+
+/* What hca_encode_frame delivers. */
+enum hca_encoded {
+    HCA_ENCODED_LEVEL = 0,      /* noise level, 0 to 254 */
+    HCA_ENCODED_BOUNDARY = 1,   /* bands below it are coded one level finer; 0 to 127, 0 at level 0 */
+    HCA_ENCODED_PAIRS = 2,      /* pairs of bands removed before a level was found */
+    HCA_ENCODED_BITS = 3,       /* bits of all fields, those before the fill */
+    HCA_ENCODED_COUNT = 4       /* how many numbers it delivers */
+};
+
+/* What hca_read_frame and hca_write_record deliver. The first two are what hca_write_record takes as record. */
+enum hca_record {
+    HCA_RECORD_LEVEL = 0,       /* as HCA_ENCODED_LEVEL */
+    HCA_RECORD_BOUNDARY = 1,    /* as HCA_ENCODED_BOUNDARY */
+    HCA_RECORD_BITS = 2,        /* bits of all fields, those before the fill */
+    HCA_RECORD_COUNT = 3        /* how many numbers they deliver */
 };
 
 /* Refusals. "Beside" is what answer[0] then holds. Bits are counted from the frame's first bit, which is 0.
@@ -90,6 +112,30 @@ enum hca_refusal {
     HCA_NOT_LEGAL = 15      /* the record has a value out of range, or not 0 where nothing is written; beside: 0 */
 };
 
+/* A short English text for a call's result, never null: of a number that this header does not know, that. */
+static inline const char *hca_refusal_text(uint32_t refusal)
+{
+    switch (refusal) {
+    case HCA_OK: return "delivered";
+    case HCA_BAD_LAYOUT: return "the layout is outside its limits";
+    case HCA_SHORT_BUFFER: return "a buffer is too short for the layout";
+    case HCA_BAD_INTENSITY: return "a secondary's intensity is above 15";
+    case HCA_BAD_SPECTRUM: return "a spectrum value is NaN or infinite";
+    case HCA_NO_LEVEL: return "no noise level fits, even with bands removed: raise the frame size";
+    case HCA_NO_BOUNDARY: return "no boundary fits";
+    case HCA_TOO_LONG: return "the fields do not fit the frame: raise the frame size";
+    case HCA_WRONG_CHECK: return "the frame's check is wrong";
+    case HCA_WRONG_SYNC: return "the frame does not begin with FF FF";
+    case HCA_BAD_LEVEL: return "level or boundary is out of range";
+    case HCA_BAD_WIDTH: return "a width is not the one that the writer chooses";
+    case HCA_BAD_FACTOR: return "a scale factor is out of range or escaped without need";
+    case HCA_PAST_END: return "a field would pass the end of the fields";
+    case HCA_FILL_NOT_ZERO: return "the fill holds a 1";
+    case HCA_NOT_LEGAL: return "the record is not legal";
+    default: return "a refusal that this header does not know";
+    }
+}
+
 /* The frame stage: encodes one frame. Refuses with 1, 2, 3, 4, 5 or 7.
    hca_read_frame hands back the stage's record, but where a code is one past its range: at the upper clip and resolution
    2, 4 or 5 a code can be 3, 5 or 6, which gets no bits, as in the published encoder. */
@@ -106,7 +152,7 @@ uint32_t hca_encode_frame(
     uint8_t *side, size_t side_len,                     /* written: C x 8; a secondary's intensities, else the scales of
                                                            the HFR groups (0 to 63), then zeros */
     uint8_t *frame, size_t frame_len,                   /* written: F bytes */
-    uint32_t *answer, size_t answer_len);               /* written: level, boundary, pairs, bits */
+    uint32_t *answer, size_t answer_len);               /* written: 4 places or more, see enum hca_encoded */
 
 /* The record writer: writes the one frame of a legal record. Refuses with 1, 2, 15 or 7.
    Legal: level 0..254; boundary 0..127, and 0 at level 0; factors and HFR scales 0..63; intensities 0..15; codes within
@@ -120,7 +166,7 @@ uint32_t hca_write_record(
     const uint8_t *side, size_t side_len,               /* read: C x 8 */
     const int32_t *codes, size_t codes_len,             /* read: C x 1,024 by channel, subframe, band */
     uint8_t *frame, size_t frame_len,                   /* written: F bytes */
-    uint32_t *answer, size_t answer_len);               /* written: level, boundary, bits */
+    uint32_t *answer, size_t answer_len);               /* written: 4 places or more, see enum hca_record */
 
 /* The strict reader: accepts exactly the frames that hca_write_record writes, and hands their record back.
    Frames are plain here: an encrypted one has to be decrypted, and its check mended, first.
@@ -132,7 +178,7 @@ uint32_t hca_read_frame(
     uint8_t *factors, size_t factors_len,               /* written: C x 128 by channel, band */
     uint8_t *side, size_t side_len,                     /* written: C x 8 */
     int32_t *codes, size_t codes_len,                   /* written: C x 1,024 by channel, subframe, band */
-    uint32_t *answer, size_t answer_len);               /* written: level, boundary, bits */
+    uint32_t *answer, size_t answer_len);               /* written: 4 places or more, see enum hca_record */
 
 /* The check of any run of bytes: CRC16, polynomial 8005, start 0, high bit first. Over a frame's first F - 2 bytes it
    is what stands in the last two, high byte first; over a whole good frame it is 0. Never refuses; of no bytes it is 0. */

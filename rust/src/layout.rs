@@ -161,6 +161,7 @@ impl LayoutBuilder {
 
 /// The limit that a layout broke.
 #[derive(Clone, Copy, Debug, PartialEq, Eq)]
+#[non_exhaustive]
 pub enum LayoutError {
     /// So many channels; there may be 1 to 16.
     Channels(usize),

@@ -35,6 +35,22 @@
 //!
 //! Build `libhca.a` first (`rt staticlib hca`); the build script looks for it in
 //! `../target/staticlib`, or in the folder that `HCA_LIB_DIR` names.
+//!
+//! # Floats
+//!
+//! [`Encoder::encode_frame`] counts on the thread's default float modes: results
+//! round to nearest, and small numbers are not flushed to zero. Audio engines
+//! often set FTZ and DAZ (bits 15 and 6 of x86's MXCSR) on their threads; under
+//! them the stage still keeps to its buffers, but what it delivers may differ from
+//! what is proved (seen for small scaled values). Call from a thread without them,
+//! or clear them around the call.
+//! The reader, the record writer and the checksum use no floats.
+//!
+//! # Allocation
+//!
+//! The library has no heap. [`Encoder::new`], [`read_frame`] and [`write_record`]
+//! make vectors; [`Encoder::encode_frame`], [`read_frame_into`] and
+//! [`write_record_into`] use what they are given.
 
 #![warn(missing_docs)]
 #![deny(unsafe_code)]
@@ -45,10 +61,11 @@ pub mod raw;
 mod refusal;
 
 pub use layout::{Kind, Layout, LayoutBuilder, LayoutError};
-pub use refusal::Refusal;
+pub use refusal::{Refusal, RefusalKind};
 
 /// What the stage answers beside its buffers.
 #[derive(Clone, Copy, Debug, PartialEq, Eq)]
+#[non_exhaustive]
 pub struct Delivered {
     /// Noise level, 0 to 254.
     pub level: u32,
@@ -176,6 +193,16 @@ impl Record {
 /// bytes. The second value is the bits of all fields, before the fill.
 pub fn read_frame(layout: &Layout, frame: &[u8]) -> Result<(Record, u32), Refusal> {
     let mut record = Record::silent(layout);
+    let bits = read_frame_into(layout, frame, &mut record)?;
+    Ok((record, bits))
+}
+
+/// [`read_frame`] into a record that is there already, as [`Record::silent`] of the
+/// layout makes one: nothing is allocated. Says the bits of all fields.
+///
+/// A vector that is too short is refusal 2, and the record stays as it was; a longer
+/// one keeps its rest. After any other refusal the record is silent.
+pub fn read_frame_into(layout: &Layout, frame: &[u8], record: &mut Record) -> Result<u32, Refusal> {
     let mut answer = [0; 4];
     let number = raw::read_frame(
         layout.numbers(),
@@ -186,14 +213,28 @@ pub fn read_frame(layout: &Layout, frame: &[u8]) -> Result<(Record, u32), Refusa
         &mut record.codes,
         &mut answer,
     );
+    if number == Refusal::SHORT_BUFFER {
+        return Err(Refusal { number, place: answer[0] });
+    }
+    (record.level, record.boundary) = (0, 0);
     let [level, boundary, bits, _] = delivered(number, answer)?;
     (record.level, record.boundary) = (level, boundary);
-    Ok((record, bits))
+    Ok(bits)
 }
 
 /// Writes a record's frame. The second value is the bits of all fields.
 pub fn write_record(layout: &Layout, record: &Record) -> Result<(Vec<u8>, u32), Refusal> {
     let mut frame = vec![0; layout.frame_size()];
+    let bits = write_record_into(layout, record, &mut frame)?;
+    Ok((frame, bits))
+}
+
+/// [`write_record`] into the first [`frame_size`](Layout::frame_size) bytes of a slice:
+/// nothing is allocated. Says the bits of all fields.
+///
+/// A slice that is too short is refusal 2. After refusals 2 and 15 the slice is as it
+/// was, after 7 these bytes are zero; the rest of a longer slice is never touched.
+pub fn write_record_into(layout: &Layout, record: &Record, frame: &mut [u8]) -> Result<u32, Refusal> {
     let mut answer = [0; 4];
     let number = raw::write_record(
         layout.numbers(),
@@ -202,11 +243,11 @@ pub fn write_record(layout: &Layout, record: &Record) -> Result<(Vec<u8>, u32), 
         &record.factors,
         &record.side,
         &record.codes,
-        &mut frame,
+        frame,
         &mut answer,
     );
     let [_, _, bits, _] = delivered(number, answer)?;
-    Ok((frame, bits))
+    Ok(bits)
 }
 
 /// The check of a run of bytes, as it stands in a frame's last two.

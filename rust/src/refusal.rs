@@ -4,7 +4,7 @@ use std::fmt;
 /// A refusal: document 01's number and the number beside it.
 #[derive(Clone, Copy, Debug, PartialEq, Eq, Hash)]
 pub struct Refusal {
-    /// 1 to 15: see the constants.
+    /// See the constants; [`kind`](Refusal::kind) names it.
     pub number: u32,
     /// An index, a bit, a level or a count of pairs, as the number has it; else 0.
     pub place: u32,
@@ -43,6 +43,81 @@ impl Refusal {
     pub const FILL_NOT_ZERO: u32 = 14;
     /// The record is not legal; `place` is 0.
     pub const NOT_LEGAL: u32 = 15;
+}
+
+/// What a refusal is about: its number by a name that a `match` can use.
+///
+/// ```
+/// use hca_frame::{read_frame, Kind, Layout, RefusalKind};
+///
+/// let layout = Layout::builder().channel(Kind::Discrete).bands(1, 0, 1).frame_size(8).build()?;
+/// match read_frame(&layout, &[1; 8]).unwrap_err().kind() {
+///     RefusalKind::WrongCheck => println!("the bytes were damaged"),
+///     other => panic!("{other:?}"),
+/// }
+/// # Ok::<(), hca_frame::LayoutError>(())
+/// ```
+#[derive(Clone, Copy, Debug, PartialEq, Eq, Hash)]
+#[non_exhaustive]
+#[rustfmt::skip]
+pub enum RefusalKind {
+    /// [`Refusal::BAD_LAYOUT`].
+    BadLayout,
+    /// [`Refusal::SHORT_BUFFER`].
+    ShortBuffer,
+    /// [`Refusal::BAD_INTENSITY`].
+    BadIntensity,
+    /// [`Refusal::BAD_SPECTRUM`].
+    BadSpectrum,
+    /// [`Refusal::NO_LEVEL`].
+    NoLevel,
+    /// [`Refusal::NO_BOUNDARY`].
+    NoBoundary,
+    /// [`Refusal::TOO_LONG`].
+    TooLong,
+    /// [`Refusal::WRONG_CHECK`].
+    WrongCheck,
+    /// [`Refusal::WRONG_SYNC`].
+    WrongSync,
+    /// [`Refusal::BAD_LEVEL`].
+    BadLevel,
+    /// [`Refusal::BAD_WIDTH`].
+    BadWidth,
+    /// [`Refusal::BAD_FACTOR`].
+    BadFactor,
+    /// [`Refusal::PAST_END`].
+    PastEnd,
+    /// [`Refusal::FILL_NOT_ZERO`].
+    FillNotZero,
+    /// [`Refusal::NOT_LEGAL`].
+    NotLegal,
+    /// A number that this crate has no name for. A later version may have one: match it by `_`.
+    Unknown,
+}
+
+impl Refusal {
+    /// What the number stands for.
+    #[rustfmt::skip]
+    pub fn kind(&self) -> RefusalKind {
+        match self.number {
+            Self::BAD_LAYOUT => RefusalKind::BadLayout,
+            Self::SHORT_BUFFER => RefusalKind::ShortBuffer,
+            Self::BAD_INTENSITY => RefusalKind::BadIntensity,
+            Self::BAD_SPECTRUM => RefusalKind::BadSpectrum,
+            Self::NO_LEVEL => RefusalKind::NoLevel,
+            Self::NO_BOUNDARY => RefusalKind::NoBoundary,
+            Self::TOO_LONG => RefusalKind::TooLong,
+            Self::WRONG_CHECK => RefusalKind::WrongCheck,
+            Self::WRONG_SYNC => RefusalKind::WrongSync,
+            Self::BAD_LEVEL => RefusalKind::BadLevel,
+            Self::BAD_WIDTH => RefusalKind::BadWidth,
+            Self::BAD_FACTOR => RefusalKind::BadFactor,
+            Self::PAST_END => RefusalKind::PastEnd,
+            Self::FILL_NOT_ZERO => RefusalKind::FillNotZero,
+            Self::NOT_LEGAL => RefusalKind::NotLegal,
+            _ => RefusalKind::Unknown,
+        }
+    }
 }
 
 impl fmt::Display for Refusal {

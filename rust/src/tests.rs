@@ -134,6 +134,97 @@ fn every_number_has_a_text() {
 }
 
 #[test]
+#[rustfmt::skip]
+fn every_number_has_its_kind() {
+    for (number, kind) in [
+        (1, RefusalKind::BadLayout),
+        (2, RefusalKind::ShortBuffer),
+        (3, RefusalKind::BadIntensity),
+        (4, RefusalKind::BadSpectrum),
+        (5, RefusalKind::NoLevel),
+        (6, RefusalKind::NoBoundary),
+        (7, RefusalKind::TooLong),
+        (8, RefusalKind::WrongCheck),
+        (9, RefusalKind::WrongSync),
+        (10, RefusalKind::BadLevel),
+        (11, RefusalKind::BadWidth),
+        (12, RefusalKind::BadFactor),
+        (13, RefusalKind::PastEnd),
+        (14, RefusalKind::FillNotZero),
+        (15, RefusalKind::NotLegal),
+        (0, RefusalKind::Unknown),
+        (99, RefusalKind::Unknown),
+    ] {
+        assert_eq!(Refusal { number, place: 0 }.kind(), kind, "{number}");
+    }
+}
+
+#[test]
+fn a_record_is_read_into_what_is_there() {
+    let l = mono(30, 60, 90);
+    let mut e = Encoder::new(l.clone());
+    let spectra: Vec<f32> = (0..1024).map(|i| ((i * 41 % 97) as f32 - 48.0) / (8 + 8 * (i % 128)) as f32).collect();
+    let done = e.encode_frame(&spectra, &[0; 8]).unwrap();
+    let mut record = Record::silent(&l);
+    record.codes.push(77); // a longer vector keeps its rest
+    assert_eq!(read_frame_into(&l, e.frame(), &mut record), Ok(done.bits));
+    assert_eq!((record.level, record.boundary), (done.level, done.boundary));
+    assert_eq!(record.codes.pop(), Some(77));
+    assert_eq!(record, e.record(&done));
+
+    let mut damaged = e.frame().to_vec();
+    damaged[20] ^= 4;
+    assert_eq!(read_frame_into(&l, &damaged, &mut record), Err(Refusal { number: 8, place: 0 }));
+    assert_eq!(record, Record::silent(&l));
+
+    let mut short = e.record(&done);
+    short.side.pop();
+    let before = short.clone();
+    assert_eq!(read_frame_into(&l, e.frame(), &mut short), Err(Refusal { number: 2, place: 0 }));
+    assert_eq!(short, before);
+}
+
+#[test]
+fn a_frame_is_written_into_what_is_there() {
+    let l = mono(1, 1, 10);
+    let mut record = Record::silent(&l);
+    let (frame, bits) = write_record(&l, &record).unwrap();
+    let mut slice = [7; 12];
+    assert_eq!(write_record_into(&l, &record, &mut slice), Ok(bits));
+    assert_eq!((&slice[..10], &slice[10..]), (&frame[..], &[7, 7][..]));
+
+    let mut slice = [7; 9];
+    assert_eq!(write_record_into(&l, &record, &mut slice), Err(Refusal { number: 2, place: 0 }));
+    assert_eq!(slice, [7; 9]);
+
+    record.level = 512;
+    let mut slice = [7; 10];
+    assert_eq!(write_record_into(&l, &record, &mut slice), Err(Refusal { number: 15, place: 0 }));
+    assert_eq!(slice, [7; 10]);
+}
+
+#[test]
+fn a_record_without_room_leaves_zeros() {
+    let l = Layout::builder().channels(&[Kind::Discrete; 6]).bands(1, 0, 1).frame_size(8).build().unwrap();
+    let mut slice = [7; 9];
+    let no = write_record_into(&l, &Record::silent(&l), &mut slice).unwrap_err();
+    assert_eq!(no.kind(), RefusalKind::TooLong);
+    assert_eq!(slice, [0, 0, 0, 0, 0, 0, 0, 0, 7]);
+}
+
+#[test]
+fn header_and_crate_have_one_version() {
+    let header = include_str!("../../include/hca_frame.h");
+    let line = format!("#define HCA_VERSION \"{}\"", env!("CARGO_PKG_VERSION"));
+    assert!(header.contains(&line), "no line of the header is: {line}");
+    let part = |text: &str| text.parse::<u32>().unwrap();
+    let parts =
+        [part(env!("CARGO_PKG_VERSION_MAJOR")), part(env!("CARGO_PKG_VERSION_MINOR")), part(env!("CARGO_PKG_VERSION_PATCH"))];
+    let line = format!("#define HCA_VERSION_NUMBER {}\n", 10_000 * parts[0] + 100 * parts[1] + parts[2]);
+    assert!(header.contains(&line), "no line of the header is: {line}");
+}
+
+#[test]
 fn threads_do_not_meet() {
     let l = mono(30, 60, 90);
     let frame_of = |k: usize| {

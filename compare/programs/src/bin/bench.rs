@@ -1,8 +1,10 @@
 //! The published Rust against the library on the same frames, in one program.
 //!
-//! bench [--reps R] [--frames N] [--only WORDS]
+//! bench [--runs R] [--passes P] [--frames N] [--only WORDS]
 //!
-//! WORDS is a part of an input's name, as "stereo, 64".
+//! WORDS is a part of an input's name, as "stereo, 64". A run takes every input P
+//! times; printed is, for each input, the run whose ratio is the median of all R,
+//! with the least and the greatest ratio of them beside it.
 //! Counted for the Rust: calculate_scale_factors .. pack_frame on a state that is
 //! made once, and the clearing past the coded count that document 01 asks for.
 //! Counted for the library: the whole call, with its tests of layout, lengths,
@@ -88,37 +90,36 @@ fn counted_reader(call: &StageCall, frame: &[u8], b: &mut Lent) -> u32 {
 }
 
 /// Nanoseconds of each delivered frame.
-fn reader_pass(b: &mut Lent, delivered: &[(&StageCall, Vec<u8>)]) -> Vec<f64> {
-    let timed = |(call, frame): &(&StageCall, Vec<u8>)| {
+fn reader_pass(b: &mut Lent, calls: &[StageCall], delivered: &[(usize, Vec<u8>)]) -> Vec<f64> {
+    let timed = |(k, frame): &(usize, Vec<u8>)| {
         let start = Instant::now();
-        black_box(counted_reader(black_box(call), frame, b));
+        black_box(counted_reader(black_box(&calls[*k]), frame, b));
         start.elapsed().as_nanos() as f64
     };
     delivered.iter().map(timed).collect()
 }
 
-/// Per frame the median and the least over the passes; of each the mean over the
-/// frames. So a pass that the machine took time from spoils few frames.
-fn summed(passes: &[Vec<f64>]) -> (f64, f64) {
-    let frames = passes[0].len();
-    let (mut median, mut least) = (0.0, 0.0);
-    for k in 0..frames {
-        let mut v: Vec<f64> = passes.iter().map(|p| p[k]).collect();
-        v.sort_by(f64::total_cmp);
-        median += v[v.len() / 2];
-        least += v[0];
-    }
-    (median / frames as f64, least / frames as f64)
+fn median(mut v: Vec<f64>) -> f64 {
+    v.sort_by(f64::total_cmp);
+    v[v.len() / 2]
 }
 
-/// What the library made of the calls: the delivered frames, and the most pairs removed.
-struct Made<'a> {
-    frames: Vec<(&'a StageCall, Vec<u8>)>,
+/// Per frame the median over the passes; of these the mean over the frames. So a
+/// pass that the machine took time from spoils few frames.
+fn mean_of_medians(passes: &[Vec<f64>]) -> f64 {
+    let frames = passes[0].len();
+    let of = |k: usize| median(passes.iter().map(|p| p[k]).collect());
+    (0..frames).map(of).sum::<f64>() / frames as f64
+}
+
+/// What the library made of the calls: the delivered frames by the call's index, and the most pairs removed.
+struct Made {
+    frames: Vec<(usize, Vec<u8>)>,
     pairs: u32,
 }
 
 /// Both give the same frames and the reader accepts them, or the time says nothing.
-fn same_frames<'a>(e: &mut HcaEncoder, b: &mut Lent, calls: &'a [StageCall]) -> Made<'a> {
+fn same_frames(e: &mut HcaEncoder, b: &mut Lent, calls: &[StageCall]) -> Made {
     let mut made = Made { frames: Vec::new(), pairs: 0 };
     for (k, call) in calls.iter().enumerate() {
         load(e, call);
@@ -144,52 +145,87 @@ fn same_frames<'a>(e: &mut HcaEncoder, b: &mut Lent, calls: &'a [StageCall]) -> 
                 println!("frame {k} is refused by the reader (number {read}): nothing timed");
                 std::process::exit(1);
             }
-            made.frames.push((call, frame));
+            made.frames.push((k, frame));
         }
     }
     made
 }
 
-fn measure(name: &str, calls: &[StageCall], reps: usize) {
-    let mut e = setup(&calls[0]);
-    let mut b = calls[0].lent();
-    let (mut spectra, mut intensities) = (calls[0].spectra.clone(), calls[0].intensities.clone());
-    let made = same_frames(&mut e, &mut b, calls);
-    let (mut rust, mut library, mut reader) = (Vec::new(), Vec::new(), Vec::new());
-    for rep in 0..reps {
-        // in turns, so that neither has the quieter machine
-        if rep % 2 == 0 {
-            rust.push(rust_pass(&mut e, calls));
-        }
-        library.push(library_pass(&mut b, &mut spectra, &mut intensities, calls));
-        if rep % 2 == 1 {
-            rust.push(rust_pass(&mut e, calls));
-        }
-        reader.push(reader_pass(&mut b, &made.frames));
-    }
-    let x = &calls[0].layout;
-    println!(
-        "{name}: {} frames, {} delivered, up to {} pairs removed; channels {} base {} stereo {} total {} frame {}",
-        calls.len(),
-        made.frames.len(),
-        made.pairs,
-        x[0],
-        x[1],
-        x[2],
-        x[3],
-        x[4]
-    );
-    let (rust, library) = (summed(&rust), summed(&library));
-    let reader = (!made.frames.is_empty()).then(|| summed(&reader));
-    line(&format!("median of {reps} passes"), rust.0, library.0, reader.map(|r| r.0));
-    line(&format!("least of {reps} passes"), rust.1, library.1, reader.map(|r| r.1));
+/// Nanoseconds per frame of one run.
+struct Times {
+    rust: f64,
+    library: f64,
+    reader: Option<f64>,
 }
 
-fn line(what: &str, rust: f64, library: f64, reader: Option<f64>) {
-    print!("    {what:<20} ns/frame: Rust {rust:>10.0}  library {library:>10.0}  Rust / library {:.2}", rust / library);
-    match reader {
-        Some(r) => println!("  reader {r:>8.0}  library / reader {:.2}", library / r),
-        None => println!(),
+impl Times {
+    fn ratio(&self) -> f64 {
+        self.rust / self.library
+    }
+}
+
+/// One input with all that its runs use, and their times.
+struct Input {
+    name: &'static str,
+    calls: Vec<StageCall>,
+    made: Made,
+    e: HcaEncoder,
+    b: Lent,
+    runs: Vec<Times>,
+}
+
+impl Input {
+    fn new(name: &'static str, calls: Vec<StageCall>) -> Self {
+        let (mut e, mut b) = (setup(&calls[0]), calls[0].lent());
+        let made = same_frames(&mut e, &mut b, &calls);
+        Input { name, calls, made, e, b, runs: Vec::new() }
+    }
+
+    fn run(&mut self, passes: usize) {
+        let (mut spectra, mut intensities) = (self.calls[0].spectra.clone(), self.calls[0].intensities.clone());
+        let (mut rust, mut library, mut reader) = (Vec::new(), Vec::new(), Vec::new());
+        for pass in 0..passes {
+            // in turns, so that neither has the quieter machine
+            if pass % 2 == 0 {
+                rust.push(rust_pass(&mut self.e, &self.calls));
+            }
+            library.push(library_pass(&mut self.b, &mut spectra, &mut intensities, &self.calls));
+            if pass % 2 == 1 {
+                rust.push(rust_pass(&mut self.e, &self.calls));
+            }
+            reader.push(reader_pass(&mut self.b, &self.calls, &self.made.frames));
+        }
+        let reader = (!self.made.frames.is_empty()).then(|| mean_of_medians(&reader));
+        self.runs.push(Times { rust: mean_of_medians(&rust), library: mean_of_medians(&library), reader });
+    }
+
+    /// The run whose ratio is the median, and the least and the greatest of all runs' ratios.
+    fn say(&mut self) {
+        let (x, n) = (&self.calls[0].layout, self.runs.len());
+        println!(
+            "{}: {} frames, {} delivered, up to {} pairs removed; channels {} base {} stereo {} total {} frame {}",
+            self.name,
+            self.calls.len(),
+            self.made.frames.len(),
+            self.made.pairs,
+            x[0],
+            x[1],
+            x[2],
+            x[3],
+            x[4]
+        );
+        self.runs.sort_by(|a, b| a.ratio().total_cmp(&b.ratio()));
+        let (least, run, most) = (&self.runs[0], &self.runs[n / 2], &self.runs[n - 1]);
+        print!("    median of {n} runs, ns/frame: Rust {:.0}  library {:.0}", run.rust, run.library);
+        print!("  Rust / library {:.2} ({:.2} to {:.2})", run.ratio(), least.ratio(), most.ratio());
+        let mut shares: Vec<f64> = self.runs.iter().filter_map(|r| r.reader.map(|t| r.library / t)).collect();
+        shares.sort_by(f64::total_cmp);
+        match run.reader {
+            Some(t) => {
+                println!("  reader {t:.0}  library / reader {:.2} ({:.2} to {:.2})", run.library / t, shares[0], shares[n - 1])
+            }
+            None => println!(),
+        }
     }
 }
 
@@ -207,37 +243,46 @@ fn worst_delivered() -> StageCall {
     crowded(yes)
 }
 
-fn main() {
-    let (mut reps, mut count, mut only) = (15, 100, String::new());
-    let mut args = std::env::args().skip(1);
-    while let Some(a) = args.next() {
-        let v = args.next().unwrap_or_default();
-        match (a.as_str(), v.parse()) {
-            ("--reps", Ok(n)) if n > 0 => reps = n,
-            ("--frames", Ok(n)) if n > 0 => count = n,
-            ("--only", _) => only = v,
-            _ => {
-                eprintln!("usage: bench [--reps R] [--frames N] [--only WORDS]");
-                std::process::exit(2);
-            }
-        }
-    }
-    println!("Rust / library above 1 means that the library is faster.");
-    for (name, channels, bitrate) in [
+/// The inputs whose name has the words.
+fn inputs(count: usize, only: &str) -> Vec<Input> {
+    let speech = [
         ("mono, 64 kbit/s", 1, 64_000),
         ("mono, 256 kbit/s", 1, 256_000),
         ("stereo, 64 kbit/s", 2, 64_000),
         ("stereo, 256 kbit/s", 2, 256_000),
-    ] {
-        if name.contains(&only) {
-            measure(name, &frames(channels, bitrate, count), reps);
+    ];
+    let most: [(&str, fn() -> StageCall); 2] =
+        [("most removals, delivered", worst_delivered), ("most removals, refused", || crowded(8))];
+    let mut all = Vec::new();
+    for (name, channels, bitrate) in speech.into_iter().filter(|s| s.0.contains(only)) {
+        all.push(Input::new(name, frames(channels, bitrate, count)));
+    }
+    for (name, call) in most.into_iter().filter(|m| m.0.contains(only)) {
+        all.push(Input::new(name, vec![call()]));
+    }
+    all
+}
+
+fn main() {
+    let (mut runs, mut passes, mut count, mut only) = (7, 15, 100, String::new());
+    let mut args = std::env::args().skip(1);
+    while let Some(a) = args.next() {
+        let v = args.next().unwrap_or_default();
+        match (a.as_str(), v.parse()) {
+            ("--runs", Ok(n)) if n > 0 => runs = n,
+            ("--passes", Ok(n)) if n > 0 => passes = n,
+            ("--frames", Ok(n)) if n > 0 => count = n,
+            ("--only", _) => only = v,
+            _ => {
+                eprintln!("usage: bench [--runs R] [--passes P] [--frames N] [--only WORDS]");
+                std::process::exit(2);
+            }
         }
     }
-    for (name, call) in
-        [("most removals, delivered", worst_delivered as fn() -> StageCall), ("most removals, refused", || crowded(8))]
-    {
-        if name.contains(&only) {
-            measure(name, &[call()], reps);
-        }
+    println!("Rust / library above 1 means that the library is faster. In brackets the least and the greatest of {runs} runs.");
+    let mut inputs = inputs(count, &only);
+    for _ in 0..runs {
+        inputs.iter_mut().for_each(|input| input.run(passes));
     }
+    inputs.iter_mut().for_each(Input::say);
 }

@@ -20,7 +20,9 @@ fn library_file(wav: &Wav, bitrate: u32) -> Result<Vec<u8>, String> {
     let mut file = file.into_inner();
     let mut encoder = Encoder::new(layout_of(&calls[0]));
     for (k, call) in calls.iter().enumerate() {
-        encoder.encode_frame(&call.spectra, &call.intensities).map_err(|no| format!("frame {k}: {no}"))?;
+        encoder
+            .encode_frame(&call.spectra, &call.intensities)
+            .map_err(|no| format!("frame {k} of {} bytes: {no}", call.layout[4]))?;
         file.extend_from_slice(encoder.frame());
     }
     let l = &calls[0].layout;

@@ -1,0 +1,97 @@
+/* How much stack a call takes: linked with --wrap for each of the four functions. Before a call the stack below it is
+   painted, after it the lowest byte that changed is looked for. Counted from where the caller stands before it puts the
+   arguments there, so arguments and return address count. `run.sh stack` prints the most of each function. x86-64 only. */
+#include "../include/hca_frame.h"
+
+#include <stdio.h>
+#include <stdlib.h>
+
+enum { PAINTED = 64 * 1024, PAINT = 0xA5 };
+
+extern __typeof__(hca_encode_frame) __real_hca_encode_frame;
+extern __typeof__(hca_write_record) __real_hca_write_record;
+extern __typeof__(hca_read_frame) __real_hca_read_frame;
+extern __typeof__(hca_checksum) __real_hca_checksum;
+
+enum { ENCODE, WRITE, READ, CHECKSUM, FUNCTIONS };
+static size_t most[FUNCTIONS];
+
+static void say(void)
+{
+    printf("bytes of stack: hca_encode_frame %zu, hca_write_record %zu, hca_read_frame %zu, hca_checksum %zu%s\n", most[ENCODE],
+           most[WRITE], most[READ], most[CHECKSUM], most[ENCODE] >= PAINTED ? " or more" : "");
+}
+
+#define STACK_POINTER(to) __asm__ volatile("mov %%rsp, %0" : "=r"(to))
+
+/* Paints the stack below the caller, but for the first 512 bytes, where this function itself stands. */
+__attribute__((noinline)) static void paint(uint8_t *from)
+{
+    volatile uint8_t *at = from - 512;
+    while (at > from - PAINTED)
+        *--at = PAINT;
+}
+
+__attribute__((noinline)) static void look(uint8_t *from, int function)
+{
+    volatile uint8_t *at = from - PAINTED;
+    while (at < from - 512 && *at == PAINT)
+        at++;
+    if (most[CHECKSUM] == 0 && most[READ] == 0 && most[WRITE] == 0 && most[ENCODE] == 0)
+        atexit(say);
+    if ((size_t)(from - (uint8_t *)(uintptr_t)at) > most[function])
+        most[function] = (size_t)(from - (uint8_t *)(uintptr_t)at);
+}
+
+uint32_t __wrap_hca_encode_frame(const uint32_t *layout, size_t layout_len, const uint8_t *kinds, size_t kinds_len,
+                                 const float *spectra, size_t spectra_len, const uint8_t *intensities, size_t intensities_len,
+                                 float *scaled, size_t scaled_len, int32_t *codes, size_t codes_len, uint8_t *factors,
+                                 size_t factors_len, uint8_t *side, size_t side_len, uint8_t *frame, size_t frame_len,
+                                 uint32_t *answer, size_t answer_len)
+{
+    uint8_t *here;
+    STACK_POINTER(here);
+    paint(here);
+    uint32_t number = __real_hca_encode_frame(layout, layout_len, kinds, kinds_len, spectra, spectra_len, intensities,
+                                              intensities_len, scaled, scaled_len, codes, codes_len, factors, factors_len, side,
+                                              side_len, frame, frame_len, answer, answer_len);
+    look(here, ENCODE);
+    return number;
+}
+
+uint32_t __wrap_hca_write_record(const uint32_t *layout, size_t layout_len, const uint8_t *kinds, size_t kinds_len,
+                                 const uint32_t *record, size_t record_len, const uint8_t *factors, size_t factors_len,
+                                 const uint8_t *side, size_t side_len, const int32_t *codes, size_t codes_len, uint8_t *frame,
+                                 size_t frame_len, uint32_t *answer, size_t answer_len)
+{
+    uint8_t *here;
+    STACK_POINTER(here);
+    paint(here);
+    uint32_t number = __real_hca_write_record(layout, layout_len, kinds, kinds_len, record, record_len, factors, factors_len,
+                                              side, side_len, codes, codes_len, frame, frame_len, answer, answer_len);
+    look(here, WRITE);
+    return number;
+}
+
+uint32_t __wrap_hca_read_frame(const uint32_t *layout, size_t layout_len, const uint8_t *kinds, size_t kinds_len,
+                               const uint8_t *frame, size_t frame_len, uint8_t *factors, size_t factors_len, uint8_t *side,
+                               size_t side_len, int32_t *codes, size_t codes_len, uint32_t *answer, size_t answer_len)
+{
+    uint8_t *here;
+    STACK_POINTER(here);
+    paint(here);
+    uint32_t number = __real_hca_read_frame(layout, layout_len, kinds, kinds_len, frame, frame_len, factors, factors_len, side,
+                                            side_len, codes, codes_len, answer, answer_len);
+    look(here, READ);
+    return number;
+}
+
+uint16_t __wrap_hca_checksum(const uint8_t *bytes, size_t bytes_len)
+{
+    uint8_t *here;
+    STACK_POINTER(here);
+    paint(here);
+    uint16_t check = __real_hca_checksum(bytes, bytes_len);
+    look(here, CHECKSUM);
+    return check;
+}

@@ -1,0 +1,36 @@
+#!/bin/sh
+# install.sh PREFIX: the C header, the library and a pkg-config file, as PREFIX/include/hca_frame.h, PREFIX/lib/libhca.a and
+# PREFIX/lib/pkgconfig/hca_frame.pc. Needs target/staticlib/libhca.a (rt staticlib hca). A folder that is missing is made.
+set -eu
+case $# in
+1) ;;
+*) echo "usage: install.sh PREFIX, as in: sh scripts/install.sh \$HOME/.local" >&2; exit 2 ;;
+esac
+case $1 in
+'') echo "install.sh: PREFIX is empty" >&2; exit 2 ;;
+/*) prefix=$1 ;;
+*) prefix=$(pwd)/$1 ;;
+esac
+cd "$(dirname "$0")/.."
+library=target/staticlib/libhca.a
+if [ ! -f "$library" ]; then
+    echo "install.sh: $library is not there: run rt staticlib hca first" >&2
+    exit 2
+fi
+version=$(sed -n 's/^#define HCA_VERSION "\(.*\)"$/\1/p' include/hca_frame.h)
+mkdir -p "$prefix/include" "$prefix/lib/pkgconfig"
+cp include/hca_frame.h "$prefix/include/hca_frame.h"
+cp "$library" "$prefix/lib/libhca.a"
+cat >"$prefix/lib/pkgconfig/hca_frame.pc" <<END
+prefix=$prefix
+includedir=\${prefix}/include
+libdir=\${prefix}/lib
+
+Name: hca_frame
+Description: The proved HCA frame stage, its record writer and its strict reader
+Version: $version
+Cflags: -I\${includedir}
+Libs: -L\${libdir} -lhca
+END
+chmod 644 "$prefix/include/hca_frame.h" "$prefix/lib/libhca.a" "$prefix/lib/pkgconfig/hca_frame.pc"
+echo "$prefix: include/hca_frame.h, lib/libhca.a, lib/pkgconfig/hca_frame.pc, version $version"
