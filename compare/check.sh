@@ -4,7 +4,7 @@ set -eu
 cd "$(dirname "$0")"
 sh import.sh
 cargo build --release --offline --locked
-cargo test --quiet --release --offline -p published
+cargo test --quiet --release --offline -p published -p hca-model
 cargo test --quiet --release --offline -p compare --lib
 target/release/vectors --check vec
 target/release/replay-vectors vec/stage.vec vec/records.vec

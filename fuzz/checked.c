@@ -14,7 +14,7 @@ struct part {
 };
 
 static const char *const names[FUNCTIONS] = {"hca_encode_frame", "hca_write_record", "hca_read_frame", "hca_checksum"};
-/* which numbers a call can give, a bit each; 6 is proved never to come */
+/* which numbers a call can give, a bit each; there is no 6 */
 static const uint32_t can_give[3] = {0x00BF, 0x8087, 0x7F07};
 static const size_t delivered_places[3] = {4, 3, 3};
 

@@ -76,6 +76,8 @@ static int report(void)
     int missing = 0;
     printf("%-8s %14s %14s %14s %14s\n", "number", "encode_frame", "write_record", "read_frame", "checksum");
     for (int n = 0; n < 16; n++) {
+        if (((can[ENCODE] | can[WRITE] | can[READ]) >> n & 1) == 0)
+            continue; /* no call gives it */
         printf("%-8d", n);
         for (int f = 0; f < FUNCTIONS; f++) {
             if (can[f] >> n & 1)

@@ -91,7 +91,7 @@ enum hca_record {
    After 1 to 4 and 15 every buffer but answer is as it was. After 5 to 14 the written buffers are zero over the
    elements that the layout asks for (the stage's five, the reader's factors, side and codes, the writer's frame),
    so no half of a frame can be taken for a whole one.
-   The stage refuses in the order 1 to 7, the writer 1, 2, 15, 7, the reader 1, 2, 8, 9, then the first fault in bit
+   The stage refuses in the order 1, 2, 3, 4, 5, 7, the writer 1, 2, 15, 7, the reader 1, 2, 8, 9, then the first fault in bit
    order, 14 last. A later version may add numbers above 15. */
 enum hca_refusal {
     HCA_OK = 0,             /* delivered */
@@ -100,7 +100,6 @@ enum hca_refusal {
     HCA_BAD_INTENSITY = 3,  /* a secondary's intensity is above 15; beside: index of the first in intensities */
     HCA_BAD_SPECTRUM = 4,   /* a spectrum value is NaN or infinite, in any band; beside: index of the first in spectra */
     HCA_NO_LEVEL = 5,       /* no level fits, even with bands removed: raise the frame size; beside: pairs removed */
-    HCA_NO_BOUNDARY = 6,    /* proved never to come; beside: level */
     HCA_TOO_LONG = 7,       /* the fields end past bit 8(F - 2): raise the frame size; beside: 0 */
     HCA_WRONG_CHECK = 8,    /* the check is wrong: damaged bytes, or another frame size; beside: 0 */
     HCA_WRONG_SYNC = 9,     /* the frame does not begin with FF FF; beside: 0 */
@@ -122,7 +121,6 @@ static inline const char *hca_refusal_text(uint32_t refusal)
     case HCA_BAD_INTENSITY: return "a secondary's intensity is above 15";
     case HCA_BAD_SPECTRUM: return "a spectrum value is NaN or infinite";
     case HCA_NO_LEVEL: return "no noise level fits, even with bands removed: raise the frame size";
-    case HCA_NO_BOUNDARY: return "no boundary fits";
     case HCA_TOO_LONG: return "the fields do not fit the frame: raise the frame size";
     case HCA_WRONG_CHECK: return "the frame's check is wrong";
     case HCA_WRONG_SYNC: return "the frame does not begin with FF FF";

@@ -454,18 +454,23 @@ bool find_level(const Work &w, u32 &level) {
     return true;
 }
 
-u32 find_boundary(const Work &w, u32 level) {
-    if (level == 0) return 0;
+// The search over 0..127, whatever is over.
+template <class Over> u32 search_boundary(Over over) {
     u32 low = 0, high = 127;
     while (high - low > 1) {
         u32 mid = (low + high) / 2;
-        if (estimate(w, level, mid) > 8 * w.l.frame)
+        if (over(mid))
             high = mid - 1;
         else
             low = mid;
     }
     if (low == high) return low;
-    return estimate(w, level, high) > 8 * w.l.frame ? low : high;
+    return over(high) ? low : high;
+}
+
+u32 find_boundary(const Work &w, u32 level) {
+    if (level == 0) return 0;
+    return search_boundary([&](u32 probe) { return estimate(w, level, probe) > 8 * w.l.frame; });
 }
 
 void find_codes(Work &w, u32 level, u32 boundary) {
@@ -483,6 +488,11 @@ void find_codes(Work &w, u32 level, u32 boundary) {
 } // namespace
 
 // ------------------------------------------------------------------ C interface
+// The boundary's search by itself, for tests/decisions.rs.
+extern "C" u32 model_search_boundary(bool (*over)(u32 probe, void *with), void *with) {
+    return search_boundary([&](u32 probe) { return over(probe, with); });
+}
+
 extern "C" std::uint16_t model_checksum(const std::uint8_t *bytes, std::size_t bytes_len) { return checksum(bytes, bytes_len); }
 
 extern "C" std::uint32_t model_read_frame(const u32 *layout, std::size_t layout_len, const u8 *kinds, std::size_t kinds_len,

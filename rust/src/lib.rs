@@ -104,7 +104,7 @@ impl Encoder {
 
     /// Encodes one frame. `spectra` has 1,024 values a channel (channel, subframe,
     /// band), `intensities` 8 bytes a channel, looked at for secondaries only.
-    /// After a refusal 5 to 7 all buffers are zero; after an earlier one they are
+    /// After refusals 5 and 7 all buffers are zero; after an earlier one they are
     /// those of the frame before.
     pub fn encode_frame(&mut self, spectra: &[f32], intensities: &[u8]) -> Result<Delivered, Refusal> {
         let mut answer = [0; 4];

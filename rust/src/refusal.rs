@@ -6,7 +6,7 @@ use std::fmt;
 pub struct Refusal {
     /// See the constants; [`kind`](Refusal::kind) names it.
     pub number: u32,
-    /// An index, a bit, a level or a count of pairs, as the number has it; else 0.
+    /// An index, a bit or a count of pairs, as the number has it; else 0.
     pub place: u32,
 }
 
@@ -23,8 +23,6 @@ impl Refusal {
     pub const BAD_SPECTRUM: u32 = 4;
     /// No noise level fits, even with bands removed; `place` is how many pairs were.
     pub const NO_LEVEL: u32 = 5;
-    /// No boundary fits: proved never to come; `place` is the level.
-    pub const NO_BOUNDARY: u32 = 6;
     /// The fields end past the payload.
     pub const TOO_LONG: u32 = 7;
     /// The frame's check is wrong.
@@ -71,8 +69,6 @@ pub enum RefusalKind {
     BadSpectrum,
     /// [`Refusal::NO_LEVEL`].
     NoLevel,
-    /// [`Refusal::NO_BOUNDARY`].
-    NoBoundary,
     /// [`Refusal::TOO_LONG`].
     TooLong,
     /// [`Refusal::WRONG_CHECK`].
@@ -105,7 +101,6 @@ impl Refusal {
             Self::BAD_INTENSITY => RefusalKind::BadIntensity,
             Self::BAD_SPECTRUM => RefusalKind::BadSpectrum,
             Self::NO_LEVEL => RefusalKind::NoLevel,
-            Self::NO_BOUNDARY => RefusalKind::NoBoundary,
             Self::TOO_LONG => RefusalKind::TooLong,
             Self::WRONG_CHECK => RefusalKind::WrongCheck,
             Self::WRONG_SYNC => RefusalKind::WrongSync,
@@ -130,7 +125,6 @@ impl fmt::Display for Refusal {
             Self::BAD_INTENSITY => write!(f, "intensity {at} of a secondary channel is above 15"),
             Self::BAD_SPECTRUM => write!(f, "spectrum {at} is NaN or infinite"),
             Self::NO_LEVEL => write!(f, "no noise level fits, even with {at} pairs of bands removed; raise the frame size"),
-            Self::NO_BOUNDARY => write!(f, "no boundary fits at level {at}"),
             Self::TOO_LONG => write!(f, "the fields end past the payload; raise the frame size"),
             Self::WRONG_CHECK => write!(f, "the frame's check is wrong: the bytes were damaged, or the frame size is another"),
             Self::WRONG_SYNC => write!(f, "the frame does not begin with FFFF"),

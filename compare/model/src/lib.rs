@@ -3,3 +3,20 @@
 include!("../../../rust/src/calls.rs");
 
 calls!(model_encode_frame, model_write_record, model_read_frame, model_checksum);
+
+type Over<'a> = &'a mut dyn FnMut(u32) -> bool;
+
+extern "C" {
+    fn model_search_boundary(over: extern "C" fn(u32, *mut std::ffi::c_void) -> bool, with: *mut std::ffi::c_void) -> u32;
+}
+
+extern "C" fn ask(probe: u32, with: *mut std::ffi::c_void) -> bool {
+    // SAFETY: `search_boundary` lends its own `over` for the length of the call
+    unsafe { (*with.cast::<Over>())(probe) }
+}
+
+/// The model's boundary search over any test.
+pub fn search_boundary(mut over: Over) -> u32 {
+    // SAFETY: `ask` takes what is lent here for what it is
+    unsafe { model_search_boundary(ask, std::ptr::from_mut(&mut over).cast()) }
+}

@@ -281,9 +281,7 @@ pub fn run(call: &StageCall) -> (HcaEncoder, Result<Vec<u8>, (u32, u32)>, Notes)
         assert_eq!(a.header_length_bits, b.header_length_bits);
     }
     notes.level = level;
-    let Ok(boundary) = e.calculate_evaluation_boundary(level) else {
-        return (e, Err((6, level)), notes);
-    };
+    let boundary = e.calculate_evaluation_boundary(level).expect("the Rust's own search answers");
     notes.boundary = boundary;
     e.calculate_frame_resolutions(level, boundary);
     e.quantize_spectra();

@@ -9,7 +9,7 @@ use estimate::calculate_frame_header_length;
 use estimate::is_over;
 use rules::Layout;
 
-// 128 would say that there is none; the search never comes to it.
+// It always answers: low moves only to a probe below high.
 fn binary_search_boundary(layout: Layout, scaled: &[f32], factors: &[u8], level: usize) -> usize
     requires { ⌜ Sizes layout ⌝ }
     requires { ⌜ (length (now scaled) ≡ spectrumLength layout) × (length (now factors) ≡ factorLength layout) ⌝ }
@@ -28,10 +28,7 @@ fn binary_search_boundary(layout: Layout, scaled: &[f32], factors: &[u8], level:
         }
     }
     if low == high {
-        if low < 127 {
-            return low;
-        }
-        return 128;
+        return low;
     }
     if is_over(layout, scaled, factors, fixed, level, high) {
         return low;

@@ -9,13 +9,12 @@ use text::lines::put_text;
 use text::lines::say_line;
 
 // The line of each refusal, with its number and, where document 01 has one, the number beside it; line 0 is for any other.
-const FORMS: [u8; 815] = *b"refusal #: unknown\n\
+const FORMS: [u8; 772] = *b"refusal #: unknown\n\
     refusal #: the layout is outside its limits\n\
     refusal #: a lent buffer is too short\n\
     refusal # at #: a secondary's intensity is above 15\n\
     refusal # at #: a spectrum value is NaN or infinite\n\
     refusal # with pairs removed: #: no level fits the frame, after every removal of bands\n\
-    refusal # at level #: no boundary is found\n\
     refusal #: the fields do not fit the frame\n\
     refusal #: the check is wrong\n\
     refusal #: the sync is not FFFF\n\
@@ -26,8 +25,25 @@ const FORMS: [u8; 815] = *b"refusal #: unknown\n\
     refusal # at bit #: the fill holds a 1\n\
     refusal #: the record is not legal\n";
 
+// Each number has its own line, so that a number that is withdrawn moves no other.
 fn line_for(number: usize) -> usize {
-    if 15 < number { 0 } else { number }
+    match number {
+        1 => 1,
+        2 => 2,
+        3 => 3,
+        4 => 4,
+        5 => 5,
+        7 => 6,
+        8 => 7,
+        9 => 8,
+        10 => 9,
+        11 => 10,
+        12 => 11,
+        13 => 12,
+        14 => 13,
+        15 => 14,
+        _ => 0,
+    }
 }
 
 // Puts the refusal from a place on, and writes the line.

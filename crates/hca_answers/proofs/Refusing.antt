@@ -20,21 +20,20 @@ use Rattle.refusals.specs.declared.Refusal.{Refusal}
 use Rattle.hca_answers.specs.Outcomes.{Small, Told}
 use Rattle.hca_answers.proofs.Fitting.{of-refused}
 
--- one of the fifteen
+-- a refusal, its number at most 15
 pub data Refuses : Outcome → Type 0 where
   refuses : (number beside : ℕ) → number ≤ 15 → Refuses (refused number beside)
 
 -- ---- by the variant that a match left
 
-pub stage-refuses : (a : StageAnswer) → OneOf (1 ∷ 2 ∷ 3 ∷ 4 ∷ 5 ∷ 6 ∷ 7 ∷ []) (tagOf Stage.the-type a) → Refuses (stageOutcome a)
+pub stage-refuses : (a : StageAnswer) → OneOf (1 ∷ 2 ∷ 3 ∷ 4 ∷ 5 ∷ 6 ∷ []) (tagOf Stage.the-type a) → Refuses (stageOutcome a)
 unfolding stageOutcome
-stage-refuses (stage.Delivered level boundary pairs bits) h = absurd (miss (1 ∷ 2 ∷ 3 ∷ 4 ∷ 5 ∷ 6 ∷ 7 ∷ []) 0 tt h)
+stage-refuses (stage.Delivered level boundary pairs bits) h = absurd (miss (1 ∷ 2 ∷ 3 ∷ 4 ∷ 5 ∷ 6 ∷ []) 0 tt h)
 stage-refuses stage.BadLayout h = refuses 1 0 (omega arith)
 stage-refuses stage.ShortBuffer h = refuses 2 0 (omega arith)
 stage-refuses (stage.BadIntensity i) h = refuses 3 i (omega arith)
 stage-refuses (stage.BadSpectrum i) h = refuses 4 i (omega arith)
 stage-refuses (stage.NoLevel pairs) h = refuses 5 pairs (omega arith)
-stage-refuses (stage.NoBoundary level) h = refuses 6 level (omega arith)
 stage-refuses stage.TooLong h = refuses 7 0 (omega arith)
 
 pub write-refuses : (a : WriteAnswer) → OneOf (1 ∷ 2 ∷ 3 ∷ 4 ∷ []) (tagOf Write.the-type a) → Refuses (writerOutcome a)

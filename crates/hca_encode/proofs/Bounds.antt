@@ -27,10 +27,9 @@ unfolding settled packed finished
 settled-small l m z p b =
     cond-both SmallLeft (ltb 254 (m .found .level)) (λ _. small-refused 5 _ (omega arith))
     (λ h′. let h = ltb-false 254 (m .found .level) h′ in
-    cond-both SmallLeft (ltb 127 (m .boundary)) (λ _. small-refused 6 _ (omega arith))
-    (λ _. cond-both SmallLeft (ltb (fieldEnd l) (length (fields l (madeRecord l m)))) (λ _. small-refused 7 0 (omega arith))
+    cond-both SmallLeft (ltb (fieldEnd l) (length (fields l (madeRecord l m)))) (λ _. small-refused 7 0 (omega arith))
     (λ k′. let k = ltb-false (fieldEnd l) (length (fields l (madeRecord l m))) k′ in
-    small-four _ _ _ _ (omega arith) (omega arith) (omega arith) (omega (arith, k, z .large)))))
+    small-four _ _ _ _ (omega arith) (omega arith) (omega arith) (omega (arith, k, z .large))))
 
 pub stage-small : (l : Layout) (t : StageLent) → Small (stage l t .outcome)
 unfolding stage gate gated

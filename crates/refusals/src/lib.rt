@@ -31,7 +31,6 @@ pub fn stage_refusal(answer: StageAnswer) -> Refusal
         StageAnswer::BadIntensity(i) => refused(3, i),
         StageAnswer::BadSpectrum(i) => refused(4, i),
         StageAnswer::NoLevel(n) => refused(5, n),
-        StageAnswer::NoBoundary(n) => refused(6, n),
         StageAnswer::TooLong => refused(7, 0),
     }
 }

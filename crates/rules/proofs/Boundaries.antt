@@ -1,9 +1,10 @@
 -- Document 01, **Boundary**: the laws that the search's loop cites, and that it always answers. Assumes nothing.
 use mathlib.Core.Path.{_≡_, refl, _∙_}
 use mathlib.Core.Bool.{Bool, true, false, cond}
+use mathlib.Core.Option.{Option, none, some}
 use Prim.Native.Nat.{ℕ, zero, suc, _+_, _-_, _/_, _≤_, _<_}
 use native.Mathlib.Omega.{arith}
-use borrow.Author.Tests.{lt-ltb, le-ltb, ltb-true, ltb-false}
+use borrow.Author.Tests.{lt-ltb, le-ltb, ltb-true}
 use lib.Dec.{ltb, eqb}
 use Rattle.buffers.proofs.Tests.{cond-same, cond-bound}
 use Rattle.buffers.proofs.Scan.{left-suc}
@@ -53,13 +54,9 @@ module _ (over : ℕ → Bool) where
   unfolding searchBoundary
   boundary-start = refl
 
-  -- low stays below 127, so that the search never ends with 128
   last-le : (low high : ℕ) → low ≤ 126 → high ≤ 127 → lastOf over low high ≤ 127
   unfolding lastOf
-  last-le low high h q =
-      cond-bound (eqb low high)
-      (λ _. cond-bound (ltb low 127) (λ _. omega arith) (λ e. absurd (omega (arith, ltb-false low 127 e))))
-      (λ _. cond-bound (over high) (λ _. omega arith) (λ _. q))
+  last-le low high h q = cond-bound (eqb low high) (λ _. omega arith) (λ _. cond-bound (over high) (λ _. omega arith) (λ _. q))
 
   narrow-le : (n low high : ℕ) → low ≤ 126 → high ≤ 127 → narrow over n low high ≤ 127
   unfolding narrow
@@ -79,3 +76,45 @@ module _ (over : ℕ → Bool) where
   pub boundary-of-le : (level : ℕ) → boundaryOf level over ≤ 127
   unfolding boundaryOf
   boundary-of-le level = cond-bound (eqb level 0) (λ _. omega arith) (λ _. boundary-le)
+
+-- ---- the search always answers
+
+-- the Rust's text, with its none where low and high meet at 127
+unfoldable pub publishedLast : (over : ℕ → Bool) (low high : ℕ) → Option ℕ
+publishedLast over low high = cond (eqb low high) (cond (ltb low 127) (some low) none) (some (cond (over high) low high))
+
+unfoldable pub publishedNarrow : (over : ℕ → Bool) (fuel low high : ℕ) → Option ℕ
+publishedNarrow over zero low high = publishedLast over low high
+publishedNarrow over (suc n) low high =
+    let mid = (low + high) / 2 in
+    cond (ltb (low + 1) high) (cond (over mid) (publishedNarrow over n low (mid - 1)) (publishedNarrow over n mid high)) (publishedLast over low high)
+
+unfoldable pub publishedSearch : (over : ℕ → Bool) → Option ℕ
+publishedSearch over = publishedNarrow over 127 0 127
+
+-- a choice of answers is an answer
+cond-some : {a b : Option ℕ} {x y : ℕ} (t : Bool) → (t ≡ true → a ≡ some x) → (t ≡ false → b ≡ some y) → cond t a b ≡ some (cond t x y)
+cond-some true f g = f refl
+cond-some false f g = g refl
+
+module _ (over : ℕ → Bool) where
+  -- low moves only to mid, below high, so that it stays below 127
+  last-answers : (low high : ℕ) → low ≤ 126 → publishedLast over low high ≡ some (lastOf over low high)
+  unfolding publishedLast lastOf
+  last-answers low high h = let z : low < 127 = omega arith in cond-some (eqb low high) (λ _. rw (lt-ltb low 127 z)) (λ _. refl)
+
+  narrow-answers : (n low high : ℕ) → low ≤ 126 → high ≤ 127 → publishedNarrow over n low high ≡ some (narrow over n low high)
+  unfolding publishedNarrow narrow
+  narrow-answers zero low high h q = last-answers low high h
+  narrow-answers (suc n) low high h q =
+      cond-some (ltb (low + 1) high)
+      (λ e. let z : low + 1 < high = ltb-true (low + 1) high e in
+      cond-some (over ((low + high) / 2))
+      (λ _. narrow-answers n low ((low + high) / 2 - 1) h (omega arith))
+      (λ _. narrow-answers n ((low + high) / 2) high (omega arith) q))
+      (λ _. last-answers low high h)
+
+  -- Whatever is over: the published search never answers none.
+  pub always-answers : publishedSearch over ≡ some (searchBoundary over)
+  unfolding publishedSearch searchBoundary
+  always-answers = narrow-answers 127 0 127 (omega arith) (omega arith)

@@ -20,7 +20,8 @@ pub mod Bands
 pub mod Stores
 pub mod Legality
 pub mod Made
--- what a refusal leaves
+-- which refusals there are, and what each leaves
+pub mod Answers
 pub mod Refused
 -- worked numbers
 pub mod Rows

@@ -4,8 +4,9 @@ use mathlib.Core.Bool.{Bool, true, false, cond, not, _&&_, true≢false}
 use mathlib.Core.Logic.{_≢_}
 use mathlib.Core.List.{List}
 use mathlib.Core.Option.{Option, none, some}
-use Prim.Native.Nat.{ℕ, _≤_}
+use Prim.Native.Nat.{ℕ, _≤_, _<_}
 use native.Mathlib.Omega.{arith}
+use borrow.Author.Tests.{lt-ltb}
 use lib.Dec.{ltb}
 use lib.IntN.{ℤ}
 use lib.Ieee.{Float}
@@ -27,7 +28,12 @@ use Rattle.rules.specs.declared.Layout.{Layout}
 never : {xs : List ℕ} {n k : ℕ} → delivered xs ≡ refused n k → ⊥
 never e = let z : _≡_ {A = ℕ} 0 1 = cc e in omega arith
 
--- ---- the stage: 1 to 4 keep every buffer, 5 to 7 clear the stated lengths
+-- ---- the stage: 1 to 4 keep every buffer, 5 and 7 clear the stated lengths
+
+-- that there is no level is judged before the fields' length
+pub settled-none : (l : Layout) (m : Made) → 254 < m .found .level → settled l m ≡ cleared l (refused 5 (m .found .pairs))
+unfolding settled
+settled-none l m h = rw (lt-ltb 254 (m .found .level) h)
 
 module _ (l : Layout) (t : StageLent) where
   abbrev Holds : StageLeft → List Float → List ℤ → List ℕ → List ℕ → List ℕ → Type 0
@@ -52,9 +58,8 @@ module _ (l : Layout) (t : StageLent) where
   unfolding settled packed finished
   settled-leaves m =
       cond-both Clears (ltb 254 (m .found .level)) (λ _. clears 5 (m .found .pairs) (omega arith))
-      (λ _. cond-both Clears (ltb 127 (m .boundary)) (λ _. clears 6 (m .found .level) (omega arith))
       (λ _. cond-both Clears (ltb (fieldEnd l) (length (fields l (madeRecord l m)))) (λ _. clears 7 0 (omega arith))
-      (λ _ n k e. absurd (never e))))
+      (λ _ n k e. absurd (never e)))
 
   pub refused-leaves : Leaves (stage l t)
   unfolding stage gate gated

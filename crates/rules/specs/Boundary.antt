@@ -1,11 +1,11 @@
--- Document 01, **Boundary**: the Rust's search over 0..127, over any estimate. 128 says that there is none.
+-- Document 01, **Boundary**: the Rust's search over 0..127, over any estimate.
 use mathlib.Core.Bool.{Bool, cond}
 use Prim.Native.Nat.{ℕ, zero, suc, _+_, _-_, _/_}
 use lib.Dec.{ltb, eqb}
 
 -- where the loop stops: one is left, or the higher of two is probed
 unfoldable pub lastOf : (over : ℕ → Bool) (low high : ℕ) → ℕ
-lastOf over low high = cond (eqb low high) (cond (ltb low 127) low 128) (cond (over high) low high)
+lastOf over low high = cond (eqb low high) low (cond (over high) low high)
 
 -- n is at least high - low
 unfoldable pub narrow : (over : ℕ → Bool) (fuel low high : ℕ) → ℕ

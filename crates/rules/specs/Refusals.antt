@@ -13,7 +13,7 @@ pub data Outcome : Type 0 where
   delivered : List ℕ → Outcome
   refused : ℕ → ℕ → Outcome
 
--- 1 to 7 in this order
+-- 1, 2, 3, 4, 5, 7 in this order
 unfoldable pub stageOutcome : (answer : StageAnswer) → Outcome
 stageOutcome (stage.Delivered level boundary pairs bits) = delivered (level ∷ boundary ∷ pairs ∷ bits ∷ [])
 stageOutcome stage.BadLayout = refused 1 0
@@ -21,7 +21,6 @@ stageOutcome stage.ShortBuffer = refused 2 0
 stageOutcome (stage.BadIntensity i) = refused 3 i
 stageOutcome (stage.BadSpectrum i) = refused 4 i
 stageOutcome (stage.NoLevel pairs) = refused 5 pairs
-stageOutcome (stage.NoBoundary level) = refused 6 level
 stageOutcome stage.TooLong = refused 7 0
 
 -- 1, 2, 15, 7

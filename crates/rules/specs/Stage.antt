@@ -143,7 +143,7 @@ made l spectra intensities =
 unfoldable pub madeRecord : (l : Layout) (m : Made) → Rec
 madeRecord l m = recOf l (m .found .level) (m .boundary) (m .found .factors) (m .side) (m .codes)
 
--- after 5 to 7 all output buffers are zero over document 01's lengths
+-- after 5 and 7 all output buffers are zero over document 01's lengths
 abbrev pub cleared : (l : Layout) (o : Outcome) → StageLeft
 cleared l o = record { outcome = o; scaled = noFloats l; codes = noCodes l; factors = noFactors l; side = noSide l; frame = noFrame l }
 
@@ -158,11 +158,9 @@ finished l m = record {
   frame = frameOf l (madeRecord l m);
 }
 
--- refusals 6 and 7, or a success
+-- refusal 7, or a success
 unfoldable pub packed : (l : Layout) (m : Made) → StageLeft
-packed l m =
-    cond (ltb 127 (m .boundary)) (cleared l (refused 6 (m .found .level)))
-    (cond (ltb (fieldEnd l) (length (fields l (madeRecord l m)))) (cleared l (refused 7 0)) (finished l m))
+packed l m = cond (ltb (fieldEnd l) (length (fields l (madeRecord l m)))) (cleared l (refused 7 0)) (finished l m)
 
 -- refusal 5, or the rest
 unfoldable pub settled : (l : Layout) (m : Made) → StageLeft

@@ -48,7 +48,6 @@ pub enum StageAnswer {
     BadIntensity(usize),
     BadSpectrum(usize),
     NoLevel(usize),
-    NoBoundary(usize),
     TooLong,
 }
 

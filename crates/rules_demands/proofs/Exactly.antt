@@ -137,9 +137,8 @@ module _ (l : Layout) (t : StageLent) where
   settled-late m n k =
       let P : StageLeft → Type 0 = λ x. x .outcome ≡ refused n k → 5 ≤ n in
       cond-both P (ltb 254 (m .found .level)) (λ _ e. let z = ap numberOf e in omega arith)
-      (λ _. cond-both P (ltb 127 (m .boundary)) (λ _ e. let z = ap numberOf e in omega arith)
       (λ _. cond-both P (ltb (fieldEnd l) (length (fields l (madeRecord l m)))) (λ _ e. let z = ap numberOf e in omega arith)
-      (λ _ e. let z : _≡_ {A = ℕ} 0 1 = cc e in absurd (omega arith))))
+      (λ _ e. let z : _≡_ {A = ℕ} 0 1 = cc e in absurd (omega arith)))
 
   -- Refusal 1: the layout is outside the limits.
   pub one-exactly : (p : ℕ) → (stage l t .outcome ≡ refused 1 p) ↔ ((legalLayout l ≡ false) × (p ≡ 0))

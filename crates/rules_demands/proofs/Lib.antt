@@ -5,6 +5,7 @@ pub mod Demand3
 -- the demands said of the three calls
 pub mod Deliveries
 pub mod Calls
+pub mod WriterAnswers
 pub mod StageAnswers
 pub mod StageCalls
 pub mod Outcomes

@@ -20,7 +20,7 @@ stageAnswer : Outcome → StageAnswer
 stageAnswer (delivered xs) = stage-of.Delivered (getD xs 0 0) (getD xs 1 0) (getD xs 2 0) (getD xs 3 0)
 stageAnswer (refused n k) =
     getD
-    (stage-of.BadLayout ∷ stage-of.ShortBuffer ∷ stage-of.BadIntensity k ∷ stage-of.BadSpectrum k ∷ stage-of.NoLevel k ∷ stage-of.NoBoundary k ∷ [])
+    (stage-of.BadLayout ∷ stage-of.ShortBuffer ∷ stage-of.BadIntensity k ∷ stage-of.BadSpectrum k ∷ stage-of.NoLevel k ∷ [])
     (n - 1) stage-of.TooLong
 
 stage-told : (a : StageAnswer) → stageAnswer (stageOutcome a) ≡ a
@@ -31,7 +31,6 @@ stage-told stage-of.ShortBuffer = refl
 stage-told (stage-of.BadIntensity i) = refl
 stage-told (stage-of.BadSpectrum i) = refl
 stage-told (stage-of.NoLevel pairs) = refl
-stage-told (stage-of.NoBoundary level) = refl
 stage-told stage-of.TooLong = refl
 
 writeAnswer : Outcome → WriteAnswer

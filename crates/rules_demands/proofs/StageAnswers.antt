@@ -1,4 +1,4 @@
--- Demand 2 for the stage as it is called: refusals 5 to 7, and the delivery, come exactly as defined. Assumes nothing.
+-- Demand 2 for the stage as it is called: refusals 5 and 7, and the delivery, come exactly as defined. Assumes nothing.
 use mathlib.Core.Path.{_≡_, refl, sym, _∙_, ap}
 use mathlib.Core.List.{List, [], _∷_}
 use mathlib.Core.Option.{Option}
@@ -6,7 +6,7 @@ use mathlib.Core.Logic.{_↔_}
 use mathlib.Core.Bool.{true, false, not}
 use Prim.Native.Nat.{ℕ, _-_, _/_, _≤_, _<_}
 use native.Mathlib.Omega.{arith}
-use borrow.Author.Tests.{ltb-false, lt-ltb, le-ltb, not-false, eqb-false}
+use borrow.Author.Tests.{ltb-true, ltb-false, lt-ltb, le-ltb, not-false, eqb-false}
 use lib.Dec.{ltb, eqb}
 use lib.ListN.{length, take}
 use Rattle.buffers.specs.Walk.{first}
@@ -19,16 +19,25 @@ use Rattle.rules.specs.Stage.{StageLent, StageLeft, cleared, stageLaid, gated, 
 use Rattle.rules.specs.declared.Layout.{Layout}
 use Rattle.rules.proofs.Layouts.{legal-sizes}
 use Rattle.rules.proofs.Cuts.{by-order}
+use Rattle.rules.proofs.Answers.{Numbered, numbered, unnumbered, stageNumbers}
+use Rattle.rules.proofs.Refused.{settled-none}
 use Rattle.rules.proofs.Made.{made-level, made-none, made-boundary}
 
 -- ---- what the statements name
+
+-- the first bad intensity and the first bad spectrum; where there is none, how many there are
+abbrev pub intensityBy : Layout → StageLent → ℕ
+intensityBy l t = first (badIntensity l (t .intensities)) (sideLength l)
+
+abbrev pub spectrumBy : Layout → StageLent → ℕ
+spectrumBy l t = first (badSpectrum (t .spectra)) (spectrumLength l)
 
 -- a call that passes refusals 1 to 4: each search for a bad value comes to its end without one
 pub record Passes (l : Layout) (t : StageLent) : Type 0 where
   pub layout : legalLayout l ≡ true
   pub room : stageHasRoom l (lentRoom t) ≡ true
-  pub intensities : sideLength l ≤ first (badIntensity l (t .intensities)) (sideLength l)
-  pub spectra : spectrumLength l ≤ first (badSpectrum (t .spectra)) (spectrumLength l)
+  pub intensities : sideLength l ≤ intensityBy l t
+  pub spectra : spectrumLength l ≤ spectrumBy l t
 
 -- what the rules make of a call
 abbrev pub madeBy : Layout → StageLent → Made
@@ -49,7 +58,7 @@ bitsBy l t = length (fields l (madeRecord l (madeBy l t)))
 
 -- ---- how a call ends
 
--- an answer's place in the order of the tests: a delivery comes after the seven refusals
+-- an answer's place in the order of the tests: a delivery comes after the refusals
 abbrev placeOf : Outcome → ℕ
 placeOf (refused k p) = k
 placeOf (delivered ns) = 8
@@ -67,8 +76,8 @@ module _ (l : Layout) (t : StageLent) where
   passes =
       cond-both Later (not (legalLayout l)) (λ _ h. absurd (omega arith))
       (λ a. cond-both Later (not (stageHasRoom l (lentRoom t))) (λ _ h. absurd (omega arith))
-      (λ b. cond-both Later (ltb (first (badIntensity l (t .intensities)) (sideLength l)) (sideLength l)) (λ _ h. absurd (omega arith))
-      (λ c. cond-both Later (ltb (first (badSpectrum (t .spectra)) (spectrumLength l)) (spectrumLength l)) (λ _ h. absurd (omega arith))
+      (λ b. cond-both Later (ltb (intensityBy l t) (sideLength l)) (λ _ h. absurd (omega arith))
+      (λ c. cond-both Later (ltb (spectrumBy l t) (spectrumLength l)) (λ _ h. absurd (omega arith))
       (λ d _. record { layout = not-false _ a; room = not-false _ b; intensities = ltb-false _ _ c; spectra = ltb-false _ _ d }))))
 
   pub boundary-small : boundaryBy l t ≤ 127
@@ -80,16 +89,15 @@ module _ (l : Layout) (t : StageLent) where
     settles = rw (k .layout, k .room, le-ltb _ _ (k .intensities), le-ltb _ _ (k .spectra))
 
     ends-none : 254 < levelBy l t → stage l t ≡ stageLaid t (cleared l (refused 5 (pairsBy l t)))
-    unfolding settled
-    ends-none h = settles ∙ rw (lt-ltb _ _ h)
+    ends-none h = settles ∙ ap (stageLaid t) (settled-none l (madeBy l t) h)
 
     ends-long : levelBy l t ≤ 254 → fieldEnd l < bitsBy l t → stage l t ≡ stageLaid t (cleared l (refused 7 0))
     unfolding settled packed
-    ends-long h g = settles ∙ rw (le-ltb _ _ h, le-ltb _ _ boundary-small, lt-ltb _ _ g)
+    ends-long h g = settles ∙ rw (le-ltb _ _ h, lt-ltb _ _ g)
 
     pub ends-done : levelBy l t ≤ 254 → bitsBy l t ≤ fieldEnd l → stage l t ≡ stageLaid t (finished l (madeBy l t))
     unfolding settled packed
-    ends-done h g = settles ∙ rw (le-ltb _ _ h, le-ltb _ _ boundary-small, le-ltb _ _ g)
+    ends-done h g = settles ∙ rw (le-ltb _ _ h, le-ltb _ _ g)
 
     abbrev answers : List ℕ
     answers = levelBy l t ∷ boundaryBy l t ∷ pairsBy l t ∷ bitsBy l t ∷ []
@@ -113,6 +121,26 @@ module _ (l : Layout) (t : StageLent) where
         by-order 254 (levelBy l t) (λ h. none h (says-none h))
         (λ h. by-order (fieldEnd l) (bitsBy l t) (λ g. long h g (says-long h g)) (λ g. done h g (says-done h g)))
 
+  -- what each end has, every end has
+  pub stage-case : (P : Outcome → Type 0) → P (refused 1 0) → P (refused 2 0)
+      → (legalLayout l ≡ true → intensityBy l t < sideLength l → P (refused 3 (intensityBy l t)))
+      → (legalLayout l ≡ true → spectrumBy l t < spectrumLength l → P (refused 4 (spectrumBy l t)))
+      → (Passes l t → 254 < levelBy l t → P (refused 5 (pairsBy l t)))
+      → (Passes l t → levelBy l t ≤ 254 → fieldEnd l < bitsBy l t → P (refused 7 0))
+      → (Passes l t → levelBy l t ≤ 254 → bitsBy l t ≤ fieldEnd l → P (delivered (levelBy l t ∷ boundaryBy l t ∷ pairsBy l t ∷ bitsBy l t ∷ []))) → P (stage l t .outcome)
+  unfolding stage gate gated settled packed finished
+  stage-case P one two three four five seven done =
+      let Q : Option Outcome → Type 0 = λ g. P (gated g t (settled l (madeBy l t)) .outcome) in
+      let R : StageLeft → Type 0 = λ x. P (x .outcome) in
+      cond-both Q (not (legalLayout l)) (λ _. one)
+      (λ a. cond-both Q (not (stageHasRoom l (lentRoom t))) (λ _. two)
+      (λ b. cond-both Q (ltb (intensityBy l t) (sideLength l)) (λ h. three (not-false _ a) (ltb-true _ _ h))
+      (λ c. cond-both Q (ltb (spectrumBy l t) (spectrumLength l)) (λ h. four (not-false _ a) (ltb-true _ _ h))
+      (λ d. let k : Passes l t = record { layout = not-false _ a; room = not-false _ b; intensities = ltb-false _ _ c; spectra = ltb-false _ _ d } in
+      cond-both R (ltb 254 (levelBy l t)) (λ h. five k (ltb-true _ _ h))
+      (λ h. cond-both R (ltb (fieldEnd l) (bitsBy l t)) (λ g. seven k (ltb-false _ _ h) (ltb-true _ _ g))
+      (λ g. done k (ltb-false _ _ h) (ltb-false _ _ g)))))))
+
 -- ---- DEMAND 2
 
 -- Refusal 5 comes just where no level is found, beside it the pairs removed.
@@ -130,9 +158,11 @@ no-level-pairs l t p e =
     let (h, q) = no-level l t p k .0 e in
     q ∙ made-none l (take (spectrumLength l) (t .spectra)) (take (sideLength l) (t .intensities)) (legal-sizes l (k .layout)) h
 
--- Refusal 6 never comes.
-pub never-six : (l : Layout) (t : StageLent) (p : ℕ) → stage l t .outcome ≡ refused 6 p → ⊥
-never-six l t p e = says l t (passes l t (rw e (omega arith))) (λ _ q. clash e q refl) (λ _ _ q. clash e q refl) (λ _ _ q. clash e q refl)
+-- Where the stage refuses, the number is one of six.
+pub stage-numbers : (l : Layout) (t : StageLent) → Numbered stageNumbers (stage l t .outcome)
+stage-numbers l t =
+    stage-case l t (Numbered stageNumbers) (numbered stageNumbers 1 0 tt) (numbered stageNumbers 2 0 tt) (λ _ _. numbered stageNumbers 3 _ tt) (λ _ _. numbered stageNumbers 4 _ tt)
+    (λ _ _. numbered stageNumbers 5 _ tt) (λ _ _ _. numbered stageNumbers 7 _ tt) (λ _ _ _. unnumbered stageNumbers _)
 
 -- Refusal 7 comes just where a level is found and the fields do not fit.
 pub too-long : (l : Layout) (t : StageLent) → Passes l t → (stage l t .outcome ≡ refused 7 0) ↔ ((levelBy l t ≤ 254) × (fieldEnd l < bitsBy l t))

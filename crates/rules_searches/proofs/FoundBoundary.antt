@@ -26,10 +26,7 @@ module _ (over : ℕ → Bool) where
   unfolding lastOf
   last-edge low high h near few most fits next =
       cond-both (Edge over) (eqb low high)
-      (λ t. let z : low ≡ high = eqb-true low high t in
-      cond-both (Edge over) (ltb low 127)
-      (λ _. record { fits = fits; next = λ q. rw z (next (omega arith)) })
-      (λ e. absurd (omega (arith, ltb-false low 127 e))))
+      (λ t. let z : low ≡ high = eqb-true low high t in record { fits = fits; next = λ q. rw z (next (omega arith)) })
       (λ t. cond-both (Edge over) (over high)
       (λ e. record { fits = fits; next = λ q. let z : suc low ≡ high = one-apart t in rw z e })
       (λ e. record { fits = λ _. e; next = next }))

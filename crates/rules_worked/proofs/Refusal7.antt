@@ -14,9 +14,9 @@ use Rattle.rules_worked.proofs.Runs.{lent, run-made, run}
 use Rattle.rules_worked.proofs.Inputs.{edged, right}
 use Rattle.rules_worked.proofs.Worked.{left}
 
-settled-long : (l : Layout) (m : Made) → m .found .level ≤ 254 → m .boundary ≤ 127 → fieldEnd l < length (fields l (madeRecord l m)) → settled l m ≡ cleared l (refused 7 0)
+settled-long : (l : Layout) (m : Made) → m .found .level ≤ 254 → fieldEnd l < length (fields l (madeRecord l m)) → settled l m ≡ cleared l (refused 7 0)
 unfolding settled packed
-settled-long l m h b n = rw (le-ltb 254 (m .found .level) h, le-ltb 127 (m .boundary) b, lt-ltb (fieldEnd l) (length (fields l (madeRecord l m))) n)
+settled-long l m h n = rw (le-ltb 254 (m .found .level) h, lt-ltb (fieldEnd l) (length (fields l (madeRecord l m))) n)
 
 -- the level found is 0,
 pub edged-level : made (edged .layout) (edged .spectra) (noSide (edged .layout)) .found .level ≡ 0
@@ -30,4 +30,4 @@ edged-bits = ap (λ (m : Made). length (fields (edged .layout) (madeRecord (edge
 pub edged-refused : left edged ≡ stageLaid (lent (edged .layout) (edged .spectra)) (cleared (edged .layout) (refused 7 0))
 edged-refused =
     run edged (right .8)
-    ∙ ap (stageLaid (lent (edged .layout) (edged .spectra))) (settled-long (edged .layout) (edged .made) (omega arith) (omega arith) (omega (arith, ap (λ w. w .bits) (right .8))))
+    ∙ ap (stageLaid (lent (edged .layout) (edged .spectra))) (settled-long (edged .layout) (edged .made) (omega arith) (omega (arith, ap (λ w. w .bits) (right .8))))

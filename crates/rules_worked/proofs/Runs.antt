@@ -6,7 +6,7 @@ use mathlib.Core.Bool.{Bool, true, false, cond, _&&_}
 use Prim.Native.Nat.{ℕ, zero, suc, _+_, _-_, _/_, _≤_, _<_}
 use native.Mathlib.Nat.{not-suc-le-zero, le-of-suc-le-suc}
 use native.Mathlib.Omega.{arith}
-use borrow.Author.Tests.{lt-ltb, le-ltb}
+use borrow.Author.Tests.{le-ltb}
 use lib.Dec.{ltb, eqb}
 use lib.IntN.{ℤ}
 use lib.Ieee.{Float, nan}
@@ -32,6 +32,7 @@ use Rattle.rules.specs.Stage.{StageLent, Made, cleared, stageLaid, gated, lentR
 use Rattle.rules.specs.declared.Layout.{Layout}
 use Rattle.rules.proofs.Cuts.{getD-copies}
 use Rattle.rules.proofs.Made.{finished-outcome}
+use Rattle.rules.proofs.Refused.{settled-none}
 
 -- ---- the searches, branch by branch
 
@@ -137,14 +138,10 @@ module _ (l : Layout) (t : StageLent) where
         le-ltb (spectrumLength l) (spectrumLength l) (omega arith),
       )
 
--- refusal 5, and success
-pub settled-none : (l : Layout) (m : Made) → 254 < m .found .level → settled l m ≡ cleared l (refused 5 (m .found .pairs))
-unfolding settled
-settled-none l m h = rw (lt-ltb 254 (m .found .level) h)
-
-pub settled-finished : (l : Layout) (m : Made) → m .found .level ≤ 254 → m .boundary ≤ 127 → length (fields l (madeRecord l m)) ≤ fieldEnd l → settled l m ≡ finished l m
+-- success
+pub settled-finished : (l : Layout) (m : Made) → m .found .level ≤ 254 → length (fields l (madeRecord l m)) ≤ fieldEnd l → settled l m ≡ finished l m
 unfolding settled packed
-settled-finished l m h b n = rw (le-ltb 254 (m .found .level) h, le-ltb 127 (m .boundary) b, le-ltb (fieldEnd l) (length (fields l (madeRecord l m))) n)
+settled-finished l m h n = rw (le-ltb 254 (m .found .level) h, le-ltb (fieldEnd l) (length (fields l (madeRecord l m))) n)
 
 -- ---- on an input
 
@@ -218,19 +215,19 @@ module _ (e : Example) (r : Right e) where
   counted : length (fields (e .layout) (madeRecord (e .layout) (e .made))) ≡ e .bits
   counted = ap (λ w. w .bits) r
 
-  pub run-delivered : e .made .found .level ≤ 254 → e .made .boundary ≤ 127 → e .bits ≤ fieldEnd (e .layout) →
+  pub run-delivered : e .made .found .level ≤ 254 → e .bits ≤ fieldEnd (e .layout) →
       stage (e .layout) (lent (e .layout) (e .spectra)) ≡ stageLaid (lent (e .layout) (e .spectra)) (finished (e .layout) (e .made))
-  run-delivered h b n = run ∙ ap (stageLaid (lent (e .layout) (e .spectra))) (settled-finished (e .layout) (e .made) h b (omega (arith, counted)))
+  run-delivered h n = run ∙ ap (stageLaid (lent (e .layout) (e .spectra))) (settled-finished (e .layout) (e .made) h (omega (arith, counted)))
 
   pub run-none : 254 < e .made .found .level →
       stage (e .layout) (lent (e .layout) (e .spectra)) ≡ stageLaid (lent (e .layout) (e .spectra)) (cleared (e .layout) (refused 5 (e .made .found .pairs)))
   run-none h = run ∙ ap (stageLaid (lent (e .layout) (e .spectra))) (settled-none (e .layout) (e .made) h)
 
-  pub run-outcome : e .made .found .level ≤ 254 → e .made .boundary ≤ 127 → e .bits ≤ fieldEnd (e .layout) →
+  pub run-outcome : e .made .found .level ≤ 254 → e .bits ≤ fieldEnd (e .layout) →
       (stage (e .layout) (lent (e .layout) (e .spectra))) .outcome ≡ delivered (e .made .found .level ∷ e .made .boundary ∷ e .made .found .pairs ∷ e .bits ∷ [])
-  run-outcome h b n = ap (λ x. x .outcome) (run-delivered h b n) ∙ finished-outcome (e .layout) (e .made) ∙ rw counted
+  run-outcome h n = ap (λ x. x .outcome) (run-delivered h n) ∙ finished-outcome (e .layout) (e .made) ∙ rw counted
 
-  pub run-frame : (bytes : List ℕ) → frameOf (e .layout) (madeRecord (e .layout) (e .made)) ≡ bytes → e .made .found .level ≤ 254 → e .made .boundary ≤ 127 →
+  pub run-frame : (bytes : List ℕ) → frameOf (e .layout) (madeRecord (e .layout) (e .made)) ≡ bytes → e .made .found .level ≤ 254 →
       e .bits ≤ fieldEnd (e .layout) → (stage (e .layout) (lent (e .layout) (e .spectra))) .frame ≡ laid bytes (noFrame (e .layout))
   unfolding finished
-  run-frame bytes f h b n = ap (λ x. x .frame) (run-delivered h b n) ∙ rw f
+  run-frame bytes f h n = ap (λ x. x .frame) (run-delivered h n) ∙ rw f

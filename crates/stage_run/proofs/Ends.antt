@@ -21,7 +21,7 @@ use Rattle.stage_run.specs.Delivery.{Delivers, foundAs, wipedBy, wiped}
 -- ---- from the level on
 
 module _ (l : Layout) (level b pairs n : ℕ) (sc : List Float) (fa si : List ℕ) (co : List ℤ) (fr : List ℕ)
-    (d : Delivers l level b sc fa si n co fr) (q : b ≡ boundaryFor l sc (foundAs level pairs fa)) (small : b ≤ 127) where
+    (d : Delivers l level b sc fa si n co fr) (q : b ≡ boundaryFor l sc (foundAs level pairs fa)) where
   abbrev m : Made
   m = madeFrom l sc si (foundAs level pairs fa)
 
@@ -35,17 +35,13 @@ module _ (l : Layout) (level b pairs n : ℕ) (sc : List Float) (fa si : List �
   is-bits : n ≡ length (fields l (madeRecord l m))
   is-bits = d .bits ∙ ap (λ r. length (fields l r)) is-record
 
-  bounded : ltb 127 (m .boundary) ≡ false
-  unfolding madeFrom
-  bounded = le-ltb 127 (boundaryFor l sc (foundAs level pairs fa)) (rw q at small)
-
   -- refusal 7 or a success, by the test that was made
   ends-by : (t : Bool) → ltb (fieldEnd l) n ≡ t → (o : Outcome) → o ≡ cond t (refused 7 0) (delivered (level ∷ b ∷ pairs ∷ n ∷ [])) → wiped l (left o) ≡ packed l m
   unfolding wiped wipedBy packed finished madeFrom
-  ends-by true e o f = rw (f, bounded, ap (ltb (fieldEnd l)) (sym is-bits) ∙ e)
+  ends-by true e o f = rw (f, ap (ltb (fieldEnd l)) (sym is-bits) ∙ e)
   ends-by false e o f =
       let k : fr ≡ frameOf l (madeRecord l m) = d .stored ∙ rw e (ap (frameOf l) is-record) in
-      rw (f, bounded, ap (ltb (fieldEnd l)) (sym is-bits) ∙ e, is-bits, k, d .coded, q)
+      rw (f, ap (ltb (fieldEnd l)) (sym is-bits) ∙ e, is-bits, k, d .coded, q)
 
   pub packed-ends : (o : Outcome) → o ≡ cond (ltb (fieldEnd l) n) (refused 7 0) (delivered (level ∷ b ∷ pairs ∷ n ∷ [])) → wiped l (left o) ≡ packed l m
   packed-ends o f = ends-by (ltb (fieldEnd l) n) refl o f

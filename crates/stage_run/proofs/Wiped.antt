@@ -17,15 +17,14 @@ use Rattle.rules.proofs.StageAnswer as Stage
 use Rattle.stage_run.specs.Delivery.{Sized, wipedBy, wiped}
 
 module _ (l : Layout) (sc : List Float) (co : List ℤ) (fa si fr : List ℕ) where
-  refused-cleared : (a : StageAnswer) → OneOf (1 ∷ 2 ∷ 3 ∷ 4 ∷ 5 ∷ 6 ∷ 7 ∷ []) (tagOf Stage.the-type a) → wiped l (stageLeft a sc co fa si fr) ≡ cleared l (stageOutcome a)
+  refused-cleared : (a : StageAnswer) → OneOf (1 ∷ 2 ∷ 3 ∷ 4 ∷ 5 ∷ 6 ∷ []) (tagOf Stage.the-type a) → wiped l (stageLeft a sc co fa si fr) ≡ cleared l (stageOutcome a)
   unfolding wiped wipedBy stageOutcome
-  refused-cleared (stage.Delivered level boundary pairs bits) h = absurd (miss (1 ∷ 2 ∷ 3 ∷ 4 ∷ 5 ∷ 6 ∷ 7 ∷ []) 0 tt h)
+  refused-cleared (stage.Delivered level boundary pairs bits) h = absurd (miss (1 ∷ 2 ∷ 3 ∷ 4 ∷ 5 ∷ 6 ∷ []) 0 tt h)
   refused-cleared stage.BadLayout h = refl
   refused-cleared stage.ShortBuffer h = refl
   refused-cleared (stage.BadIntensity i) h = refl
   refused-cleared (stage.BadSpectrum i) h = refl
   refused-cleared (stage.NoLevel pairs) h = refl
-  refused-cleared (stage.NoBoundary level) h = refl
   refused-cleared stage.TooLong h = refl
 
   -- a success stays
@@ -37,11 +36,10 @@ module _ (l : Layout) (sc : List Float) (co : List ℤ) (fa si fr : List ℕ) wh
   wiped-stays (stage.BadIntensity i) h = absurd (miss (0 ∷ []) 3 tt h)
   wiped-stays (stage.BadSpectrum i) h = absurd (miss (0 ∷ []) 4 tt h)
   wiped-stays (stage.NoLevel pairs) h = absurd (miss (0 ∷ []) 5 tt h)
-  wiped-stays (stage.NoBoundary level) h = absurd (miss (0 ∷ []) 6 tt h)
-  wiped-stays stage.TooLong h = absurd (miss (0 ∷ []) 7 tt h)
+  wiped-stays stage.TooLong h = absurd (miss (0 ∷ []) 6 tt h)
 
   -- a refusal's buffers are zero
-  pub wiped-cleared : (a : StageAnswer) (sc′ : List Float) (co′ : List ℤ) (fa′ si′ fr′ : List ℕ) → OneOf (1 ∷ 2 ∷ 3 ∷ 4 ∷ 5 ∷ 6 ∷ 7 ∷ []) (tagOf Stage.the-type a)
+  pub wiped-cleared : (a : StageAnswer) (sc′ : List Float) (co′ : List ℤ) (fa′ si′ fr′ : List ℕ) → OneOf (1 ∷ 2 ∷ 3 ∷ 4 ∷ 5 ∷ 6 ∷ []) (tagOf Stage.the-type a)
       → Sized l (length sc) (length co) (length fa) (length si) (length fr)
       → sc′ ≡ replicate (length sc) zeroF → co′ ≡ replicate (length co) (pos 0) → fa′ ≡ replicate (length fa) 0 → si′ ≡ replicate (length si) 0 → fr′ ≡ replicate (length fr) 0
       → stageLeft a sc′ co′ fa′ si′ fr′ ≡ wiped l (stageLeft a sc co fa si fr)

@@ -92,7 +92,7 @@ fn answered(end: usize, level: usize, boundary: usize, pairs: usize, bits: usize
     StageAnswer::Delivered(level, boundary, pairs, bits)
 }
 
-// The boundary, the codes and the frame of a level. The boundary is at most 127, so that of the late refusals only 5 and 7 can come.
+// The boundary, the codes and the frame of a level.
 fn boundary_to_frame(
     layout: Layout,
     level: usize,

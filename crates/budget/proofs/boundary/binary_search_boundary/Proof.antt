@@ -3,7 +3,7 @@ use mathlib.Core.Path.{_≡_, sym, _∙_}
 use Prim.Native.Nat.{_≤_, _-_}
 use native.Mathlib.Omega.{arith}
 use borrow.Author.Needs.{needs}
-use borrow.Author.Tests.{lt-ltb, eq-eqb, ne-eqb}
+use borrow.Author.Tests.{eq-eqb, ne-eqb}
 use Rattle.rules.specs.Estimate.{exceeds}
 use Rattle.rules.specs.Boundary.{lastOf, narrow, searchBoundary}
 use Rattle.rules.proofs.Boundaries.{boundary-start, narrow-up, narrow-down, narrow-end}
@@ -55,30 +55,27 @@ loop-again-2 c =
 returns : tie.Need-returns Inv-loop μ-loop
 unfolding lastOf
 returns c =
-    let s = c .before .before .before in
-    (sym (s .loop .inv .3 ∙ (narrow-end _ _ _ _ (c .before .before .loop-test .left) ∙ rw (eq-eqb _ _ (c .before .if2 .taken), lt-ltb _ _ (c .if3 .taken)))), omega arith)
-
-returns-2 : tie.Need-returns-2 Inv-loop μ-loop
-returns-2 c = absurd (omega arith)
+    let s = c .before .before in
+    (sym (s .loop .inv .3 ∙ (narrow-end _ _ _ _ (c .before .loop-test .left) ∙ rw (eq-eqb _ _ (c .if2 .taken)))), omega arith)
 
 is-over-requires-2 : tie.Need-is-over-requires-2 Inv-loop μ-loop
 is-over-requires-2 c κs = search needs
+
+returns-2 : tie.Need-returns-2 Inv-loop μ-loop
+unfolding lastOf
+returns-2 c =
+    let s = c .before .before .before .before in (
+      sym (s .loop .inv .3 ∙ (narrow-end _ _ _ _ (c .before .before .before .loop-test .left)
+          ∙ rw (ne-eqb _ _ (c .before .before .if2 .left), sym (c .before .is-over2 .ensures) ∙ c .if3 .taken))),
+      omega arith,
+    )
 
 returns-3 : tie.Need-returns-3 Inv-loop μ-loop
 unfolding lastOf
 returns-3 c =
     let s = c .before .before .before .before in (
       sym (s .loop .inv .3 ∙ (narrow-end _ _ _ _ (c .before .before .before .loop-test .left)
-          ∙ rw (ne-eqb _ _ (c .before .before .if2 .left), sym (c .before .is-over2 .ensures) ∙ c .if4 .taken))),
-      omega arith,
-    )
-
-returns-4 : tie.Need-returns-4 Inv-loop μ-loop
-unfolding lastOf
-returns-4 c =
-    let s = c .before .before .before .before in (
-      sym (s .loop .inv .3 ∙ (narrow-end _ _ _ _ (c .before .before .before .loop-test .left)
-          ∙ rw (ne-eqb _ _ (c .before .before .if2 .left), sym (c .before .is-over2 .ensures) ∙ c .if4 .left))),
+          ∙ rw (ne-eqb _ _ (c .before .before .if2 .left), sym (c .before .is-over2 .ensures) ∙ c .if3 .left))),
       omega arith,
     )
 
@@ -99,7 +96,6 @@ binary-search-boundary-spec =
     loop-less-2
     loop-again-2
     returns
-    returns-2
     is-over-requires-2
-    returns-3
-    returns-4)
+    returns-2
+    returns-3)

@@ -33,7 +33,7 @@ same-length-2 c = search needs
 
 returns : tie.Need-returns
 returns c =
-    packed-ends _ _ _ _ _ _ _ _ _ _ (c .before .before .before .before .before .deliver .ensures) (c .before .before .before .before .before .before .before .before .calculate-evaluation-boundary .ensures .0) (c .before .before .before .before .before .before .before .before .calculate-evaluation-boundary .ensures .1) _ (c .answered .ensures)
+    packed-ends _ _ _ _ _ _ _ _ _ _ (c .before .before .before .before .before .deliver .ensures) (c .before .before .before .before .before .before .before .before .calculate-evaluation-boundary .ensures .0) _ (c .answered .ensures)
 
 pub boundary-to-frame-spec : {M : Type 1} → statement M
 boundary-to-frame-spec =
