@@ -1,11 +1,11 @@
 // Document 01, **Legal record**: is a record that lies in lent buffers legal?
 ghost use mathlib.Core.Path.{_≡_};
 ghost use mathlib.Core.Bool.{true, cond};
-ghost use Prim.Native.Nat.{_*_, _^_, _<_};
+ghost use Prim.Native.Nat.{_+_, _*_, _^_, _≤_, _<_};
 ghost use lib.Dec.{leb, ltb, eqb};
 ghost use lib.IntN.{pos, natAbs};
 ghost use lib.ListN.{length};
-ghost use Rattle.rules.specs.Layout.{Sizes, kindAt, sideWidth};
+ghost use Rattle.rules.specs.Layout.{Sizes, kindAt, sideWidth, part};
 ghost use Rattle.rules.specs.Resolution.{allResolutions};
 ghost use Rattle.rules.specs.Record.{codeRange, legalHead, legalRow, legalSubframe, legalCodes, legalChannel, legalChannels, legalRecord};
 use quantizer::tables::limit_of;
@@ -148,6 +148,24 @@ fn legal_channel(
     legal_codes(resolutions, codes)
 }
 
+// Channel c's part of a buffer with n bytes a channel.
+fn bytes_of(xs: &[u8], n: usize, c: usize) -> &[u8]
+    requires { ⌜ (c < 16) × (n ≤ 1024) × (c * n + n ≤ length (now xs)) ⌝ }
+    ensures { λ r. ⌜ (now r ≡ part n (now (xs .entry)) c) × (length (now r) ≡ n) ⌝ }
+{
+    let a = c * n;
+    &xs[a..a + n]
+}
+
+// Channel c's part of a buffer with n codes a channel.
+fn codes_of(xs: &[i32], n: usize, c: usize) -> &[i32]
+    requires { ⌜ (c < 16) × (n ≤ 1024) × (c * n + n ≤ length (now xs)) ⌝ }
+    ensures { λ r. ⌜ (now r ≡ part n (now (xs .entry)) c) × (length (now r) ≡ n) ⌝ }
+{
+    let a = c * n;
+    &xs[a..a + n]
+}
+
 fn legal_channels(
     layout: Layout,
     factors: &[u8],
@@ -162,16 +180,13 @@ fn legal_channels(
     let channels = layout.channels;
     let mut c = 0;
     while c < channels {
-        let f = c * 128;
-        let s = c * 8;
-        let k = c * 1024;
         if legal_channel(
             layout,
             c,
-            &factors[f..f + 128],
-            &side[s..s + 8],
-            &codes[k..k + 1024],
-            &resolutions[f..f + 128],
+            bytes_of(factors, 128, c),
+            bytes_of(side, 8, c),
+            codes_of(codes, 1024, c),
+            bytes_of(resolutions, 128, c),
         ) {
             c += 1;
         } else {
