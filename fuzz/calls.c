@@ -149,10 +149,10 @@ static void spoil_frame(struct source *s, const struct shape *l)
         put_bits(frame_bytes, 32, pick(s, 8), 3);
     if (sort == 11)
         any_bits_from(s, frame_bytes, 0, 8 * l->frame);
-    if (sort == 12 || sort == 13) { /* a legal head and then any bits */
+    if (sort == 12 || sort == 13) { /* the sync, any level, and then any bits */
         any_bits_from(s, frame_bytes, 32, limit);
         put_bits(frame_bytes, 0, 0xFFFF, 16);
-        put_bits(frame_bytes, 16, 1 + pick(s, 254), 9);
+        put_bits(frame_bytes, 16, pick(s, 512), 9);
     }
     if (sort != 3 && sort != 11)
         mend_check(frame_bytes, l->frame);
@@ -164,7 +164,7 @@ static void check_neighbours(struct source *s, const struct shape *l, uint32_t n
     struct shape smaller = *l;
     uint32_t limit = 8 * (l->frame - 2), bit;
     struct expected e = nothing_known();
-    if (number == HCA_BAD_LEVEL || number == HCA_BAD_FACTOR) { /* what comes after the fault changes nothing */
+    if (number == HCA_BAD_FACTOR) { /* what comes after the fault changes nothing */
         if (place + 12 >= limit)
             return;
         any_bits_from(s, frame_bytes, place + 12, limit);

@@ -182,8 +182,8 @@ void make_record(struct source *s, const struct shape *l, struct record *out)
 {
     struct source r = bulk(s);
     memset(out, 0, sizeof *out);
-    out->head[0] = one_in(s, 12) ? 0 : one_in(s, 12) ? 254 : (uint32_t)(next_number(&r) % 255);
-    out->head[1] = out->head[0] == 0 || one_in(s, 4) ? 0 : (uint32_t)(next_number(&r) % 128);
+    out->head[0] = one_in(s, 12) ? 0 : one_in(s, 12) ? 511 : (uint32_t)(next_number(&r) % (one_in(s, 4) ? 512 : 255));
+    out->head[1] = one_in(s, 4) ? 0 : (uint32_t)(next_number(&r) % 128);
     for (uint32_t c = 0; c < l->channels; c++) {
         make_factors(&r, out->factors + 128 * c, coded_count(l, c));
         for (uint32_t i = 0; i < 8; i++)
@@ -204,7 +204,7 @@ void spoil_record(struct source *s, const struct shape *l, struct record *x)
     int32_t most = code_range(resolution(x->factors[128 * c + b], x->head[0], x->head[1], b));
     uint32_t sort = pick(s, 8), at = pick(s, 8);
     switch (sort) {
-    case 0: x->head[0] = one_in(s, 2) ? 255 : take_word(s); break;
+    case 0: x->head[0] = one_in(s, 2) ? 512 : take_word(s); break;
     case 1: x->head[1] = one_in(s, 2) ? 128 : take_word(s); break;
     case 2: x->head[0] = 0; break;
     case 3: x->factors[128 * c + b] = take_byte(s); break;

@@ -77,7 +77,7 @@ uint32_t __wrap_hca_write_record(const uint32_t *layout, size_t layout_len, cons
         memset(frame, 0, layout[4]);
     if (is_fault("writer-takes-all") && number == 15)
         number = 0;
-    if (is_fault("writer-refuses-legal") && number == 0 && record[0] == 254)
+    if (is_fault("writer-refuses-legal") && number == 0 && record[0] == 511)
         number = 15;
     if (is_fault("refusal-moves-the-answer") && number != 0 && answer_len > 1)
         answer[1] = 0;

@@ -76,7 +76,7 @@ enum verdict record_verdict(const struct shape *l, uint32_t level, uint32_t boun
                             const uint8_t *side, const int32_t *codes)
 {
     enum verdict all = LEGAL;
-    if (level > 254 || boundary > 127 || (level == 0 && boundary != 0))
+    if (level > 511 || boundary > 127)
         return ILLEGAL;
     for (uint32_t c = 0; c < l->channels; c++) {
         if (!side_is_legal(l, c, side))

@@ -81,8 +81,8 @@ enum hca_encoded {
 
 /* What hca_read_frame and hca_write_record deliver. The first two are what hca_write_record takes as record. */
 enum hca_record {
-    HCA_RECORD_LEVEL = 0,       /* as HCA_ENCODED_LEVEL */
-    HCA_RECORD_BOUNDARY = 1,    /* as HCA_ENCODED_BOUNDARY */
+    HCA_RECORD_LEVEL = 0,       /* noise level, 0 to 511 */
+    HCA_RECORD_BOUNDARY = 1,    /* bands below it are coded one level finer, where the level is not 0; 0 to 127 */
     HCA_RECORD_BITS = 2,        /* bits of all fields, those before the fill */
     HCA_RECORD_COUNT = 3        /* how many numbers they deliver */
 };
@@ -92,7 +92,7 @@ enum hca_record {
    elements that the layout asks for (the stage's five, the reader's factors, side and codes, the writer's frame),
    so no half of a frame can be taken for a whole one.
    The stage refuses in the order 1, 2, 3, 4, 5, 7, the writer 1, 2, 15, 7, the reader 1, 2, 8, 9, then the first fault in bit
-   order, 14 last. A later version may add numbers above 15. */
+   order, 14 last. 6 and 10 are withdrawn and come from no call. A later version may add numbers above 15. */
 enum hca_refusal {
     HCA_OK = 0,             /* delivered */
     HCA_BAD_LAYOUT = 1,     /* layout outside its limits, under five numbers, or a kind missing or above 2; beside: 0 */
@@ -103,7 +103,6 @@ enum hca_refusal {
     HCA_TOO_LONG = 7,       /* the fields end past bit 8(F - 2): raise the frame size; beside: 0 */
     HCA_WRONG_CHECK = 8,    /* the check is wrong: damaged bytes, or another frame size; beside: 0 */
     HCA_WRONG_SYNC = 9,     /* the frame does not begin with FF FF; beside: 0 */
-    HCA_BAD_LEVEL = 10,     /* level above 254, or boundary not 0 at level 0; beside: bit of the field */
     HCA_BAD_WIDTH = 11,     /* width of the deltas is 7, or not the one that the writer chooses; beside: bit of the width */
     HCA_BAD_FACTOR = 12,    /* an escape was needless, or a factor falls outside 0..63; beside: bit of the field */
     HCA_PAST_END = 13,      /* a field would pass bit 8(F - 2); beside: the field's first bit */
@@ -124,7 +123,6 @@ static inline const char *hca_refusal_text(uint32_t refusal)
     case HCA_TOO_LONG: return "the fields do not fit the frame: raise the frame size";
     case HCA_WRONG_CHECK: return "the frame's check is wrong";
     case HCA_WRONG_SYNC: return "the frame does not begin with FF FF";
-    case HCA_BAD_LEVEL: return "level or boundary is out of range";
     case HCA_BAD_WIDTH: return "a width is not the one that the writer chooses";
     case HCA_BAD_FACTOR: return "a scale factor is out of range or escaped without need";
     case HCA_PAST_END: return "a field would pass the end of the fields";
@@ -153,9 +151,9 @@ uint32_t hca_encode_frame(
     uint32_t *answer, size_t answer_len);               /* written: 4 places or more, see enum hca_encoded */
 
 /* The record writer: writes the one frame of a legal record. Refuses with 1, 2, 15 or 7.
-   Legal: level 0..254; boundary 0..127, and 0 at level 0; factors and HFR scales 0..63; intensities 0..15; codes within
-   the range of their resolution; everything that a frame does not carry (past the coded bands, past the groups, codes
-   at resolution 0) is 0. */
+   Legal: level 0..511; boundary 0..127; factors and HFR scales 0..63; intensities 0..15; codes within the range of their
+   resolution; everything that a frame does not carry (past the coded bands, past the groups, codes at resolution 0) is
+   0. At level 0 the boundary changes no resolution, but it is a field of its own: another boundary, another frame. */
 uint32_t hca_write_record(
     const uint32_t *layout, size_t layout_len,          /* read: 5 numbers */
     const uint8_t *kinds, size_t kinds_len,             /* read: C bytes */
@@ -168,7 +166,7 @@ uint32_t hca_write_record(
 
 /* The strict reader: accepts exactly the frames that hca_write_record writes, and hands their record back.
    Frames are plain here: an encrypted one has to be decrypted, and its check mended, first.
-   Refuses with 1, 2 or 8 to 14. */
+   Refuses with 1, 2, 8, 9 or 11 to 14. */
 uint32_t hca_read_frame(
     const uint32_t *layout, size_t layout_len,          /* read: 5 numbers */
     const uint8_t *kinds, size_t kinds_len,             /* read: C bytes */

@@ -122,6 +122,15 @@ says err 'frame 0: refusal 3 at 9: '
 absent x.hca
 good
 
+# -- any level and any boundary that the fields hold
+one='--kinds D --base 1 --stereo 0 --total 1 --frame-size 8'
+printf '\377\377\377\377\000\000\000\374' >high.hca
+status 0 'level 511 and boundary 127' read $one --frames high.hca --records high.bin
+says out 'frame 0: level 511, boundary 127'
+status 0 'level 511 and boundary 127, written' write $one --records high.bin --out high2.hca
+same high.hca high2.hca
+good
+
 # -- refusals
 { head -c 8188 spectra.f32; printf '\001\000\300\177'; tail -c 4096 spectra.f32; } >nan.f32
 echo kept >kept.hca

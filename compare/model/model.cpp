@@ -316,9 +316,7 @@ bool take_frame(const Layout &l, Source &s, u8 *factors, u8 *side, i32 *codes, u
     if (!s.take(16, v)) return false;
     if (v != 0xFFFF) return s.fault(9, 0);
     if (!s.take(9, level)) return false;
-    if (level > 254) return s.fault(10, 16);
     if (!s.take(7, boundary)) return false;
-    if (level == 0 && boundary != 0) return s.fault(10, 25);
     for (u32 c = 0; c < l.channels; c++)
         if (!take_factors(s, factors + c * 128, l.coded(c)) || !take_sides(l, c, s, side + c * 8)) return false;
     for (u32 f = 0; f < 8; f++)
@@ -339,7 +337,7 @@ bool take_frame(const Layout &l, Source &s, u8 *factors, u8 *side, i32 *codes, u
 
 // ------------------------------------------------------------------ record writer
 bool is_legal(const Layout &l, u32 level, u32 boundary, const u8 *factors, const u8 *side, const i32 *codes) {
-    if (level > 254 || boundary > 127 || (level == 0 && boundary != 0)) return false;
+    if (level > 511 || boundary > 127) return false;
     for (u32 c = 0; c < l.channels; c++) {
         for (u32 b = 0; b < 128; b++) {
             u32 factor = factors[c * 128 + b];

@@ -69,7 +69,7 @@ pub use refusal::{Refusal, RefusalKind};
 pub struct Delivered {
     /// Noise level, 0 to 254.
     pub level: u32,
-    /// Bands below it are coded one level finer; 0 to 127.
+    /// Bands below it are coded one level finer; 0 to 127, 0 at level 0.
     pub boundary: u32,
     /// Removal stages passed before a level was found.
     pub pairs: u32,
@@ -169,9 +169,9 @@ impl Encoder {
 /// All that a frame says.
 #[derive(Clone, Debug, PartialEq, Eq)]
 pub struct Record {
-    /// Noise level, 0 to 254.
+    /// Noise level, 0 to 511; the stage gives at most 254.
     pub level: u32,
-    /// Bands below it are coded one level finer; 0 to 127, 0 at level 0.
+    /// Bands below it are coded one level finer, where the level is not 0; 0 to 127.
     pub boundary: u32,
     /// 128 a channel.
     pub factors: Vec<u8>,

@@ -29,9 +29,7 @@ impl Refusal {
     pub const WRONG_CHECK: u32 = 8;
     /// The frame does not begin with FFFF.
     pub const WRONG_SYNC: u32 = 9;
-    /// Level or boundary is out of range; `place` is the field's bit, as in all that follow.
-    pub const BAD_LEVEL: u32 = 10;
-    /// A width is not the one that the writer chooses.
+    /// A width is not the one that the writer chooses; `place` is the field's bit, as in all that follow.
     pub const BAD_WIDTH: u32 = 11;
     /// An escape was needless, or a factor lies outside 0..63.
     pub const BAD_FACTOR: u32 = 12;
@@ -75,8 +73,6 @@ pub enum RefusalKind {
     WrongCheck,
     /// [`Refusal::WRONG_SYNC`].
     WrongSync,
-    /// [`Refusal::BAD_LEVEL`].
-    BadLevel,
     /// [`Refusal::BAD_WIDTH`].
     BadWidth,
     /// [`Refusal::BAD_FACTOR`].
@@ -104,7 +100,6 @@ impl Refusal {
             Self::TOO_LONG => RefusalKind::TooLong,
             Self::WRONG_CHECK => RefusalKind::WrongCheck,
             Self::WRONG_SYNC => RefusalKind::WrongSync,
-            Self::BAD_LEVEL => RefusalKind::BadLevel,
             Self::BAD_WIDTH => RefusalKind::BadWidth,
             Self::BAD_FACTOR => RefusalKind::BadFactor,
             Self::PAST_END => RefusalKind::PastEnd,
@@ -128,7 +123,6 @@ impl fmt::Display for Refusal {
             Self::TOO_LONG => write!(f, "the fields end past the payload; raise the frame size"),
             Self::WRONG_CHECK => write!(f, "the frame's check is wrong: the bytes were damaged, or the frame size is another"),
             Self::WRONG_SYNC => write!(f, "the frame does not begin with FFFF"),
-            Self::BAD_LEVEL => write!(f, "level or boundary at bit {at} is outside its range"),
             Self::BAD_WIDTH => write!(f, "the width at bit {at} is not the one that the writer chooses"),
             Self::BAD_FACTOR => write!(f, "the delta at bit {at} is a needless escape or leads outside 0..63"),
             Self::PAST_END => write!(f, "the field at bit {at} would pass the payload's end"),

@@ -118,6 +118,22 @@ fn an_illegal_record_is_refused() {
 }
 
 #[test]
+fn every_head_is_taken() {
+    let l = mono(1, 1, 8);
+    let frames = [(511, 127, 0xFFFFFFFF_000000FC_u64), (0, 5, 0xFFFF0005_0000009C), (255, 0, 0xFFFF7F80_000006CC)];
+    for (level, boundary, frame) in frames {
+        let record = Record { level, boundary, ..Record::silent(&l) };
+        let frame = frame.to_be_bytes().to_vec();
+        assert_eq!(write_record(&l, &record), Ok((frame.clone(), 35)));
+        assert_eq!(read_frame(&l, &frame), Ok((record, 35)));
+    }
+    for (level, boundary) in [(512, 0), (0, 128)] {
+        let record = Record { level, boundary, ..Record::silent(&l) };
+        assert_eq!(write_record(&l, &record), Err(Refusal { number: 15, place: 0 }));
+    }
+}
+
+#[test]
 fn the_check_of_a_known_text() {
     // CRC-16 with polynomial 8005, start 0, not reflected
     assert_eq!(checksum(b"123456789"), 0xFEE8);
@@ -126,11 +142,13 @@ fn the_check_of_a_known_text() {
 
 #[test]
 fn every_number_has_a_text() {
-    for number in (1..=15).filter(|n| *n != 6) {
+    for number in (1..=15).filter(|n| ![6, 10].contains(n)) {
         let text = Refusal { number, place: 3 }.to_string();
         assert!(text.starts_with(&format!("refusal {number}: ")) && text.len() > 30, "{text}");
     }
-    assert!(Refusal { number: 31, place: 3 }.to_string().contains("unknown"));
+    for number in [10, 31] {
+        assert!(Refusal { number, place: 3 }.to_string().contains("unknown"));
+    }
 }
 
 #[test]
@@ -145,7 +163,6 @@ fn every_number_has_its_kind() {
         (7, RefusalKind::TooLong),
         (8, RefusalKind::WrongCheck),
         (9, RefusalKind::WrongSync),
-        (10, RefusalKind::BadLevel),
         (11, RefusalKind::BadWidth),
         (12, RefusalKind::BadFactor),
         (13, RefusalKind::PastEnd),

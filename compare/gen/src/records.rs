@@ -193,14 +193,15 @@ fn factors(r: &mut Rng, out: &mut [u8]) {
 }
 
 fn level(r: &mut Rng) -> (u32, u32) {
-    let level = match r.below(8) {
+    let level = match r.below(10) {
         0 | 1 => 0,
         2 => r.range(1, 3),
-        3 => r.range(230, 254),
-        _ => r.range(0, 254),
+        3 => r.range(230, 260),
+        4 => r.range(505, 511),
+        5 => r.range(0, 511),
+        _ => r.range(0, 254), // the finer resolutions
     } as u32;
     let boundary = match r.below(4) {
-        _ if level == 0 => 0,
         0 => r.pick(&[0, 1, 126, 127]),
         _ => r.below(128) as u32,
     };
@@ -265,8 +266,6 @@ fn few(r: &mut Rng) -> usize {
 /// Faults to put into a frame, each at one channel or band.
 #[derive(Clone, Default)]
 pub struct Faults {
-    pub level: Option<u32>,
-    pub boundary: Option<u32>,
     /// channel, width
     pub width: Option<(usize, usize)>,
     /// channel, band: an escape though the delta is small
@@ -350,8 +349,8 @@ fn compose_code(res: usize, code: i32, out: &mut Vec<bool>) {
 pub fn compose(rec: &Record, faults: &Faults) -> Vec<bool> {
     let mut out = Vec::new();
     push(&mut out, 0xFFFF, 16);
-    push(&mut out, faults.level.unwrap_or(rec.level), 9);
-    push(&mut out, faults.boundary.unwrap_or(rec.boundary), 7);
+    push(&mut out, rec.level, 9);
+    push(&mut out, rec.boundary, 7);
     for c in 0..rec.channels() {
         compose_factors(rec, c, faults, &mut out);
         for i in 0..rec.sides(c) {
@@ -441,35 +440,30 @@ fn illegal(r: &mut Rng, nth: u64) -> Vec<Call> {
     let sides = rec.sides(c);
     let code_at = |s: usize, b: usize| c * 1024 + s * 128 + b;
     let s = r.below(8);
-    match nth % 12 {
-        0 => rec.level = r.pick(&[255, 256, 511, 512, 65_536, 1 << 31, u32::MAX]),
+    match nth % 11 {
+        0 => rec.level = r.pick(&[512, 513, 1023, 1024, 65_536, 1 << 31, u32::MAX]),
         1 => rec.boundary = r.pick(&[128, 129, 255, 256, 65_536, u32::MAX]),
-        2 => {
-            // codes that stay legal, so that the boundary alone is wrong
-            (rec.level, rec.boundary) = (0, r.range(1, 127) as u32);
-            rec.hold_codes();
-        }
-        3 if coded > 0 => rec.factors[c * 128 + r.below(coded)] = just_above(r, 63),
-        4 if coded < 128 => rec.factors[c * 128 + r.range(coded as i64, 127) as usize] = just_above(r, 0),
-        5 if sides > 0 => {
+        2 if coded > 0 => rec.factors[c * 128 + r.below(coded)] = just_above(r, 63),
+        3 if coded < 128 => rec.factors[c * 128 + r.range(coded as i64, 127) as usize] = just_above(r, 0),
+        4 if sides > 0 => {
             let most = if rec.kinds[c] == 2 { 15 } else { 63 };
             rec.side[c * 8 + r.below(sides)] = just_above(r, most);
         }
-        6 if sides < 8 => rec.side[c * 8 + r.range(sides as i64, 7) as usize] = just_above(r, 0),
-        7 if coded < 128 => {
+        5 if sides < 8 => rec.side[c * 8 + r.range(sides as i64, 7) as usize] = just_above(r, 0),
+        6 if coded < 128 => {
             let b = r.range(coded as i64, 127) as usize;
             rec.codes[code_at(s, b)] = r.pick(&[1, -1, 5, i32::MIN, i32::MAX, 256, 65_536]);
         }
-        8 if coded > 0 => {
+        7 if coded > 0 => {
             let b = r.below(coded);
             rec.codes[code_at(s, b)] = r.pick(&[i32::MIN, i32::MAX, i32::MIN + 1]);
         }
-        9 if coded > 0 => {
+        8 if coded > 0 => {
             let b = r.below(coded);
             let most = rec.most(c, b);
             rec.codes[code_at(s, b)] = r.pick(&[most + 1, -most - 1]);
         }
-        10 if coded > 0 => {
+        9 if coded > 0 => {
             // a code where the factor is 0
             let b = r.below(coded);
             rec.factors[c * 128 + b] = 0;
@@ -482,7 +476,7 @@ fn illegal(r: &mut Rng, nth: u64) -> Vec<Call> {
             let b = r.below(coded);
             rec.codes[code_at(s, b)] = r.word() as i32 | 1 << 12;
         }
-        _ => rec.level = 255,
+        _ => rec.level = 512,
     }
     vec![Call::Write(rec.write_call(r))]
 }
@@ -528,10 +522,6 @@ fn payloads(r: &mut Rng) -> Vec<Call> {
             for b in &mut bits[from..] {
                 *b = r.chance(ones);
             }
-            // a level below 256, half of the time, so that the reader comes further
-            if from <= 16 && r.chance(0.7) {
-                bits[16] = false;
-            }
             let frame = frame_of(&bits, size);
             Call::Read(rec.read_call(r, frame))
         })
@@ -552,17 +542,12 @@ fn faulty(r: &mut Rng, nth: u64) -> Vec<Call> {
     let coded = rec.coded(c);
     let band = if coded > 1 { r.range(1, coded as i64 - 1) as usize } else { 0 };
     let mut faults = Faults::default();
-    match nth % 8 {
-        0 => faults.level = Some(r.range(255, 511) as u32),
-        1 => {
-            rec.level = 0;
-            faults.boundary = Some(r.range(1, 127) as u32);
-        }
-        2 => faults.width = Some((c, r.below(8))),
-        3 => faults.escape = Some((c, band)),
-        4 => faults.delta = Some((c, band, r.word() as u32)),
-        5 => faults.noise = Some((r.below(8 * coded.max(1)), r.word())),
-        6 => {
+    match nth % 6 {
+        0 => faults.width = Some((c, r.below(8))),
+        1 => faults.escape = Some((c, band)),
+        2 => faults.delta = Some((c, band, r.word() as u32)),
+        3 => faults.noise = Some((r.below(8 * coded.max(1)), r.word())),
+        4 => {
             // near both ends of 0..63, so that a delta can lead outside
             let edge = r.pick(&[0i64, 63]);
             for b in 0..coded {
@@ -575,7 +560,7 @@ fn faulty(r: &mut Rng, nth: u64) -> Vec<Call> {
     rec.hold_codes();
     let bits = compose(&rec, &faults);
     let mut frame = frame_of(&bits, rec.frame());
-    if nth % 8 == 7 {
+    if nth % 6 == 5 {
         let end = 8 * (rec.frame() - 2);
         if bits.len() < end {
             for _ in 0..r.range(1, 2) {
@@ -690,6 +675,28 @@ fn outside(r: &mut Rng, nth: u64, rec: &Record) -> (Vec<u32>, Vec<u8>) {
         _ => l.truncate(r.below(5)),
     }
     (l, k)
+}
+
+/// Every level and boundary that the two fields hold, on one layout: a band of factor 20, whose codes are as large as its resolution lets them be.
+pub fn heads() -> impl Iterator<Item = ([u32; 2], ReadCall)> {
+    (0..1 << 16).map(|head: u32| {
+        let mut r = Rng::of_case(0, head.into());
+        let mut rec = Record {
+            layout: vec![1, 1, 0, 1, 20],
+            kinds: vec![0],
+            level: head >> 7,
+            boundary: head & 127,
+            factors: vec![0; 128],
+            side: vec![0; 8],
+            codes: vec![0; 1024],
+        };
+        rec.factors[0] = 20;
+        for s in 0..8 {
+            rec.codes[s * 128] = if s % 2 == 0 { i32::MAX } else { -i32::MAX };
+        }
+        rec.hold_codes();
+        ([rec.level, rec.boundary], rec.read_call(&mut r, good_frame(&rec)))
+    })
 }
 
 fn of_stage(r: &mut Rng) -> Vec<Call> {

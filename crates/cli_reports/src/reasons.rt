@@ -9,7 +9,7 @@ use text::lines::put_text;
 use text::lines::say_line;
 
 // The line of each refusal, with its number and, where document 01 has one, the number beside it; line 0 is for any other.
-const FORMS: [u8; 772] = *b"refusal #: unknown\n\
+const FORMS: [u8; 692] = *b"refusal #: unknown\n\
     refusal #: the layout is outside its limits\n\
     refusal #: a lent buffer is too short\n\
     refusal # at #: a secondary's intensity is above 15\n\
@@ -18,7 +18,6 @@ const FORMS: [u8; 772] = *b"refusal #: unknown\n\
     refusal #: the fields do not fit the frame\n\
     refusal #: the check is wrong\n\
     refusal #: the sync is not FFFF\n\
-    refusal # at bit #: the level is above 254, or the boundary is not 0 at level 0\n\
     refusal # at bit #: the width of the factor deltas is not the one that the writer chooses\n\
     refusal # at bit #: an escape is needless, or a factor is outside 0 to 63\n\
     refusal # at bit #: a field passes the end of the fields\n\
@@ -36,12 +35,11 @@ fn line_for(number: usize) -> usize {
         7 => 6,
         8 => 7,
         9 => 8,
-        10 => 9,
-        11 => 10,
-        12 => 11,
-        13 => 12,
-        14 => 13,
-        15 => 14,
+        11 => 9,
+        12 => 10,
+        13 => 11,
+        14 => 12,
+        15 => 13,
         _ => 0,
     }
 }

@@ -106,7 +106,6 @@ fn in_frame(fault: Fault) -> ReadAnswer
     ensures { λ r. ⌜ readerOutcome r ≡ refused (faultNumber fault) (faultBit fault + 16) ⌝ }
 {
     match fault {
-        Fault::BadLevel(bit) => ReadAnswer::BadLevel(bit + 16),
         Fault::BadWidth(bit) => ReadAnswer::BadWidth(bit + 16),
         Fault::BadFactor(bit) => ReadAnswer::BadFactor(bit + 16),
         Fault::PastEnd(bit) => ReadAnswer::PastEnd(bit + 16),

@@ -1,20 +1,17 @@
 -- Level, boundary and channels, one way through the record's reader after the other. Assumes nothing.
 use mathlib.Core.Path.{_≡_, refl, sym, _∙_, subst}
 use mathlib.Core.List.{List}
-use mathlib.Core.Bool.{true, false, _||_}
-use Prim.Native.Nat.{ℕ, _≤_, _<_}
+use Prim.Native.Nat.{ℕ}
 use native.Mathlib.Omega.{arith}
-use borrow.Author.Tests.{le-leb, lt-leb}
-use lib.Dec.{leb, eqb}
 use lib.IntN.{ℤ}
 use Rattle.bits.specs.Bits.{bitsOf}
 use Rattle.bits.specs.Place.{leftAt, fieldAt}
 use Rattle.bits.specs.declared.Place.{Place}
 use Rattle.bits.specs.declared.Field.the-variants as field
-use Rattle.rules.specs.Format.{Read, ok, bad, Reader, pure, _>>=_, andThen, each, times}
+use Rattle.rules.specs.Format.{Read, ok, bad, Reader, pure, _>>=_, andThen, each, times, number}
 use Rattle.rules.specs.Layout.{kindsOf}
 use Rattle.rules.specs.Record.{Chan, Rec, resolutions}
-use Rattle.rules.specs.Reading.{readCode, readLevel, readBoundary, readChannel, readRecord}
+use Rattle.rules.specs.Reading.{readCode, readChannel, readRecord}
 use Rattle.rules.specs.declared.Layout.{Layout}
 use Rattle.reader_values.specs.declared.faults.Fault.{Fault}
 use Rattle.reader_values.specs.declared.faults.Fault.the-variants as fault
@@ -22,7 +19,7 @@ use Rattle.reader_values.specs.declared.Value.the-variants as value
 use Rattle.reader_values.specs.declared.faults.Step.{Step}
 use Rattle.reader_values.specs.declared.faults.Step.the-variants as step
 use Rattle.reader_values.specs.Values.{ValueTold}
-use Rattle.reader_values.proofs.Answered.{number-read, number-cut, judged-cut, judged-yes, judged-no}
+use Rattle.reader_values.proofs.Answered.{number-read, number-cut}
 use Rattle.reader_header.specs.Answers.{StoredChannels}
 use Rattle.reader_header.specs.declared.head.Head.{Head}
 use Rattle.reader_header.specs.declared.head.Head.the-variants as head
@@ -56,46 +53,29 @@ channels-last level boundary (bad n k) = refl
 
 -- LEVEL AND BOUNDARY
 module _ (l : Layout) (s : List ℕ) where
-  level-refused : {f : Fault} → ValueTold s (readLevel (bitsOf s)) 255 (value.Refused f) → Started l s (head.Refused f)
-  unfolding readRecord
-  level-refused t = record { is = rw (t .is) refl; within = t .within; holds = tt }
-
   pub level-past : {k : ℕ} → fieldAt s 0 9 ≡ field.Past k → Started l s (head.Refused (fault.PastEnd 0))
-  level-past e = level-refused (judged-cut s 0 9 (fault.BadLevel 0) (λ v. leb v 254) (number-cut s 0 9 (omega arith) e) refl)
+  unfolding readRecord
+  level-past e = let t = number-cut s 0 9 (omega arith) e in record { is = rw (t .is) refl; within = t .within; holds = tt }
 
   module _ {v : ℕ} {q : Place} (e : fieldAt s 0 9 ≡ field.Of v q) where
-    pub level-high : 254 < v → Started l s (head.Refused (fault.BadLevel 0))
-    level-high h = level-refused (judged-no s 0 9 (fault.BadLevel 0) (λ v. leb v 254) (number-read s 0 9 e) refl (lt-leb v 254 h) (omega arith))
+    level-read : ValueTold s (number 9 (bitsOf s)) 512 (value.Of v q)
+    level-read = number-read s 0 9 e
 
-    module _ (h : v ≤ 254) where
-      level-kept : ValueTold s (readLevel (bitsOf s)) 255 (value.Of v q)
-      level-kept = judged-yes s 0 9 (fault.BadLevel 0) (λ v. leb v 254) (number-read s 0 9 e) refl (le-leb v 254 h) (omega arith)
+    pub boundary-past : {k : ℕ} → fieldAt s (q .at) 7 ≡ field.Past k → Started l s (head.Refused (fault.PastEnd (q .at)))
+    unfolding readRecord
+    boundary-past i =
+        let t = number-cut s (q .at) 7 (level-read .within) i in
+        record { is = rw (level-read .is, t .is) refl; within = t .within; holds = tt }
 
-      boundary-refused : {f : Fault} → ValueTold s (readBoundary v (leftAt s (q .at))) 128 (value.Refused f) → Started l s (head.Refused f)
-      unfolding readRecord
-      boundary-refused t = record { is = rw (level-kept .is, t .is) refl; within = t .within; holds = tt }
-
-      pub boundary-past : {k : ℕ} → fieldAt s (q .at) 7 ≡ field.Past k → Started l s (head.Refused (fault.PastEnd (q .at)))
-      boundary-past i =
-          boundary-refused
-          (judged-cut s (q .at) 7 (fault.BadLevel (q .at)) (λ b. leb 1 v || eqb b 0) (number-cut s (q .at) 7 (level-kept .within) i) refl)
-
-      module _ {b : ℕ} {p : Place} (i : fieldAt s (q .at) 7 ≡ field.Of b p) where
-        pub boundary-wrong : (leb 1 v || eqb b 0) ≡ false → Started l s (head.Refused (fault.BadLevel (q .at)))
-        boundary-wrong z =
-            boundary-refused
-            (judged-no s (q .at) 7 (fault.BadLevel (q .at)) (λ b. leb 1 v || eqb b 0) (number-read s (q .at) 7 i) refl z (level-kept .within))
-
-        pub started : (leb 1 v || eqb b 0) ≡ true → Started l s (head.Of v b p)
-        unfolding readRecord
-        started z =
-            let t = number-read s (q .at) 7 i in
-            let u = judged-yes s (q .at) 7 (fault.BadLevel (q .at)) (λ b. leb 1 v || eqb b 0) {m′ = 128} t refl z (t .small) in
-            record {
-              is = rw (level-kept .is, u .is) (channels-last v b (each (readChannel l) (kindsOf l) (leftAt s (p .at))));
-              within = u .within;
-              holds = h;
-            }
+    pub started : {b : ℕ} {p : Place} → fieldAt s (q .at) 7 ≡ field.Of b p → Started l s (head.Of v b p)
+    unfolding readRecord
+    started {b} {p} i =
+        let t = number-read s (q .at) 7 i in
+        record {
+          is = rw (level-read .is, t .is) (channels-last v b (each (readChannel l) (kindsOf l) (leftAt s (p .at))));
+          within = t .within;
+          holds = omega (arith, level-read .small);
+        }
 
 -- an answer of a known variant
 module _ {l : Layout} {s : List ℕ} {rest : ℕ → ℕ → Reader Rec} {P : ℕ → ℕ → Type 0} {r : Head} (t : HeadTold l s rest P r) where

@@ -49,13 +49,13 @@ channelsThen l level boundary = each (readChannel l) (kindsOf l) >>= codesThen l
 
 -- LEVEL AND BOUNDARY were read
 abbrev pub Started : (l : Layout) (s : List ℕ) (r : Head) → Type 0
-Started l s r = HeadTold l s (channelsThen l) (λ level _. level ≤ 254) r
+Started l s r = HeadTold l s (channelsThen l) (λ level _. level ≤ 511) r
 
 -- THE HEADER was read: factors and side values lie in their buffers
 abbrev pub Headed : (l : Layout) (s F S : List ℕ) (r : Head) → Type 0
 Headed l s F S r =
     HeadTold l s (λ level boundary. codesThen level boundary (build (chanOf l F S) (l .channels)))
-    (λ level _. (level ≤ 254) × Rows l F S (l .channels)) r
+    (λ level _. (level ≤ 511) × Rows l F S (l .channels)) r
 
 -- level and boundary at the place after what was stored next
 abbrev pub headAfter : (level boundary : ℕ) (next : Step) → Head

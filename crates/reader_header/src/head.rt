@@ -1,8 +1,6 @@
 // A record's level and boundary, and what is known of a record while its fields are read.
 ghost use mathlib.Core.Path.{_≡_};
-ghost use mathlib.Core.Bool.{_||_};
 ghost use Prim.Native.Nat.{_≤_};
-ghost use lib.Dec.{leb, eqb};
 ghost use lib.ListN.{length};
 ghost use Rattle.rules.specs.declared.Layout.{Layout};
 ghost use Rattle.reader_header.specs.Headed.{headAfter, Started};
@@ -17,17 +15,7 @@ pub enum Head {
     Refused(Fault),
 }
 
-// Level 0 has boundary 0.
-fn boundary_fits(level: u32, boundary: u32) -> bool
-    ensures { λ r. ⌜ r ≡ (leb 1 level || eqb boundary 0) ⌝ }
-{
-    if 1 <= level {
-        return true;
-    }
-    boundary == 0
-}
-
-// Level and boundary, the part's first two fields.
+// Level and boundary, the part's first two fields; whatever they hold is taken.
 pub(crate) fn read_head(part: &[u8]) -> Head
     requires { ⌜ length (now part) ≤ 65535 ⌝ }
     ensures { λ r. ⌜ ((l : Layout) → Started l (now (part .entry)) r) ⌝ }
@@ -36,15 +24,9 @@ pub(crate) fn read_head(part: &[u8]) -> Head
     let Field::Of(level, second) = start.get(part, 9) else {
         return Head::Refused(Fault::PastEnd(start.at));
     };
-    if 254 < level {
-        return Head::Refused(Fault::BadLevel(start.at));
-    }
     let Field::Of(boundary, next) = second.get(part, 7) else {
         return Head::Refused(Fault::PastEnd(second.at));
     };
-    if !boundary_fits(level, boundary) {
-        return Head::Refused(Fault::BadLevel(second.at));
-    }
     Head::Of(level as usize, boundary as usize, next)
 }
 

@@ -17,13 +17,11 @@ pub record Inside (s : List ℕ) (at : ℕ) : Type 0 where
 
 -- **Refusal numbers**: the number of a refusal, and the bit that it names
 abbrev pub faultNumber : Fault → ℕ
-faultNumber (fault.BadLevel bit) = 10
 faultNumber (fault.BadWidth bit) = 11
 faultNumber (fault.BadFactor bit) = 12
 faultNumber (fault.PastEnd bit) = 13
 
 abbrev pub faultBit : Fault → ℕ
-faultBit (fault.BadLevel bit) = bit
 faultBit (fault.BadWidth bit) = bit
 faultBit (fault.BadFactor bit) = bit
 faultBit (fault.PastEnd bit) = bit

@@ -2,9 +2,8 @@
 // the bits of the part of the frame after the sync.
 use bits::Place;
 
-// Refusals 10 to 13, each with the bit that it names.
+// Refusals 11 to 13, each with the bit that it names.
 pub enum Fault {
-    BadLevel(usize),
     BadWidth(usize),
     BadFactor(usize),
     PastEnd(usize),

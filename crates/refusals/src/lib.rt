@@ -44,7 +44,6 @@ pub fn read_refusal(answer: ReadAnswer) -> Refusal
         ReadAnswer::ShortBuffer => refused(2, 0),
         ReadAnswer::WrongCheck => refused(8, 0),
         ReadAnswer::WrongSync => refused(9, 0),
-        ReadAnswer::BadLevel(n) => refused(10, n),
         ReadAnswer::BadWidth(n) => refused(11, n),
         ReadAnswer::BadFactor(n) => refused(12, n),
         ReadAnswer::PastEnd(n) => refused(13, n),

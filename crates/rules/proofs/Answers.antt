@@ -31,7 +31,7 @@ abbrev pub writerNumbers : List ℕ
 writerNumbers = 1 ∷ 2 ∷ 7 ∷ 15 ∷ []
 
 abbrev pub readerNumbers : List ℕ
-readerNumbers = 1 ∷ 2 ∷ 8 ∷ 9 ∷ 10 ∷ 11 ∷ 12 ∷ 13 ∷ 14 ∷ []
+readerNumbers = 1 ∷ 2 ∷ 8 ∷ 9 ∷ 11 ∷ 12 ∷ 13 ∷ 14 ∷ []
 
 pub stage-answers : (a : StageAnswer) → Numbered stageNumbers (stageOutcome a)
 unfolding stageOutcome
@@ -58,7 +58,6 @@ read-answers read.BadLayout = numbered readerNumbers 1 0 tt
 read-answers read.ShortBuffer = numbered readerNumbers 2 0 tt
 read-answers read.WrongCheck = numbered readerNumbers 8 0 tt
 read-answers read.WrongSync = numbered readerNumbers 9 0 tt
-read-answers (read.BadLevel bit) = numbered readerNumbers 10 bit tt
 read-answers (read.BadWidth bit) = numbered readerNumbers 11 bit tt
 read-answers (read.BadFactor bit) = numbered readerNumbers 12 bit tt
 read-answers (read.PastEnd bit) = numbered readerNumbers 13 bit tt

@@ -1,9 +1,9 @@
 -- Worked frames: what the laws alone do not pin, as each refusal's number and bit; and document 01's HFR groups of 100 and 117 bands.
 use mathlib.Core.Path.{_≡_, refl}
-use mathlib.Core.List.{List, [], _∷_, _++_}
+use mathlib.Core.List.{List, [], _∷_, _++_, map}
 use mathlib.Core.Bool.{Bool}
 use Prim.Native.Nat.{ℕ}
-use lib.IntN.{pos, negsuc}
+use lib.IntN.{ℤ, pos, negsuc}
 use lib.Ieee.{Float}
 use lib.ListN.{replicate, take}
 use Rattle.buffers.specs.Walk.{build}
@@ -30,12 +30,26 @@ use Rattle.rules.specs.declared.Layout.{Layout}
 abbrev flat : ℕ → ℕ → Layout
 flat n b = record { channels = n; kinds = replicate n (record { kind = Discrete }); base = b; stereo = 0; total = b; «frame_size» = 8 }
 
-abbrev quiet : ℕ → Rec
-quiet n = record { level = 0; boundary = 0; chans = replicate n (record { factors = 0 ∷ []; side = [] }); codes = replicate 8 (replicate n (pos 0 ∷ [])) }
+-- n silent channels of one band, with this head
+abbrev headed : (level boundary n : ℕ) → Rec
+headed level boundary n = record {
+  level = level;
+  boundary = boundary;
+  chans = replicate n (record { factors = 0 ∷ []; side = [] });
+  codes = replicate 8 (replicate n (pos 0 ∷ []));
+}
 
--- one factor costs 9 bits at every width from 1 up
-abbrev lone : Rec
-lone = record { level = 254; boundary = 0; chans = record { factors = 5 ∷ []; side = [] } ∷ []; codes = replicate 8 ((pos 0 ∷ []) ∷ []) }
+abbrev quiet : ℕ → Rec
+quiet n = headed 0 0 n
+
+-- one band with this factor and these codes
+abbrev lone : (level boundary factor : ℕ) (codes : List ℤ) → Rec
+lone level boundary factor codes = record {
+  level = level;
+  boundary = boundary;
+  chans = record { factors = factor ∷ []; side = [] } ∷ [];
+  codes = map (λ c. (c ∷ []) ∷ []) codes;
+}
 
 -- one primary, one secondary; widths 3 and 1, each with an escape; resolutions 9 (8 but for the boundary), 8, 4 and 1
 abbrev pair : Layout
@@ -78,13 +92,19 @@ pub record Worked : Type 0 where
   bytes : frameOf (flat 5 1) (quiet 5) ≡ 255 ∷ 255 ∷ 0 ∷ 0 ∷ 0 ∷ 0 ∷ 0 ∷ 216 ∷ []
   turned : strict (flat 5 1) (255 ∷ 255 ∷ 0 ∷ 0 ∷ 0 ∷ 1 ∷ 0 ∷ 216 ∷ []) ≡ faulty 8 0
   sync : strict (flat 5 1) (255 ∷ 254 ∷ 0 ∷ 0 ∷ 0 ∷ 0 ∷ 128 ∷ 163 ∷ []) ≡ faulty 9 0
-  -- a pair written and read back; on a tie the width is 6
+  -- a pair written and read back; on a tie the width is 6, as one factor costs 9 bits at every width from 1 up
   stereo : frameOf pair loud ≡ loudFrame
   again : strict pair loudFrame ≡ accepted loud 351
-  tie : scan (flat 1 1) (head 254 0 (bits 3 6 ++ (bits 6 5 ++ zeros 15))) ≡ accepted lone 49
-  -- level 255; boundary 1 at level 0
-  level : scan (flat 1 1) (head 255 0 (zeros 16)) ≡ faulty 10 16
-  boundary : scan (flat 1 1) (head 0 1 (zeros 16)) ≡ faulty 10 25
+  tie : scan (flat 1 1) (head 254 0 (bits 3 6 ++ (bits 6 5 ++ zeros 15))) ≡ accepted (lone 254 0 5 (replicate 8 (pos 0))) 49
+  -- any head is taken (request A6): level 255; boundary 5 at level 0; the largest of both, also with codes at resolution 1
+  level : strict (flat 1 1) (255 ∷ 255 ∷ 127 ∷ 128 ∷ 0 ∷ 0 ∷ 6 ∷ 204 ∷ []) ≡ accepted (headed 255 0 1) 35
+  boundary : strict (flat 1 1) (255 ∷ 255 ∷ 0 ∷ 5 ∷ 0 ∷ 0 ∷ 0 ∷ 156 ∷ []) ≡ accepted (headed 0 5 1) 35
+  largest : strict (flat 1 1) (255 ∷ 255 ∷ 255 ∷ 255 ∷ 0 ∷ 0 ∷ 0 ∷ 252 ∷ []) ≡ accepted (headed 511 127 1) 35
+  coarsest : strict (flat 1 1) (255 ∷ 255 ∷ 255 ∷ 255 ∷ 194 ∷ 216 ∷ 0 ∷ 0 ∷ 0 ∷ 0 ∷ 90 ∷ 191 ∷ [])
+      ≡ accepted (lone 511 127 5 (pos 1 ∷ negsuc 0 ∷ replicate 6 (pos 0))) 51
+  -- noise is not below 0: factor 1 has resolution 15 at noise 0 alone
+  finest : strict (flat 1 1) (255 ∷ 255 ∷ 0 ∷ 1 ∷ 192 ∷ 128 ∷ 16 ∷ 1 ∷ 0 ∷ 16 ∷ 1 ∷ 0 ∷ 16 ∷ 1 ∷ 0 ∷ 16 ∷ 1 ∷ 0 ∷ 236 ∷ 244 ∷ [])
+      ≡ accepted (lone 0 1 1 (replicate 8 (pos 1))) 137
   -- width 7; a width on a coded count of 0; the second channel's, after its factor
   seven : scan (flat 1 1) (head 0 0 (bits 3 7 ++ zeros 13)) ≡ faulty 11 32
   uncoded : scan (flat 1 0) (head 0 0 (bits 3 6 ++ zeros 13)) ≡ faulty 11 32
@@ -111,6 +131,9 @@ worked-frames = record {
   tie = refl;
   level = refl;
   boundary = refl;
+  largest = refl;
+  coarsest = refl;
+  finest = refl;
   seven = refl;
   uncoded = refl;
   other = refl;

@@ -2,10 +2,10 @@
 -- record is stored as. Assumes nothing.
 use mathlib.Core.Path.{_≡_, refl, sym, _∙_, ap}
 use mathlib.Core.List.{List, [], _++_}
-use mathlib.Core.Bool.{Bool, true, false, _&&_}
-use Prim.Native.Nat.{ℕ, zero, suc, _+_, _*_, _^_, _≤_, _<_}
+use mathlib.Core.Bool.{Bool, true, _&&_}
+use Prim.Native.Nat.{ℕ, _+_, _*_, _^_, _≤_, _<_}
 use native.Mathlib.Omega.{arith}
-use borrow.Author.Tests.{lt-ltb, le-ltb, le-leb, lt-leb, eq-eqb, ltb-true, ltb-false, leb-true, eqb-true}
+use borrow.Author.Tests.{lt-ltb, le-ltb, le-leb, eq-eqb, ltb-true, ltb-false, leb-true, eqb-true}
 use lib.Dec.{leb, ltb}
 use lib.IntN.{ℤ, pos, negsuc, natAbs}
 use lib.ListN.{length, take, drop, getD, length-map, List·getD-map}
@@ -28,21 +28,18 @@ use Rattle.rules.proofs.Stores.{coded-few, length-resolutions, factors-
 
 pub head-legal : (level boundary : ℕ) → legalHead level boundary ≡ true → LegalHead level boundary
 unfolding legalHead
-head-legal level boundary e =
-    let e₂ = and-snd (leb level 254) _ e in
-    let e₃ = and-snd (leb boundary 127) _ e₂ in
-    record {
-      levels = leb-true _ _ (and-fst (leb level 254) _ e);
-      boundaries = leb-true _ _ (and-fst (leb boundary 127) _ e₂);
-      silent = λ z. let n : leb 1 level ≡ false = lt-leb 1 level (omega arith) in eqb-true _ _ (rw n at e₃);
-    }
+head-legal level boundary e = record {
+  levels = leb-true level 511 (and-fst (leb level 511) (leb boundary 127) e);
+  boundaries = leb-true boundary 127 (and-snd (leb level 511) (leb boundary 127) e);
+}
 
 pub legal-head : (level boundary : ℕ) → LegalHead level boundary → legalHead level boundary ≡ true
 unfolding legalHead
-legal-head zero boundary h = and-true refl (and-true (le-leb _ _ (h .boundaries)) (eq-eqb _ _ (h .silent refl)))
-legal-head (suc n) boundary h =
-    let e : leb 1 (suc n) ≡ true = le-leb 1 (suc n) (omega arith) in
-    and-true (le-leb _ _ (h .levels)) (and-true (le-leb _ _ (h .boundaries)) (rw e))
+legal-head level boundary h = and-true (le-leb _ _ (h .levels)) (le-leb _ _ (h .boundaries))
+
+-- A head that was legal under document 01 (level 0..254; boundary 0..127, 0 at level 0) is legal.
+pub head-kept : (level boundary : ℕ) → level ≤ 254 → boundary ≤ 127 → (level ≡ 0 → boundary ≡ 0) → LegalHead level boundary
+head-kept level boundary h g _ = record { levels = omega arith; boundaries = g }
 
 -- n values of k below m, the others 0
 module _ (n m k : ℕ) (xs : List ℕ) where

@@ -268,6 +268,7 @@ module _ (l : Layout) (spectra : List Float) (is : List ℕ) where
   unfolding made madeFrom
   made-boundary = boundary-of-le _ _
 
+  -- the stage's habit, which a legal record need not have
   pub made-silent : made l spectra is .found .level ≡ 0 → made l spectra is .boundary ≡ 0
   unfolding made madeFrom
   made-silent e = boundary-silent _ _ e
@@ -277,7 +278,7 @@ module _ (l : Layout) (spectra : List Float) (is : List ℕ) where
       → Held l (made l spectra is .found .level) (made l spectra is .boundary) (made l spectra is .found .factors) (made l spectra is .side) (made l spectra is .codes)
   unfolding made madeFrom
   made-held z small h codes = record {
-    head = record { levels = h; boundaries = made-boundary; silent = made-silent };
+    head = record { levels = omega arith; boundaries = made-boundary };
     factors = λ c i k g. let q = coded-few l z c in let v = made-fine .held c i k (omega arith) in omega arith;
     side = side-below l spectra _ is small;
     codes = codes;

@@ -61,21 +61,14 @@ signed (suc n) = number 1 >>= λ b. pure (cond (eqb b 0) (pos (suc n)) (negsuc n
 unfoldable pub readCode : (resolution : ℕ) → Reader ℤ
 readCode r = cond (eqb r 0) (pure (pos 0)) (cond (ltb r 8) (oneOf (smallBits r) (codesTo r)) (asOne (number (magnitudeBits r) >>= signed)))
 
--- Refusal 10: level above 254, boundary not 0 at level 0
-abbrev pub readLevel : Reader ℕ
-readLevel = here λ l. require 10 l (λ v. leb v 254) (number 9)
-
-abbrev pub readBoundary : (level : ℕ) → Reader ℕ
-readBoundary level = here λ l. require 10 l (λ v. leb 1 level || eqb v 0) (number 7)
-
 -- Refusal 9: sync not FFFF
 abbrev pub readSync : Reader ℕ
 readSync = here λ l. require 9 l (λ v. eqb v 0xFFFF) (number 16)
 
--- what follows the sync
+-- what follows the sync; any level and any boundary is taken (request A6: refusal 10 is withdrawn)
 unfoldable pub readRecord : (l : Layout) → Reader Rec
 readRecord l =
-    (readLevel ⊗ λ level. readBoundary level ⊗ λ boundary. each (readChannel l) (kindsOf l) ⊗ λ chans.
+    (number 9 ⊗ λ level. number 7 ⊗ λ boundary. each (readChannel l) (kindsOf l) ⊗ λ chans.
     each (λ _. each (each readCode) (resolutions level boundary chans)) (times 8))
     >>= λ x. pure (record { level = x .0; boundary = x .1 .0; chans = x .1 .1 .0; codes = x .1 .1 .1 })
 

@@ -1,7 +1,7 @@
 -- Document 01, **Legal record**: a record, when it is legal, and how it lies in the lent buffers.
 use mathlib.Core.Path.{_≡_}
 use mathlib.Core.List.{List, [], _++_, map}
-use mathlib.Core.Bool.{Bool, cond, _&&_, _||_}
+use mathlib.Core.Bool.{Bool, cond, _&&_}
 use Prim.Native.Nat.{ℕ, _+_, _*_, _^_, _≤_, _<_}
 use lib.Dec.{leb, ltb, eqb}
 use lib.IntN.{ℤ, pos, natAbs}
@@ -26,11 +26,10 @@ pub record Rec : Type 0 where
   -- by subframe, channel and coded band: the frame's order
   pub codes : List (List (List ℤ))
 
--- Level 0..254; boundary 0..127, 0 at level 0
+-- Level 0..511, boundary 0..127 (request A6): whatever their fields hold
 pub record LegalHead (level boundary : ℕ) : Type 0 where
-  pub levels : level ≤ 254
+  pub levels : level ≤ 511
   pub boundaries : boundary ≤ 127
-  pub silent : level ≡ 0 → boundary ≡ 0
 
 -- code magnitude at most r at resolution r below 8, else the clamp of **Code**
 unfoldable pub codeRange : (resolution : ℕ) → ℕ
@@ -91,7 +90,7 @@ storeCodes l r = blocks (λ c. blocks (λ s. pad (pos 0) 128 (getD (getD (r .cod
 
 -- LEGAL AS A TEST on the buffers: what is written is in its range, everything unwritten is 0
 unfoldable pub legalHead : (level boundary : ℕ) → Bool
-legalHead level boundary = leb level 254 && (leb boundary 127 && (leb 1 level || eqb boundary 0))
+legalHead level boundary = leb level 511 && leb boundary 127
 
 -- the first n of a row's values lie below m, and the others are 0
 unfoldable pub legalRow : (count below size : ℕ) (row : List ℕ) → Bool

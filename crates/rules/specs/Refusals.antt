@@ -31,14 +31,13 @@ writerOutcome write.ShortBuffer = refused 2 0
 writerOutcome write.NotLegal = refused 15 0
 writerOutcome write.TooLong = refused 7 0
 
--- 1, 2, 8, 9, then the first fault in bit order, 14 last
+-- 1, 2, 8, 9, then the first fault in bit order, 14 last; 10 is withdrawn (request A6) and stands for nothing else
 unfoldable pub readerOutcome : (answer : ReadAnswer) → Outcome
 readerOutcome (read.Delivered level boundary bits) = delivered (level ∷ boundary ∷ bits ∷ [])
 readerOutcome read.BadLayout = refused 1 0
 readerOutcome read.ShortBuffer = refused 2 0
 readerOutcome read.WrongCheck = refused 8 0
 readerOutcome read.WrongSync = refused 9 0
-readerOutcome (read.BadLevel bit) = refused 10 bit
 readerOutcome (read.BadWidth bit) = refused 11 bit
 readerOutcome (read.BadFactor bit) = refused 12 bit
 readerOutcome (read.PastEnd bit) = refused 13 bit

@@ -67,7 +67,6 @@ pub enum ReadAnswer {
     ShortBuffer,
     WrongCheck,
     WrongSync,
-    BadLevel(usize),
     BadWidth(usize),
     BadFactor(usize),
     PastEnd(usize),

@@ -1,24 +1,23 @@
 -- A record's fields are read back, and the scan takes just the payloads of legal records. Assumes nothing.
 use mathlib.Core.Path.{_≡_, refl, sym, _∙_, ap, subst}
 use mathlib.Core.List.{List, [], _∷_, _++_}
-use mathlib.Core.Bool.{Bool, true, false, _||_}
+use mathlib.Core.Bool.{Bool, true, false}
 use mathlib.Core.Option.{Option, none, some}
-use Prim.Native.Nat.{ℕ, zero, suc, _+_, _-_, _^_, _≤_, _<_}
+use Prim.Native.Nat.{ℕ, zero, suc, _+_, _-_, _≤_}
 use native.Mathlib.Omega.{arith}
-use borrow.Author.Tests.{le-leb}
 use lib.ListN.{length, length-append, length-replicate}
-use lib.Dec.{T, leb, eqb, leb→le, eqb→eq}
+use lib.Dec.{eqb, eqb→eq}
 use Rattle.bits.specs.Bits.{bits, zeros}
 use Rattle.rules.specs.Format.{Read, ok, bad, Reader, each, eachBits, Each, stay, times, Lawful}
 use Rattle.rules.specs.Layout.{kindsOf, codedCount, sideCount, sideWidth}
 use Rattle.rules.specs.Record.{Rec, LegalChan, Legal, resolutions}
 use Rattle.rules.specs.Fields.{channelFields, codeBits, fields}
 use Rattle.rules.specs.Frame.{fieldEnd, filledFields}
-use Rattle.rules.specs.Reading.{readChannel, readLevel, readBoundary, readRecord, readFields, firstOne, accepted, afterFill, afterFields, scan}
+use Rattle.rules.specs.Reading.{readChannel, readRecord, readFields, firstOne, accepted, afterFill, afterFields, scan}
 use Rattle.rules.specs.declared.ChannelType.{ChannelType}
 use Rattle.rules.specs.declared.Layout.{Layout}
 use Rattle.rules.proofs.Formats.{iff-fits, here-fits, bind-fits, check-fits, map-fits, pair-fits, walk-fits}
-use Rattle.rules.proofs.Numbers.{leb-case, number-fits}
+use Rattle.rules.proofs.Numbers.{number-fits}
 use Rattle.rules.proofs.Codes.{code-fits}
 use Rattle.rules_demands.proofs.Factors.{width-fits}
 
@@ -31,22 +30,6 @@ channel-fits l k =
     iff-fits (λ c. ((λ h. record { factors = h .0; side = h .1 }), (λ h. (h .factors, h .side))))
     (map-fits (λ c. (c .factors, c .side)) (λ x. record { factors = x .0; side = x .1 }) (λ x. refl) (λ c. refl)
     (pair-fits (width-fits (codedCount l k)) (λ fs _. each-fits (λ _. number-fits (sideWidth k)) (times (sideCount l k)))))
-
-pub level-fits : Lawful (λ v. v ≤ 254) (bits 9) readLevel
-level-fits =
-    here-fits (λ l. iff-fits (λ v. ((λ h. leb→le v 254 (h .1)), (λ h. (omega arith, rw (le-leb v 254 h) tt))))
-    (check-fits 10 l (λ v. leb v 254) (number-fits 9)))
-
-pub boundary-fits : (level : ℕ) → Lawful (λ v. (v ≤ 127) × (level ≡ 0 → v ≡ 0)) (bits 7) (readBoundary level)
-boundary-fits level =
-    here-fits (λ l. iff-fits (λ v. (to v, from v))
-    (check-fits 10 l (λ v. leb 1 level || eqb v 0) (number-fits 7)))
-  where
-    to : (v : ℕ) → (v < 2 ^ 7) × T (leb 1 level || eqb v 0) → (v ≤ 127) × (level ≡ 0 → v ≡ 0)
-    to v h = (omega arith, λ e. eqb→eq v 0 (rw e at (h .1)))
-
-    from : (v : ℕ) → (v ≤ 127) × (level ≡ 0 → v ≡ 0) → (v < 2 ^ 7) × T (leb 1 level || eqb v 0)
-    from v h = (omega arith, leb-case (λ b. T (b || eqb v 0)) 1 level (λ _. tt) (λ g. rw (h .1 (omega arith)) tt))
 
 -- what follows the sync
 unfoldable pub recordFields : Layout → Rec → List Bool
@@ -62,12 +45,12 @@ pub record-fits : (l : Layout) → Lawful (Legal l) (recordFields l) (readRecord
 unfolding recordFields readRecord
 record-fits l =
     iff-fits (λ r. (
-      (λ h. record { head = record { levels = h .0; boundaries = h .1 .0 .0; silent = h .1 .0 .1 }; chans = h .1 .1 .0; codes = h .1 .1 .1 }),
-      (λ h. (h .head .levels, ((h .head .boundaries, h .head .silent), (h .chans, h .codes)))),
+      (λ h. record { head = record { levels = omega arith; boundaries = omega arith }; chans = h .1 .1 .0; codes = h .1 .1 .1 }),
+      (λ h. (omega (arith, h .head .levels), (omega (arith, h .head .boundaries), (h .chans, h .codes)))),
     ))
     (map-fits (λ r. (r .level, (r .boundary, (r .chans, r .codes))))
     (λ x. record { level = x .0; boundary = x .1 .0; chans = x .1 .1 .0; codes = x .1 .1 .1 }) (λ x. refl) (λ r. refl)
-    (pair-fits level-fits (λ level _. pair-fits (boundary-fits level) (λ boundary _. pair-fits (each-fits (channel-fits l) (kindsOf l)) (λ chans _.
+    (pair-fits (number-fits 9) (λ level _. pair-fits (number-fits 7) (λ boundary _. pair-fits (each-fits (channel-fits l) (kindsOf l)) (λ chans _.
     each-fits (λ _. each-fits (each-fits code-fits) (resolutions level boundary chans)) (times 8))))))
 
 pub fields-fits : (l : Layout) → Lawful (Legal l) (fields l) (readFields l)

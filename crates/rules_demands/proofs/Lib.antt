@@ -6,6 +6,7 @@ pub mod Demand3
 pub mod Deliveries
 pub mod Calls
 pub mod WriterAnswers
+pub mod Heads
 pub mod StageAnswers
 pub mod StageCalls
 pub mod Outcomes

@@ -49,9 +49,8 @@ readAnswer : Outcome → ReadAnswer
 readAnswer (delivered xs) = read-of.Delivered (getD xs 0 0) (getD xs 1 0) (getD xs 2 0)
 readAnswer (refused n k) =
     getD (read-of.BadLayout ∷ read-of.ShortBuffer ∷ []) (n - 1)
-    (getD
-    (read-of.WrongCheck ∷ read-of.WrongSync ∷ read-of.BadLevel k ∷ read-of.BadWidth k ∷ read-of.BadFactor k ∷ read-of.PastEnd k ∷ [])
-    (n - 8) (read-of.FillNotZero k))
+    (getD (read-of.WrongCheck ∷ read-of.WrongSync ∷ []) (n - 8)
+    (getD (read-of.BadWidth k ∷ read-of.BadFactor k ∷ read-of.PastEnd k ∷ []) (n - 11) (read-of.FillNotZero k)))
 
 read-told : (a : ReadAnswer) → readAnswer (readerOutcome a) ≡ a
 unfolding readAnswer readerOutcome
@@ -60,7 +59,6 @@ read-told read-of.BadLayout = refl
 read-told read-of.ShortBuffer = refl
 read-told read-of.WrongCheck = refl
 read-told read-of.WrongSync = refl
-read-told (read-of.BadLevel bit) = refl
 read-told (read-of.BadWidth bit) = refl
 read-told (read-of.BadFactor bit) = refl
 read-told (read-of.PastEnd bit) = refl

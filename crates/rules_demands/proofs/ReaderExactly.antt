@@ -1,4 +1,4 @@
--- Demand 1 for the strict reader as it is called: refusals 1, 2, 8 and 9 come exactly when the scope says; a refusal is one of 1, 2 and 8 to 14,
+-- Demand 1 for the strict reader as it is called: refusals 1, 2, 8 and 9 come exactly when the scope says; a refusal is one of 1, 2, 8, 9 and 11 to 14,
 -- and what it leaves goes by its number. Assumes nothing.
 use mathlib.Core.Path.{_≡_, sym, _∙_, ap}
 use mathlib.Core.List.{List, [], _∷_, _++_, append-assoc}
@@ -49,7 +49,7 @@ sync-bytes (x ∷ y ∷ g) b h = (
 -- ---- THE READER
 
 -- a scan's number, where it refuses from the level on
-scanned-number : (l : Layout) (x : Scanned) → From 10 x → (n k : ℕ) → scannedLeft l x .outcome ≡ refused n k → (10 ≤ n) × (n ≤ 14)
+scanned-number : (l : Layout) (x : Scanned) → From 11 x → (n k : ℕ) → scannedLeft l x .outcome ≡ refused n k → (11 ≤ n) × (n ≤ 14)
 unfolding scannedLeft
 scanned-number l (accepted r m) w n k e = let z : _≡_ {A = ℕ} 0 1 = cc e in absurd (omega arith)
 scanned-number l (faulty a b) w n k e = let z : a ≡ n = ap numberOf e in rw z at w
@@ -72,7 +72,7 @@ module _ (l : Layout) (u : ReaderLent) where
   judged : (P : Outcome → Type 0) → (legalLayout l ≡ false → P (refused 1 0)) → (legalLayout l ≡ true → readerRoom l u ≡ false → P (refused 2 0))
       → (legalLayout l ≡ true → readerRoom l u ≡ true → isSealed bytesOf ≡ false → P (refused 8 0))
       → (legalLayout l ≡ true → readerRoom l u ≡ true → isSealed bytesOf ≡ true → (sync ≡ 0xFFFF → ⊥) → P (refused 9 0))
-      → (legalLayout l ≡ true → readerRoom l u ≡ true → (x : Scanned) → From 10 x → P (scannedLeft l x .outcome)) → P (read l u .outcome)
+      → (legalLayout l ≡ true → readerRoom l u ≡ true → (x : Scanned) → From 11 x → P (scannedLeft l x .outcome)) → P (read l u .outcome)
   unfolding read strict scannedLeft
   judged P one two eight nine rest =
       let Q : ReaderLeft → Type 0 = λ x. P (x .outcome) in
@@ -85,7 +85,7 @@ module _ (l : Layout) (u : ReaderLent) where
       (λ e. rw (scan-no-sync l (bitsOf (body bytesOf)) (bits-long (not-false _ a) (not-false _ m)) e) (nine (not-false _ a) (not-false _ m) c e)))
       (λ c. eight (not-false _ a) (not-false _ m) c)))
 
-  later-differs : {A : Type 0} (n k : ℕ) → n ≤ 9 → legalLayout l ≡ true → readerRoom l u ≡ true → (x : Scanned) → From 10 x → scannedLeft l x .outcome ≡ refused n k → A
+  later-differs : {A : Type 0} (n k : ℕ) → n ≤ 9 → legalLayout l ≡ true → readerRoom l u ≡ true → (x : Scanned) → From 11 x → scannedLeft l x .outcome ≡ refused n k → A
   later-differs n k h _ _ x w e = absurd (omega (arith, scanned-number l x w n k e))
 
   -- Refusal 1: the layout is outside the limits.
@@ -134,12 +134,12 @@ module _ (l : Layout) (u : ReaderLent) where
     (λ x. let (a, m, c, h, q) = x in rw (a, m, c, scan-no-sync l (bitsOf (body bytesOf)) (bits-long a m) (λ e. h (sync-lent a m b .0 e)), q)),
   )
 
-  -- Every refusal is 1, 2 or one of 8 to 14.
-  pub read-numbers : (n k : ℕ) → read l u .outcome ≡ refused n k → (n ≡ 1) ⊎ ((n ≡ 2) ⊎ ((8 ≤ n) × (n ≤ 14)))
+  -- Every refusal is 1, 2, 8, 9 or one of 11 to 14.
+  pub read-numbers : (n k : ℕ) → read l u .outcome ≡ refused n k → (n ≡ 1) ⊎ ((n ≡ 2) ⊎ ((8 ≤ n) × (n ≤ 14) × (n ≡ 10 → ⊥)))
   read-numbers n k =
-      judged (λ o. o ≡ refused n k → (n ≡ 1) ⊎ ((n ≡ 2) ⊎ ((8 ≤ n) × (n ≤ 14)))) (λ _ e. inl (sym (ap numberOf e))) (λ _ _ e. inr (inl (sym (ap numberOf e))))
-      (λ _ _ _ e. let z = ap numberOf e in inr (inr (omega arith, omega arith))) (λ _ _ _ _ e. let z = ap numberOf e in inr (inr (omega arith, omega arith)))
-      (λ _ _ x w e. let (h, g) = scanned-number l x w n k e in inr (inr (omega arith, g)))
+      judged (λ o. o ≡ refused n k → (n ≡ 1) ⊎ ((n ≡ 2) ⊎ ((8 ≤ n) × (n ≤ 14) × (n ≡ 10 → ⊥)))) (λ _ e. inl (sym (ap numberOf e))) (λ _ _ e. inr (inl (sym (ap numberOf e))))
+      (λ _ _ _ e. let z = ap numberOf e in inr (inr (omega arith, omega arith, λ q. omega arith))) (λ _ _ _ _ e. let z = ap numberOf e in inr (inr (omega arith, omega arith, λ q. omega arith)))
+      (λ _ _ x w e. let (h, g) = scanned-number l x w n k e in inr (inr (omega arith, g, λ q. omega arith)))
 
   -- 1 and 2 keep every buffer; 8 to 14 clear the stated lengths of all three.
   pub read-leaves : (n k : ℕ) → read l u .outcome ≡ refused n k
@@ -159,4 +159,4 @@ module _ (l : Layout) (u : ReaderLent) where
 
   -- no refusal has the number 0
   pub read-number : (n k : ℕ) → read l u .outcome ≡ refused n k → 0 < n
-  read-number n k e = ⊎-elim (λ (z : n ≡ 1). omega arith) (λ x. ⊎-elim (λ (z : n ≡ 2). omega arith) (λ (z : (8 ≤ n) × (n ≤ 14)). omega (arith, z .0)) x) (read-numbers n k e)
+  read-number n k e = ⊎-elim (λ (z : n ≡ 1). omega arith) (λ x. ⊎-elim (λ (z : n ≡ 2). omega arith) (λ (z : (8 ≤ n) × (n ≤ 14) × (n ≡ 10 → ⊥)). omega (arith, z .0)) x) (read-numbers n k e)

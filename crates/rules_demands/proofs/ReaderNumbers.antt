@@ -1,4 +1,4 @@
--- The numbers with which the strict reader refuses a frame: 8 the check, 9 the sync, 10 to 13 the fields, 14 the fill. Assumes nothing.
+-- The numbers with which the strict reader refuses a frame: 8 the check, 9 the sync, 11 to 13 the fields, 14 the fill. Assumes nothing.
 use mathlib.Core.Path.{_≡_, ap}
 use mathlib.Core.List.{List, [], _∷_}
 use mathlib.Core.Bool.{Bool, true, false, cond, not, _&&_, _||_}
@@ -18,7 +18,7 @@ use Rattle.rules.specs.Width.{near, width}
 use Rattle.rules.specs.Code.{magnitudeBits}
 use Rattle.rules.specs.Record.{Chan, Rec, resolutions}
 use Rattle.rules.specs.Fields.{asPrevious, smallBits}
-use Rattle.rules.specs.Reading.{deltaFactor, readDelta, readFactor, readFactors, readWidth, readChannel, codesTo, signed, readCode, readLevel, readBoundary, readRecord, readFields, firstOne, Scanned, accepted, faulty, afterFill, afterFields, scan}
+use Rattle.rules.specs.Reading.{deltaFactor, readDelta, readFactor, readFactors, readWidth, readChannel, codesTo, signed, readCode, readRecord, readFields, firstOne, Scanned, accepted, faulty, afterFill, afterFields, scan}
 use Rattle.rules.specs.declared.ChannelType.{ChannelType}
 use Rattle.rules.specs.declared.Layout.{Layout}
 
@@ -76,55 +76,49 @@ module _ (a : ℕ) where
     one-of-refuses w [] s = (small, omega arith)
     one-of-refuses w (c ∷ cs) s = or-else-within (strip (w c) s) c (oneOf w cs s) (one-of-refuses w cs s)
 
--- ---- the fields refuse with 10 to 13
+-- ---- the fields refuse with 11 to 13
 
-few : 10 ≤ 13
+few : 11 ≤ 13
 few = omega arith
 
-delta-refuses : (d previous : ℕ) → Refuses 10 (readDelta d previous)
+delta-refuses : (d previous : ℕ) → Refuses 11 (readDelta d previous)
 delta-refuses d previous s =
-    bind-refuses 10 (number d) _ (number-refuses 10 few d)
-    (λ v. cond-both {A = Reader ℕ} (Refuses 10) (eqb v (2 ^ d - 1))
-    (λ _. require-refuses 10 12 (length s) (λ f. not (near d previous f)) (number 6) (omega arith) (omega arith) (number-refuses 10 few 6))
-    (λ _. keep-refuses 10 12 (length s) (leZ (pos 0) (deltaFactor d previous v) && leZ (deltaFactor d previous v) (pos 63)) (natAbs (deltaFactor d previous v)) (omega arith) (omega arith))) s
+    bind-refuses 11 (number d) _ (number-refuses 11 few d)
+    (λ v. cond-both {A = Reader ℕ} (Refuses 11) (eqb v (2 ^ d - 1))
+    (λ _. require-refuses 11 12 (length s) (λ f. not (near d previous f)) (number 6) (omega arith) (omega arith) (number-refuses 11 few 6))
+    (λ _. keep-refuses 11 12 (length s) (leZ (pos 0) (deltaFactor d previous v) && leZ (deltaFactor d previous v) (pos 63)) (natAbs (deltaFactor d previous v)) (omega arith) (omega arith))) s
 
-factor-refuses : (w : ℕ) (previous : Option ℕ) → Refuses 10 (readFactor w previous)
-factor-refuses w none = number-refuses 10 few 6
-factor-refuses w (some previous) = cond-both {A = Reader ℕ} (Refuses 10) (eqb w 6) (λ _. number-refuses 10 few 6) (λ _. delta-refuses w previous)
+factor-refuses : (w : ℕ) (previous : Option ℕ) → Refuses 11 (readFactor w previous)
+factor-refuses w none = number-refuses 11 few 6
+factor-refuses w (some previous) = cond-both {A = Reader ℕ} (Refuses 11) (eqb w 6) (λ _. number-refuses 11 few 6) (λ _. delta-refuses w previous)
 
-factors-refuse : (w n : ℕ) → Refuses 10 (readFactors w n)
+factors-refuse : (w n : ℕ) → Refuses 11 (readFactors w n)
 factors-refuse zero n = λ _. tt
-factors-refuse (suc w) n = walk-refuses 10 asPrevious (λ previous _. readFactor (suc w) previous) (λ previous _. factor-refuses (suc w) previous) none (times n)
+factors-refuse (suc w) n = walk-refuses 11 asPrevious (λ previous _. readFactor (suc w) previous) (λ previous _. factor-refuses (suc w) previous) none (times n)
 
-width-refuses : (n : ℕ) → Refuses 10 (readWidth n)
+width-refuses : (n : ℕ) → Refuses 11 (readWidth n)
 width-refuses n s =
-    bind-refuses 10 (require 11 (length s) (λ w. leb w 6 && (leb 1 n || eqb w 0)) (number 3)) _
-    (require-refuses 10 11 (length s) (λ w. leb w 6 && (leb 1 n || eqb w 0)) (number 3) (omega arith) (omega arith) (number-refuses 10 few 3))
-    (λ w. require-refuses 10 11 (length s) (λ fs. eqb (width fs) w) (readFactors w n) (omega arith) (omega arith) (factors-refuse w n)) s
+    bind-refuses 11 (require 11 (length s) (λ w. leb w 6 && (leb 1 n || eqb w 0)) (number 3)) _
+    (require-refuses 11 11 (length s) (λ w. leb w 6 && (leb 1 n || eqb w 0)) (number 3) (omega arith) (omega arith) (number-refuses 11 few 3))
+    (λ w. require-refuses 11 11 (length s) (λ fs. eqb (width fs) w) (readFactors w n) (omega arith) (omega arith) (factors-refuse w n)) s
 
-channel-refuses : (l : Layout) (k : ChannelType) → Refuses 10 (readChannel l k)
+channel-refuses : (l : Layout) (k : ChannelType) → Refuses 11 (readChannel l k)
 channel-refuses l k =
-    bind-refuses 10 (readWidth (codedCount l k) ⊗ λ _. each (λ _. number (sideWidth k)) (times (sideCount l k))) _
-    (pair-refuses 10 (readWidth (codedCount l k)) (λ _. each (λ _. number (sideWidth k)) (times (sideCount l k))) (width-refuses (codedCount l k))
-    (λ _. each-refuses 10 (λ _. number (sideWidth k)) (λ _. number-refuses 10 few (sideWidth k)) (times (sideCount l k))))
+    bind-refuses 11 (readWidth (codedCount l k) ⊗ λ _. each (λ _. number (sideWidth k)) (times (sideCount l k))) _
+    (pair-refuses 11 (readWidth (codedCount l k)) (λ _. each (λ _. number (sideWidth k)) (times (sideCount l k))) (width-refuses (codedCount l k))
+    (λ _. each-refuses 11 (λ _. number (sideWidth k)) (λ _. number-refuses 11 few (sideWidth k)) (times (sideCount l k))))
     (λ _ _. tt)
 
-signed-refuses : (n : ℕ) → Refuses 10 (signed n)
+signed-refuses : (n : ℕ) → Refuses 11 (signed n)
 signed-refuses zero = λ _. tt
-signed-refuses (suc n) = bind-refuses 10 (number 1) (λ b. pure (cond (eqb b 0) (pos (suc n)) (negsuc n))) (number-refuses 10 few 1) (λ _ _. tt)
+signed-refuses (suc n) = bind-refuses 11 (number 1) (λ b. pure (cond (eqb b 0) (pos (suc n)) (negsuc n))) (number-refuses 11 few 1) (λ _ _. tt)
 
-code-refuses : (r : ℕ) → Refuses 10 (readCode r)
+code-refuses : (r : ℕ) → Refuses 11 (readCode r)
 unfolding readCode
 code-refuses r =
-    cond-both {A = Reader ℤ} (Refuses 10) (eqb r 0) (λ _ _. tt)
-    (λ _. cond-both {A = Reader ℤ} (Refuses 10) (ltb r 8) (λ _. one-of-refuses 10 few (smallBits r) (codesTo r))
-    (λ _ s. from-within 10 (length s) ((number (magnitudeBits r) >>= signed) s) (bind-refuses 10 (number (magnitudeBits r)) signed (number-refuses 10 few (magnitudeBits r)) signed-refuses s)))
-
-level-refuses : Refuses 10 readLevel
-level-refuses s = require-refuses 10 10 (length s) (λ v. leb v 254) (number 9) (omega arith) (omega arith) (number-refuses 10 few 9) s
-
-boundary-refuses : (level : ℕ) → Refuses 10 (readBoundary level)
-boundary-refuses level s = require-refuses 10 10 (length s) (λ v. leb 1 level || eqb v 0) (number 7) (omega arith) (omega arith) (number-refuses 10 few 7) s
+    cond-both {A = Reader ℤ} (Refuses 11) (eqb r 0) (λ _ _. tt)
+    (λ _. cond-both {A = Reader ℤ} (Refuses 11) (ltb r 8) (λ _. one-of-refuses 11 few (smallBits r) (codesTo r))
+    (λ _ s. from-within 11 (length s) ((number (magnitudeBits r) >>= signed) s) (bind-refuses 11 (number (magnitudeBits r)) signed (number-refuses 11 few (magnitudeBits r)) signed-refuses s)))
 
 -- what follows the level, the boundary and the channels
 abbrev codesNext : ℕ → ℕ → List Chan → Reader (List (List (List ℤ)))
@@ -134,21 +128,21 @@ abbrev chansNext : Layout → ℕ → ℕ → Reader (List Chan × List (List (L
 chansNext l level boundary = each (readChannel l) (kindsOf l) ⊗ codesNext level boundary
 
 abbrev boundaryNext : Layout → ℕ → Reader (ℕ × (List Chan × List (List (List ℤ))))
-boundaryNext l level = readBoundary level ⊗ chansNext l level
+boundaryNext l level = number 7 ⊗ chansNext l level
 
-codes-refuse : (level boundary : ℕ) (chans : List Chan) → Refuses 10 (codesNext level boundary chans)
+codes-refuse : (level boundary : ℕ) (chans : List Chan) → Refuses 11 (codesNext level boundary chans)
 codes-refuse level boundary chans =
-    each-refuses 10 (λ _. each (each readCode) (resolutions level boundary chans))
-    (λ _. each-refuses 10 (each readCode) (each-refuses 10 readCode code-refuses) (resolutions level boundary chans)) (times 8)
+    each-refuses 11 (λ _. each (each readCode) (resolutions level boundary chans))
+    (λ _. each-refuses 11 (each readCode) (each-refuses 11 readCode code-refuses) (resolutions level boundary chans)) (times 8)
 
 -- what follows the sync
-record-refuses : (l : Layout) → Refuses 10 (readRecord l)
+record-refuses : (l : Layout) → Refuses 11 (readRecord l)
 unfolding readRecord
 record-refuses l =
-    bind-refuses 10 (readLevel ⊗ boundaryNext l) (λ x. pure (record { level = x .0; boundary = x .1 .0; chans = x .1 .1 .0; codes = x .1 .1 .1 }))
-    (pair-refuses 10 readLevel (boundaryNext l) level-refuses
-    (λ level. pair-refuses 10 (readBoundary level) (chansNext l level) (boundary-refuses level)
-    (λ boundary. pair-refuses 10 (each (readChannel l) (kindsOf l)) (codesNext level boundary) (each-refuses 10 (readChannel l) (channel-refuses l) (kindsOf l))
+    bind-refuses 11 (number 9 ⊗ boundaryNext l) (λ x. pure (record { level = x .0; boundary = x .1 .0; chans = x .1 .1 .0; codes = x .1 .1 .1 }))
+    (pair-refuses 11 (number 9) (boundaryNext l) (number-refuses 11 few 9)
+    (λ level. pair-refuses 11 (number 7) (chansNext l level) (number-refuses 11 few 7)
+    (λ boundary. pair-refuses 11 (each (readChannel l) (kindsOf l)) (codesNext level boundary) (each-refuses 11 (readChannel l) (channel-refuses l) (kindsOf l))
     (codes-refuse level boundary))))
     (λ _ _. tt)
 
@@ -178,7 +172,7 @@ module _ (l : Layout) (s : List Bool) (long : 16 ≤ length s) where
   unfolding scan
   scan-no-sync h = rw (sync-is, ne-eqb (value (take 16 s)) 0xFFFF h) (ap (faulty 9) (omega arith))
 
-  -- Else a number from 10 to 14.
-  pub scan-sync : value (take 16 s) ≡ 0xFFFF → From 10 (scan l s)
+  -- Else a number from 11 to 14.
+  pub scan-sync : value (take 16 s) ≡ 0xFFFF → From 11 (scan l s)
   unfolding scan
-  scan-sync h = fields-from 10 (length s) (readFields l s) (omega arith) (rw (sync-is, eq-eqb (value (take 16 s)) 0xFFFF h) (record-refuses l (drop 16 s)))
+  scan-sync h = fields-from 11 (length s) (readFields l s) (omega arith) (rw (sync-is, eq-eqb (value (take 16 s)) 0xFFFF h) (record-refuses l (drop 16 s)))

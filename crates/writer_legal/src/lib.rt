@@ -18,16 +18,10 @@ use rules::side_count;
 fn legal_head(level: usize, boundary: usize) -> bool
     ensures { λ r. ⌜ r ≡ legalHead level boundary ⌝ }
 {
-    if 254 < level {
+    if 511 < level {
         return false;
     }
-    if 127 < boundary {
-        return false;
-    }
-    if 0 < level {
-        return true;
-    }
-    boundary == 0
+    boundary <= 127
 }
 
 fn legal_value(value: u8, written: bool, limit: u8) -> bool

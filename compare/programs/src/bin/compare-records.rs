@@ -2,7 +2,7 @@
 //! C++, every buffer whole. What the library's reader accepts, its writer has to
 //! write to the same bytes again.
 use compare::{differ, differ_answer, run, Options, Outcome};
-use gen::records::{calls, kind_of, Call, ReadCall, WriteCall, KINDS};
+use gen::records::{calls, heads, kind_of, Call, ReadCall, WriteCall, KINDS};
 use published::driver::{pattern_bytes, pattern_words};
 use published::hca::decoder::crc16_checksum;
 
@@ -112,6 +112,25 @@ fn check(bytes: &[u8], model: bool, counted: &mut Vec<String>) -> Option<String>
     })
 }
 
+/// All 65,536 heads on one layout: each is read, level and boundary as put, and written back to the same bytes.
+fn every_head(model: bool) -> bool {
+    for (put, call) in heads() {
+        let (mut factors, mut side, mut codes, mut answer) = ([0; 128], [0; 8], [0; 1024], [0; 4]);
+        let f = if model { hca_model::read_frame } else { hca_frame::raw::read_frame };
+        let number = f(&call.layout, &call.kinds, &call.frame, &mut factors, &mut side, &mut codes, &mut answer);
+        if number != 0 || answer[..2] != put {
+            println!("level and boundary {put:?} in {}: answered {number} {answer:?}", hex(&call.frame));
+            return false;
+        }
+        if let Some(difference) = read(&call, model, &mut Vec::new()) {
+            println!("level and boundary {put:?}:\n{difference}");
+            return false;
+        }
+    }
+    println!("65536 heads on one layout: each read as put and written back to the same bytes");
+    true
+}
+
 fn hex(bytes: &[u8]) -> String {
     bytes.iter().map(|b| format!("{b:02X}")).collect()
 }
@@ -135,5 +154,6 @@ fn main() {
         }
         Outcome { kind: KINDS[kind_of(k).0].0, counted, difference }
     });
+    let good = (o.only.is_some() || every_head(o.model)) && good;
     std::process::exit(if good { 0 } else { 1 });
 }

@@ -10,10 +10,9 @@ unfolding refusalOf readerOutcome
 read-refusal-spec =
     tie.close
     (tie.spec
-    (search needs) (search needs) (search needs) (search needs) (search needs)
-    (search needs) (search needs) (search needs) (search needs) (search needs)
-    (search needs) (search needs) (search needs) (search needs) (search needs)
-    (search needs) (search needs) (search needs) (search needs) (search needs)
+    (search needs) (search needs) (search needs) (search needs) (search needs) (search needs)
+    (search needs) (search needs) (search needs) (search needs) (search needs) (search needs)
+    (search needs) (search needs) (search needs) (search needs) (search needs) (search needs)
     (λ c. rw (c .before .enum-told .given .1) (c .refused .ensures))
     (λ c. rw (c .before .enum-told2 .given .1) (c .refused2 .ensures))
     (λ c. rw (c .before .enum-told3 .given .1) (c .refused3 .ensures))
@@ -22,5 +21,4 @@ read-refusal-spec =
     (λ c. rw (c .before .before .answer .given .1) (c .refused6 .ensures))
     (λ c. rw (c .before .before .answer2 .given .1) (c .refused7 .ensures))
     (λ c. rw (c .before .before .answer3 .given .1) (c .refused8 .ensures))
-    (λ c. rw (c .before .before .answer4 .given .1) (c .refused9 .ensures))
-    (λ c. rw (c .before .before .answer5 .given .1) (c .refused10 .ensures)))
+    (λ c. rw (c .before .before .answer4 .given .1) (c .refused9 .ensures)))

@@ -11,26 +11,20 @@ use Rattle.reader_frame.proofs.record.in_frame.Tie as tie
 enum-known-fault : tie.Need-enum-known-fault
 enum-known-fault c = search needs
 
-add-t7 : tie.Need-add-t7
-add-t7 c = omega (arith, subst (λ f. faultBit f ≤ 8 * 65535) (c .before .fault .given .1) (c .before .before .before .pre))
+add-t6 : tie.Need-add-t6
+add-t6 c = omega (arith, subst (λ f. faultBit f ≤ 8 * 65535) (c .before .fault .given .1) (c .before .before .before .pre))
 
 enum-known-fault-2 : tie.Need-enum-known-fault-2
 enum-known-fault-2 c = search needs
 
-add-t8 : tie.Need-add-t8
-add-t8 c = omega (arith, subst (λ f. faultBit f ≤ 8 * 65535) (c .before .fault2 .given .1) (c .before .before .before .pre))
+add-t7 : tie.Need-add-t7
+add-t7 c = omega (arith, subst (λ f. faultBit f ≤ 8 * 65535) (c .before .fault2 .given .1) (c .before .before .before .pre))
 
 enum-known-fault-3 : tie.Need-enum-known-fault-3
 enum-known-fault-3 c = search needs
 
-add-t9 : tie.Need-add-t9
-add-t9 c = omega (arith, subst (λ f. faultBit f ≤ 8 * 65535) (c .before .fault3 .given .1) (c .before .before .before .pre))
-
-enum-known-fault-4 : tie.Need-enum-known-fault-4
-enum-known-fault-4 c = search needs
-
-add-t10 : tie.Need-add-t10
-add-t10 c = omega (arith, subst (λ f. faultBit f ≤ 8 * 65535) (c .before .fault4 .given .1) (c .before .before .before .pre))
+add-t8 : tie.Need-add-t8
+add-t8 c = omega (arith, subst (λ f. faultBit f ≤ 8 * 65535) (c .before .fault3 .given .1) (c .before .before .before .pre))
 
 returns : tie.Need-returns
 unfolding readerOutcome
@@ -44,23 +38,16 @@ returns-3 : tie.Need-returns-3
 unfolding readerOutcome
 returns-3 c = ap (λ f. refused (faultNumber f) (faultBit f + 16)) (sym (c .before .fault3 .given .1))
 
-returns-4 : tie.Need-returns-4
-unfolding readerOutcome
-returns-4 c = ap (λ f. refused (faultNumber f) (faultBit f + 16)) (sym (c .before .fault4 .given .1))
-
 pub in-frame-spec : {M : Type 1} → statement M
 in-frame-spec =
     tie.close
     (tie.spec
     enum-known-fault
-    add-t7
+    add-t6
     enum-known-fault-2
-    add-t8
+    add-t7
     enum-known-fault-3
-    add-t9
-    enum-known-fault-4
-    add-t10
+    add-t8
     returns
     returns-2
-    returns-3
-    returns-4)
+    returns-3)
