@@ -33,7 +33,7 @@ static const uint8_t intensities[INTENSITIES] = {0}; /* only secondaries have th
 
 static int refused(const char *call, uint32_t refusal, const uint32_t *answer)
 {
-    fprintf(stderr, "%s: refusal %u at %u: %s\n", call, (unsigned)refusal, (unsigned)answer[0], hca_refusal_text(refusal));
+    fprintf(stderr, "%s: refusal %u, beside it %u: %s\n", call, (unsigned)refusal, (unsigned)answer[0], hca_refusal_text(refusal));
     return 1;
 }
 

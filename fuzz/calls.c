@@ -54,6 +54,24 @@ static void put(struct lent *b, const void *from, size_t bytes)
         memcpy(b->data, from, n);
 }
 
+/* A frame of the size that refusal 7 tells takes the record with so many bits, and one of a byte less refuses it alike. */
+static void has_room_at(const struct set *b, const struct shape *l, uint32_t bits, struct source *s)
+{
+    struct shape larger = *l;
+    larger.frame = (bits + 7) / 8 + 2;
+    if (larger.frame < 9 || larger.frame > 65535)
+        return; /* told already */
+    uint32_t number = write_again(&sets[1], &larger, b, words(&b->record), s);
+    if (number != 0 || words(&sets[1].answer)[2] != bits)
+        fault("refusal 7 beside %u, and %u bytes answer %u, %u bits", bits, larger.frame, number, words(&sets[1].answer)[2]);
+    take_back_write(&sets[1]);
+    larger.frame -= 1;
+    number = write_again(&sets[1], &larger, b, words(&b->record), s);
+    if (number != HCA_TOO_LONG || words(&sets[1].answer)[0] != bits)
+        fault("refusal 7 beside %u, and %u bytes answer %u, %u", bits, larger.frame, number, words(&sets[1].answer)[0]);
+    take_back_write(&sets[1]);
+}
+
 static void hostile_write(struct source *s)
 {
     struct set *b = &sets[0];
@@ -85,13 +103,8 @@ static void hostile_write(struct source *s)
             fault("the reader hands back another record than the writer was given");
         take_back_read(&sets[1]);
     }
-    if (number == HCA_TOO_LONG) { /* a frame with room for any record takes it, with more bits than fit here */
-        struct shape larger = l;
-        larger.frame = 8 + 1700 * l.channels;
-        if (write_again(&sets[1], &larger, b, words(&b->record), s) == 0 && words(&sets[1].answer)[2] <= 8 * (l.frame - 2))
-            fault("refusal 7 of a record of %u bits in %u bytes", words(&sets[1].answer)[2], l.frame);
-        take_back_write(&sets[1]);
-    }
+    if (number == HCA_TOO_LONG)
+        has_room_at(b, &l, words(&b->answer)[0], s);
     take_back_write(b);
 }
 

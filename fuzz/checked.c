@@ -246,6 +246,13 @@ static void check_stage_frame(const struct shape *l, const struct set *b, struct
     take_back_read(&sets[1]);
 }
 
+/* Beside refusal 7: more bits than the frame has before its check, and no more than any record has. */
+static void check_need(const struct shape *l, uint32_t bits)
+{
+    if (bits <= 8 * (l->frame - 2) || bits > longest_fields(l))
+        fault("refusal 7 beside %u in %u bytes", bits, l->frame);
+}
+
 uint32_t call_encode(struct set *b, struct source *s)
 {
     struct shape l = {0};
@@ -267,8 +274,8 @@ uint32_t call_encode(struct set *b, struct source *s)
     check_call(ENCODE, parts, 9, &b->answer, number, e, 1);
     if (works && number == HCA_NO_LEVEL && words(&b->answer)[0] != (l.start == 0 ? 0 : (l.start - 1) / 2))
         fault("refusal 5 after %u pairs of %u bands", words(&b->answer)[0], l.start);
-    if (works && number == HCA_TOO_LONG && words(&b->answer)[0] != 0)
-        fault("refusal 7 beside %u", words(&b->answer)[0]);
+    if (works && number == HCA_TOO_LONG)
+        check_need(&l, words(&b->answer)[0]);
     if (works && number == 0)
         check_stage_frame(&l, b, s);
     give_back_all(parts, 9, &b->answer);
@@ -300,8 +307,10 @@ uint32_t call_write(struct set *b, int first)
                          b->factors.data, b->factors.count, b->side.data, b->side.count, codes_of(&b->codes), b->codes.count,
                          b->frame.data, b->frame.count, words(&b->answer), b->answer.count);
     check_call(WRITE, parts, 7, &b->answer, number, e, first);
-    if (works && number != 0 && (number != HCA_TOO_LONG || words(&b->answer)[0] != 0))
+    if (works && number != 0 && number != HCA_TOO_LONG)
         fault("the writer refuses a legal record with %u beside %u", number, words(&b->answer)[0]);
+    if (works && number == HCA_TOO_LONG)
+        check_need(&l, words(&b->answer)[0]);
     if (works && number == 0)
         check_wrote(&l, b);
     return number;

@@ -73,6 +73,8 @@ uint32_t __wrap_hca_write_record(const uint32_t *layout, size_t layout_len, cons
                                               side_len, codes, codes_len, frame, frame_len, answer, answer_len);
     if (is_fault("refusal-7-leaves-a-byte") && number == 7)
         frame[0] = 0xFF;
+    if (is_fault("refusal-7-one-bit-less") && number == 7)
+        answer[0] -= 1;
     if (is_fault("refusal-15-clears") && number == 15)
         memset(frame, 0, layout[4]);
     if (is_fault("writer-takes-all") && number == 15)

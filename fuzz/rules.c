@@ -28,6 +28,8 @@ int shape_of(struct shape *out, const uint32_t *layout, size_t layout_len, const
 
 uint32_t coded_count(const struct shape *l, uint32_t channel) { return l->kinds[channel] == 2 ? l->base : l->start; }
 
+uint32_t longest_fields(const struct shape *l) { return 32 + l->channels * (1459 + 8 * 128 * 12); }
+
 uint32_t resolution(uint32_t factor, uint32_t level, uint32_t boundary, uint32_t band)
 {
     static const uint8_t curve[59] = {

@@ -100,7 +100,9 @@ enum hca_refusal {
     HCA_BAD_INTENSITY = 3,  /* a secondary's intensity is above 15; beside: index of the first in intensities */
     HCA_BAD_SPECTRUM = 4,   /* a spectrum value is NaN or infinite, in any band; beside: index of the first in spectra */
     HCA_NO_LEVEL = 5,       /* no level fits, even with bands removed: raise the frame size; beside: pairs removed */
-    HCA_TOO_LONG = 7,       /* the fields end past bit 8(F - 2): raise the frame size; beside: 0 */
+    HCA_TOO_LONG = 7,       /* the fields end past bit 8(F - 2); beside: the bits that all fields need.
+                               hca_write_record: a frame of (bits + 7) / 8 + 2 bytes has room for this record.
+                               hca_encode_frame: of the level found at this size; a larger frame is searched anew. */
     HCA_WRONG_CHECK = 8,    /* the check is wrong: damaged bytes, or another frame size; beside: 0 */
     HCA_WRONG_SYNC = 9,     /* the frame does not begin with FF FF; beside: 0 */
     HCA_BAD_WIDTH = 11,     /* width of the deltas is 7, or not the one that the writer chooses; beside: bit of the width */
@@ -120,7 +122,7 @@ static inline const char *hca_refusal_text(uint32_t refusal)
     case HCA_BAD_INTENSITY: return "a secondary's intensity is above 15";
     case HCA_BAD_SPECTRUM: return "a spectrum value is NaN or infinite";
     case HCA_NO_LEVEL: return "no noise level fits, even with bands removed: raise the frame size";
-    case HCA_TOO_LONG: return "the fields do not fit the frame: raise the frame size";
+    case HCA_TOO_LONG: return "the fields do not fit the frame; beside it stand the bits that they need";
     case HCA_WRONG_CHECK: return "the frame's check is wrong";
     case HCA_WRONG_SYNC: return "the frame does not begin with FF FF";
     case HCA_BAD_WIDTH: return "a width is not the one that the writer chooses";

@@ -524,7 +524,7 @@ extern "C" std::uint32_t model_write_record(const u32 *layout, std::size_t layou
         return refuse(2, 0, answer, answer_len);
     if (!is_legal(l, record[0], record[1], factors, side, codes)) return refuse(15, 0, answer, answer_len);
     u32 bits;
-    if (!put_frame(l, record[0], record[1], factors, side, codes, frame, bits)) return refuse(7, 0, answer, answer_len);
+    if (!put_frame(l, record[0], record[1], factors, side, codes, frame, bits)) return refuse(7, bits, answer, answer_len);
     answer[0] = record[0], answer[1] = record[1], answer[2] = bits;
     return 0;
 }
@@ -565,7 +565,7 @@ extern "C" std::uint32_t model_encode_frame(const u32 *layout, std::size_t layou
     if (number == 0) {
         boundary = find_boundary(w, level);
         find_codes(w, level, boundary);
-        if (!put_frame(l, level, boundary, w.factors[0], w.side[0], w.codes[0][0], frame, bits)) number = 7;
+        if (!put_frame(l, level, boundary, w.factors[0], w.side[0], w.codes[0][0], frame, bits)) number = 7, beside = bits;
     }
     if (number != 0) {
         std::memset(&w, 0, sizeof w);

@@ -222,7 +222,9 @@ pub fn read_frame_into(layout: &Layout, frame: &[u8], record: &mut Record) -> Re
     Ok(bits)
 }
 
-/// Writes a record's frame. The second value is the bits of all fields.
+/// Writes a record's frame. The second value is the bits of all fields. Where they
+/// do not fit, [`Refusal::TOO_LONG`] tells how many they are: a frame of
+/// (bits + 7) / 8 + 2 bytes has room for this record.
 pub fn write_record(layout: &Layout, record: &Record) -> Result<(Vec<u8>, u32), Refusal> {
     let mut frame = vec![0; layout.frame_size()];
     let bits = write_record_into(layout, record, &mut frame)?;

@@ -6,7 +6,7 @@ use std::fmt;
 pub struct Refusal {
     /// See the constants; [`kind`](Refusal::kind) names it.
     pub number: u32,
-    /// An index, a bit or a count of pairs, as the number has it; else 0.
+    /// An index, a bit, a count of pairs or of bits, as the number has it; else 0.
     pub place: u32,
 }
 
@@ -23,7 +23,7 @@ impl Refusal {
     pub const BAD_SPECTRUM: u32 = 4;
     /// No noise level fits, even with bands removed; `place` is how many pairs were.
     pub const NO_LEVEL: u32 = 5;
-    /// The fields end past the payload.
+    /// The fields end past the payload; `place` is the bits that all fields need.
     pub const TOO_LONG: u32 = 7;
     /// The frame's check is wrong.
     pub const WRONG_CHECK: u32 = 8;
@@ -120,7 +120,7 @@ impl fmt::Display for Refusal {
             Self::BAD_INTENSITY => write!(f, "intensity {at} of a secondary channel is above 15"),
             Self::BAD_SPECTRUM => write!(f, "spectrum {at} is NaN or infinite"),
             Self::NO_LEVEL => write!(f, "no noise level fits, even with {at} pairs of bands removed; raise the frame size"),
-            Self::TOO_LONG => write!(f, "the fields end past the payload; raise the frame size"),
+            Self::TOO_LONG => write!(f, "the fields need {at} bits, more than the frame has before its check"),
             Self::WRONG_CHECK => write!(f, "the frame's check is wrong: the bytes were damaged, or the frame size is another"),
             Self::WRONG_SYNC => write!(f, "the frame does not begin with FFFF"),
             Self::BAD_WIDTH => write!(f, "the width at bit {at} is not the one that the writer chooses"),

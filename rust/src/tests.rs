@@ -75,9 +75,24 @@ fn a_found_level_can_end_in_refusal_7() {
         spectra[s * 128] = f32::from_bits(0x2E634C94);
     }
     let mut e = Encoder::new(mono(1, 1, 19));
-    assert_eq!(e.encode_frame(&spectra, &[0; 8]), Err(Refusal { number: 7, place: 0 }));
+    assert_eq!(e.encode_frame(&spectra, &[0; 8]), Err(Refusal { number: 7, place: 137 }));
     assert!(e.frame().iter().all(|&b| b == 0));
     assert!(Encoder::new(mono(1, 1, 20)).encode_frame(&spectra, &[0; 8]).is_ok());
+}
+
+#[test]
+fn refusal_7_of_a_record_tells_the_size_that_it_needs() {
+    let mut record = Record::silent(&mono(1, 1, 8));
+    record.factors[0] = 63;
+    for s in 0..8 {
+        record.codes[s * 128] = -2047;
+    }
+    for size in [8, 19] {
+        let no = write_record(&mono(1, 1, size), &record).unwrap_err();
+        assert_eq!(no, Refusal { number: 7, place: 137 });
+        assert_eq!(no.to_string(), "refusal 7: the fields need 137 bits, more than the frame has before its check");
+    }
+    assert_eq!(write_record(&mono(1, 1, 20), &record).unwrap().1, 137);
 }
 
 #[test]

@@ -295,7 +295,7 @@ pub fn run(call: &StageCall) -> (HcaEncoder, Result<Vec<u8>, (u32, u32)>, Notes)
         }
         Err(_) => {
             assert!(notes.needed > room);
-            (e, Err((7, 0)), notes)
+            (e, Err((7, notes.needed)), notes)
         }
     }
 }

@@ -80,8 +80,12 @@ fn refusal_7_after_a_found_level() {
         call.spectra[s * 128] = f32::from_bits(0x2E63_4C94);
     }
     let (_, done, notes) = run(&call);
-    assert_eq!(done, Err((7, 0)));
-    assert_eq!((notes.level, notes.needed), (0, 137));
+    assert_eq!(done, Err((7, 137)));
+    assert_eq!(notes.level, 0);
+    call.layout[4] = 20;
+    let (_, done, notes) = run(&call);
+    assert!(done.is_ok());
+    assert_eq!(notes.needed, 137);
 }
 
 #[test]

@@ -9,13 +9,13 @@ use text::lines::put_text;
 use text::lines::say_line;
 
 // The line of each refusal, with its number and, where document 01 has one, the number beside it; line 0 is for any other.
-const FORMS: [u8; 692] = *b"refusal #: unknown\n\
+const FORMS: [u8; 712] = *b"refusal #: unknown\n\
     refusal #: the layout is outside its limits\n\
     refusal #: a lent buffer is too short\n\
     refusal # at #: a secondary's intensity is above 15\n\
     refusal # at #: a spectrum value is NaN or infinite\n\
     refusal # with pairs removed: #: no level fits the frame, after every removal of bands\n\
-    refusal #: the fields do not fit the frame\n\
+    refusal # with bits needed: #: the fields do not fit the frame\n\
     refusal #: the check is wrong\n\
     refusal #: the sync is not FFFF\n\
     refusal # at bit #: the width of the factor deltas is not the one that the writer chooses\n\

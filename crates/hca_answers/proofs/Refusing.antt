@@ -34,7 +34,7 @@ stage-refuses stage.ShortBuffer h = refuses 2 0 (omega arith)
 stage-refuses (stage.BadIntensity i) h = refuses 3 i (omega arith)
 stage-refuses (stage.BadSpectrum i) h = refuses 4 i (omega arith)
 stage-refuses (stage.NoLevel pairs) h = refuses 5 pairs (omega arith)
-stage-refuses stage.TooLong h = refuses 7 0 (omega arith)
+stage-refuses (stage.TooLong bits) h = refuses 7 bits (omega arith)
 
 pub write-refuses : (a : WriteAnswer) → OneOf (1 ∷ 2 ∷ 3 ∷ 4 ∷ []) (tagOf Write.the-type a) → Refuses (writerOutcome a)
 unfolding writerOutcome
@@ -42,7 +42,7 @@ write-refuses (write.Delivered level boundary bits) h = absurd (miss (1 ∷ 2 �
 write-refuses write.BadLayout h = refuses 1 0 (omega arith)
 write-refuses write.ShortBuffer h = refuses 2 0 (omega arith)
 write-refuses write.NotLegal h = refuses 15 0 (omega arith)
-write-refuses write.TooLong h = refuses 7 0 (omega arith)
+write-refuses (write.TooLong bits) h = refuses 7 bits (omega arith)
 
 pub read-refuses : (a : ReadAnswer) → OneOf (1 ∷ 2 ∷ 3 ∷ 4 ∷ 5 ∷ 6 ∷ 7 ∷ 8 ∷ []) (tagOf Read.the-type a) → Refuses (readerOutcome a)
 unfolding readerOutcome

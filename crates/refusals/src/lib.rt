@@ -31,7 +31,7 @@ pub fn stage_refusal(answer: StageAnswer) -> Refusal
         StageAnswer::BadIntensity(i) => refused(3, i),
         StageAnswer::BadSpectrum(i) => refused(4, i),
         StageAnswer::NoLevel(n) => refused(5, n),
-        StageAnswer::TooLong => refused(7, 0),
+        StageAnswer::TooLong(n) => refused(7, n),
     }
 }
 
@@ -59,6 +59,6 @@ pub fn write_refusal(answer: WriteAnswer) -> Refusal
         WriteAnswer::BadLayout => refused(1, 0),
         WriteAnswer::ShortBuffer => refused(2, 0),
         WriteAnswer::NotLegal => refused(15, 0),
-        WriteAnswer::TooLong => refused(7, 0),
+        WriteAnswer::TooLong(n) => refused(7, n),
     }
 }

@@ -21,8 +21,12 @@ Numbered numbers o = (n k : ℕ) → o ≡ refused n k → OneOf numbers n
 pub numbered : (numbers : List ℕ) (a b : ℕ) → T (hasKey numbers a) → Numbered numbers (refused a b)
 numbered numbers a b h n k e = let z : a ≡ n = cc e in subst (OneOf numbers) z (hit numbers a h)
 
+-- a delivery is no refusal
+pub never : {A : Type 0} {xs : List ℕ} {n k : ℕ} → delivered xs ≡ refused n k → A
+never e = let z : _≡_ {A = ℕ} 0 1 = cc e in absurd (omega arith)
+
 pub unnumbered : (numbers xs : List ℕ) → Numbered numbers (delivered xs)
-unnumbered numbers xs n k e = let z : _≡_ {A = ℕ} 0 1 = cc e in absurd (omega arith)
+unnumbered numbers xs n k e = never e
 
 abbrev pub stageNumbers : List ℕ
 stageNumbers = 1 ∷ 2 ∷ 3 ∷ 4 ∷ 5 ∷ 7 ∷ []
@@ -41,7 +45,7 @@ stage-answers stage.ShortBuffer = numbered stageNumbers 2 0 tt
 stage-answers (stage.BadIntensity i) = numbered stageNumbers 3 i tt
 stage-answers (stage.BadSpectrum i) = numbered stageNumbers 4 i tt
 stage-answers (stage.NoLevel pairs) = numbered stageNumbers 5 pairs tt
-stage-answers stage.TooLong = numbered stageNumbers 7 0 tt
+stage-answers (stage.TooLong bits) = numbered stageNumbers 7 bits tt
 
 pub write-answers : (a : WriteAnswer) → Numbered writerNumbers (writerOutcome a)
 unfolding writerOutcome
@@ -49,7 +53,7 @@ write-answers (write.Delivered level boundary bits) = unnumbered writerNumbers _
 write-answers write.BadLayout = numbered writerNumbers 1 0 tt
 write-answers write.ShortBuffer = numbered writerNumbers 2 0 tt
 write-answers write.NotLegal = numbered writerNumbers 15 0 tt
-write-answers write.TooLong = numbered writerNumbers 7 0 tt
+write-answers (write.TooLong bits) = numbered writerNumbers 7 bits tt
 
 pub read-answers : (a : ReadAnswer) → Numbered readerNumbers (readerOutcome a)
 unfolding readerOutcome

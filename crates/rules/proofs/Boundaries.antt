@@ -56,7 +56,7 @@ module _ (over : ℕ → Bool) where
 
   last-le : (low high : ℕ) → low ≤ 126 → high ≤ 127 → lastOf over low high ≤ 127
   unfolding lastOf
-  last-le low high h q = cond-bound (eqb low high) (λ _. omega arith) (λ _. cond-bound (over high) (λ _. omega arith) (λ _. q))
+  last-le low high h q = cond-bound (eqb low high) (λ _. omega arith) (λ _. cond-bound (over high) (λ _. omega arith) (λ _. omega arith))
 
   narrow-le : (n low high : ℕ) → low ≤ 126 → high ≤ 127 → narrow over n low high ≤ 127
   unfolding narrow

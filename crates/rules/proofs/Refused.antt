@@ -6,7 +6,7 @@ use mathlib.Core.List.{List}
 use mathlib.Core.Option.{Option, none, some}
 use Prim.Native.Nat.{ℕ, _≤_, _<_}
 use native.Mathlib.Omega.{arith}
-use borrow.Author.Tests.{lt-ltb}
+use borrow.Author.Tests.{lt-ltb, le-ltb}
 use lib.Dec.{ltb}
 use lib.IntN.{ℤ}
 use lib.Ieee.{Float}
@@ -24,16 +24,19 @@ use Rattle.rules.specs.Stage.{StageLent, StageLeft, kept, cleared, stage
 use Rattle.rules.specs.Writer.{WriterLent, WriterLeft, writerRoom, lentRecord, recordWritten, written}
 use Rattle.rules.specs.Reader.{ReaderLent, ReaderLeft, readerRoom, untouched, scannedLeft, readerLaid, read}
 use Rattle.rules.specs.declared.Layout.{Layout}
-
-never : {xs : List ℕ} {n k : ℕ} → delivered xs ≡ refused n k → ⊥
-never e = let z : _≡_ {A = ℕ} 0 1 = cc e in omega arith
+use Rattle.rules.proofs.Answers.{never}
 
 -- ---- the stage: 1 to 4 keep every buffer, 5 and 7 clear the stated lengths
 
 -- that there is no level is judged before the fields' length
 pub settled-none : (l : Layout) (m : Made) → 254 < m .found .level → settled l m ≡ cleared l (refused 5 (m .found .pairs))
-unfolding settled
+unfolding settled packed
 settled-none l m h = rw (lt-ltb 254 (m .found .level) h)
+
+-- beside refusal 7 stands the sum of all field lengths
+pub settled-long : (l : Layout) (m : Made) → m .found .level ≤ 254 → fieldEnd l < length (fields l (madeRecord l m)) → settled l m ≡ cleared l (refused 7 (length (fields l (madeRecord l m))))
+unfolding settled packed
+settled-long l m h g = rw (le-ltb 254 (m .found .level) h, lt-ltb (fieldEnd l) (length (fields l (madeRecord l m))) g)
 
 module _ (l : Layout) (t : StageLent) where
   abbrev Holds : StageLeft → List Float → List ℤ → List ℕ → List ℕ → List ℕ → Type 0
@@ -58,8 +61,8 @@ module _ (l : Layout) (t : StageLent) where
   unfolding settled packed finished
   settled-leaves m =
       cond-both Clears (ltb 254 (m .found .level)) (λ _. clears 5 (m .found .pairs) (omega arith))
-      (λ _. cond-both Clears (ltb (fieldEnd l) (length (fields l (madeRecord l m)))) (λ _. clears 7 0 (omega arith))
-      (λ _ n k e. absurd (never e)))
+      (λ _. cond-both Clears (ltb (fieldEnd l) (length (fields l (madeRecord l m)))) (λ _. clears 7 (length (fields l (madeRecord l m))) (omega arith))
+      (λ _ n k e. never e))
 
   pub refused-leaves : Leaves (stage l t)
   unfolding stage gate gated
@@ -83,6 +86,11 @@ module _ (l : Layout) (t : WriterLent) where
   unfolding written recordWritten
   not-legal a m e = rw (a, m, e)
 
+  pub record-long : legalRecord l (t .level) (t .boundary) (t .factors) (t .side) (t .codes) ≡ true → fieldEnd l < length (fields l (lentRecord l t)) →
+      recordWritten l t ≡ record { outcome = refused 7 (length (fields l (lentRecord l t))); frame = laid (noFrame l) (t .frame) }
+  unfolding recordWritten
+  record-long e h = rw (e, lt-ltb (fieldEnd l) (length (fields l (lentRecord l t))) h)
+
   abbrev WriteLeaves : WriterLeft → Type 0
   WriteLeaves x = (n k : ℕ) → x .outcome ≡ refused n k → (n ≢ 7 → x .frame ≡ t .frame) × (n ≡ 7 → x .frame ≡ laid (noFrame l) (t .frame))
 
@@ -96,7 +104,7 @@ module _ (l : Layout) (t : WriterLent) where
       (λ _. cond-both WriteLeaves (not (writerRoom l t)) (λ _. write-keeps 2 (λ e. absurd (omega arith)))
       (λ _. cond-both WriteLeaves (not (legalRecord l (t .level) (t .boundary) (t .factors) (t .side) (t .codes))) (λ _. write-keeps 15 (λ e. absurd (omega arith)))
       (λ _. cond-both WriteLeaves (ltb (fieldEnd l) (length (fields l (lentRecord l t)))) (λ _ n k e. let z : 7 ≡ n = cc e in (λ g. absurd (g (sym z)), λ _. refl))
-      (λ _ n k e. absurd (never e)))))
+      (λ _ n k e. never e))))
 
 -- ---- the strict reader: 1 and 2 keep every buffer, the others clear the stated lengths
 
@@ -117,7 +125,7 @@ module _ (l : Layout) (t : ReaderLent) where
 
   left-clears : (s : Scanned) (n k : ℕ) → scannedLeft l s .outcome ≡ refused n k → Cleared (readerLaid t (scannedLeft l s))
   unfolding scannedLeft
-  left-clears (accepted r c) n k e = absurd (never e)
+  left-clears (accepted r c) n k e = never e
   left-clears (faulty a b) n k e = (refl, refl, refl)
 
   pub read-clears : legalLayout l ≡ true → readerRoom l t ≡ true → (n k : ℕ) → read l t .outcome ≡ refused n k → Cleared (read l t)

@@ -21,7 +21,7 @@ stageOutcome stage.ShortBuffer = refused 2 0
 stageOutcome (stage.BadIntensity i) = refused 3 i
 stageOutcome (stage.BadSpectrum i) = refused 4 i
 stageOutcome (stage.NoLevel pairs) = refused 5 pairs
-stageOutcome stage.TooLong = refused 7 0
+stageOutcome (stage.TooLong bits) = refused 7 bits
 
 -- 1, 2, 15, 7
 unfoldable pub writerOutcome : (answer : WriteAnswer) → Outcome
@@ -29,7 +29,7 @@ writerOutcome (write.Delivered level boundary bits) = delivered (level ∷ bound
 writerOutcome write.BadLayout = refused 1 0
 writerOutcome write.ShortBuffer = refused 2 0
 writerOutcome write.NotLegal = refused 15 0
-writerOutcome write.TooLong = refused 7 0
+writerOutcome (write.TooLong bits) = refused 7 bits
 
 -- 1, 2, 8, 9, then the first fault in bit order, 14 last; 10 is withdrawn (request A6) and stands for nothing else
 unfoldable pub readerOutcome : (answer : ReadAnswer) → Outcome

@@ -158,9 +158,11 @@ finished l m = record {
   frame = frameOf l (madeRecord l m);
 }
 
--- refusal 7, or a success
+-- refusal 7, beside it the bits that all fields need, or a success
 unfoldable pub packed : (l : Layout) (m : Made) → StageLeft
-packed l m = cond (ltb (fieldEnd l) (length (fields l (madeRecord l m)))) (cleared l (refused 7 0)) (finished l m)
+packed l m =
+    let bitCount = length (fields l (madeRecord l m)) in
+    cond (ltb (fieldEnd l) bitCount) (cleared l (refused 7 bitCount)) (finished l m)
 
 -- refusal 5, or the rest
 unfoldable pub settled : (l : Layout) (m : Made) → StageLeft

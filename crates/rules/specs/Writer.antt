@@ -46,12 +46,12 @@ writerRoom l t = hasRoom l (roomOf (length (t .factors)) (length (t .side)) (len
 unfoldable pub lentRecord : (l : Layout) (t : WriterLent) → Rec
 lentRecord l t = recOf l (t .level) (t .boundary) (t .factors) (t .side) (t .codes)
 
--- refusals 15 and 7, of a legal layout and buffers that are long enough
+-- refusals 15 and 7, beside 7 the bits that all fields need, of a legal layout and buffers that are long enough
 unfoldable pub recordWritten : (l : Layout) (t : WriterLent) → WriterLeft
 recordWritten l t =
     let bitCount = length (fields l (lentRecord l t)) in
     cond (not (legalRecord l (t .level) (t .boundary) (t .factors) (t .side) (t .codes))) (record { outcome = refused 15 0; frame = t .frame })
-    (cond (ltb (fieldEnd l) bitCount) (record { outcome = refused 7 0; frame = laid (noFrame l) (t .frame) })
+    (cond (ltb (fieldEnd l) bitCount) (record { outcome = refused 7 bitCount; frame = laid (noFrame l) (t .frame) })
     (record { outcome = delivered (t .level ∷ t .boundary ∷ bitCount ∷ []); frame = laid (frameOf l (lentRecord l t)) (t .frame) }))
 
 -- refusals 1 and 2

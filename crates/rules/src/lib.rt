@@ -48,16 +48,16 @@ pub enum StageAnswer {
     BadIntensity(usize),
     BadSpectrum(usize),
     NoLevel(usize),
-    TooLong,
+    TooLong(usize),
 }
 
-// What the record writer answers: level, boundary and bits written, or a refusal.
+// What the record writer answers: level, boundary and bits written, or a refusal; beside TooLong the bits that all fields need.
 pub enum WriteAnswer {
     Delivered(usize, usize, usize),
     BadLayout,
     ShortBuffer,
     NotLegal,
-    TooLong,
+    TooLong(usize),
 }
 
 // What the strict reader answers: level, boundary and bits read, or a refusal with the bit that it names.

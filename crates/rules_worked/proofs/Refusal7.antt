@@ -14,7 +14,7 @@ use Rattle.rules_worked.proofs.Runs.{lent, run-made, run}
 use Rattle.rules_worked.proofs.Inputs.{edged, right}
 use Rattle.rules_worked.proofs.Worked.{left}
 
-settled-long : (l : Layout) (m : Made) → m .found .level ≤ 254 → fieldEnd l < length (fields l (madeRecord l m)) → settled l m ≡ cleared l (refused 7 0)
+settled-long : (l : Layout) (m : Made) → m .found .level ≤ 254 → fieldEnd l < length (fields l (madeRecord l m)) → settled l m ≡ cleared l (refused 7 (length (fields l (madeRecord l m))))
 unfolding settled packed
 settled-long l m h n = rw (le-ltb 254 (m .found .level) h, lt-ltb (fieldEnd l) (length (fields l (madeRecord l m))) n)
 
@@ -26,8 +26,10 @@ edged-level = ap (λ (m : Made). m .found .level) (run-made edged (right .8))
 pub edged-bits : length (fields (edged .layout) (madeRecord (edged .layout) (made (edged .layout) (edged .spectra) (noSide (edged .layout))))) ≡ 137
 edged-bits = ap (λ (m : Made). length (fields (edged .layout) (madeRecord (edged .layout) m))) (run-made edged (right .8)) ∙ ap (λ w. w .bits) (right .8)
 
--- and the call is refused with 7, all buffers zero.
-pub edged-refused : left edged ≡ stageLaid (lent (edged .layout) (edged .spectra)) (cleared (edged .layout) (refused 7 0))
+-- and the call is refused with 7 and the bits that they take, all buffers zero.
+pub edged-refused : left edged ≡ stageLaid (lent (edged .layout) (edged .spectra)) (cleared (edged .layout) (refused 7 137))
 edged-refused =
     run edged (right .8)
-    ∙ ap (stageLaid (lent (edged .layout) (edged .spectra))) (settled-long (edged .layout) (edged .made) (omega arith) (omega (arith, ap (λ w. w .bits) (right .8))))
+    ∙ ap (stageLaid (lent (edged .layout) (edged .spectra)))
+    (settled-long (edged .layout) (edged .made) (omega arith) (omega (arith, ap (λ w. w .bits) (right .8)))
+    ∙ ap (λ n. cleared (edged .layout) (refused 7 n)) (ap (λ w. w .bits) (right .8)))

@@ -36,14 +36,14 @@ module _ (l : Layout) (level b pairs n : ℕ) (sc : List Float) (fa si : List �
   is-bits = d .bits ∙ ap (λ r. length (fields l r)) is-record
 
   -- refusal 7 or a success, by the test that was made
-  ends-by : (t : Bool) → ltb (fieldEnd l) n ≡ t → (o : Outcome) → o ≡ cond t (refused 7 0) (delivered (level ∷ b ∷ pairs ∷ n ∷ [])) → wiped l (left o) ≡ packed l m
+  ends-by : (t : Bool) → ltb (fieldEnd l) n ≡ t → (o : Outcome) → o ≡ cond t (refused 7 n) (delivered (level ∷ b ∷ pairs ∷ n ∷ [])) → wiped l (left o) ≡ packed l m
   unfolding wiped wipedBy packed finished madeFrom
-  ends-by true e o f = rw (f, ap (ltb (fieldEnd l)) (sym is-bits) ∙ e)
+  ends-by true e o f = rw (f, ap (ltb (fieldEnd l)) (sym is-bits) ∙ e, is-bits)
   ends-by false e o f =
       let k : fr ≡ frameOf l (madeRecord l m) = d .stored ∙ rw e (ap (frameOf l) is-record) in
       rw (f, ap (ltb (fieldEnd l)) (sym is-bits) ∙ e, is-bits, k, d .coded, q)
 
-  pub packed-ends : (o : Outcome) → o ≡ cond (ltb (fieldEnd l) n) (refused 7 0) (delivered (level ∷ b ∷ pairs ∷ n ∷ [])) → wiped l (left o) ≡ packed l m
+  pub packed-ends : (o : Outcome) → o ≡ cond (ltb (fieldEnd l) n) (refused 7 n) (delivered (level ∷ b ∷ pairs ∷ n ∷ [])) → wiped l (left o) ≡ packed l m
   packed-ends o f = ends-by (ltb (fieldEnd l) n) refl o f
 
 -- ---- from what the search of the level leaves

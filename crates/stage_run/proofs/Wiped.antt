@@ -25,7 +25,7 @@ module _ (l : Layout) (sc : List Float) (co : List ℤ) (fa si fr : List ℕ) wh
   refused-cleared (stage.BadIntensity i) h = refl
   refused-cleared (stage.BadSpectrum i) h = refl
   refused-cleared (stage.NoLevel pairs) h = refl
-  refused-cleared stage.TooLong h = refl
+  refused-cleared (stage.TooLong bits) h = refl
 
   -- a success stays
   pub wiped-stays : (a : StageAnswer) → OneOf (0 ∷ []) (tagOf Stage.the-type a) → stageLeft a sc co fa si fr ≡ wiped l (stageLeft a sc co fa si fr)
@@ -36,7 +36,7 @@ module _ (l : Layout) (sc : List Float) (co : List ℤ) (fa si fr : List ℕ) wh
   wiped-stays (stage.BadIntensity i) h = absurd (miss (0 ∷ []) 3 tt h)
   wiped-stays (stage.BadSpectrum i) h = absurd (miss (0 ∷ []) 4 tt h)
   wiped-stays (stage.NoLevel pairs) h = absurd (miss (0 ∷ []) 5 tt h)
-  wiped-stays stage.TooLong h = absurd (miss (0 ∷ []) 6 tt h)
+  wiped-stays (stage.TooLong bits) h = absurd (miss (0 ∷ []) 6 tt h)
 
   -- a refusal's buffers are zero
   pub wiped-cleared : (a : StageAnswer) (sc′ : List Float) (co′ : List ℤ) (fa′ si′ fr′ : List ℕ) → OneOf (1 ∷ 2 ∷ 3 ∷ 4 ∷ 5 ∷ 6 ∷ []) (tagOf Stage.the-type a)

@@ -82,12 +82,12 @@ fn deliver(
     )
 }
 
-// Fields that pass the payload's end are **refusal 7**.
+// Fields that pass the payload's end are **refusal 7**, beside it their length.
 fn answered(end: usize, level: usize, boundary: usize, pairs: usize, bits: usize) -> StageAnswer
-    ensures { λ r. ⌜ stageOutcome r ≡ cond (ltb end bits) (refused 7 0) (delivered (level ∷ boundary ∷ pairs ∷ bits ∷ [])) ⌝ }
+    ensures { λ r. ⌜ stageOutcome r ≡ cond (ltb end bits) (refused 7 bits) (delivered (level ∷ boundary ∷ pairs ∷ bits ∷ [])) ⌝ }
 {
     if end < bits {
-        return StageAnswer::TooLong;
+        return StageAnswer::TooLong(bits);
     }
     StageAnswer::Delivered(level, boundary, pairs, bits)
 }

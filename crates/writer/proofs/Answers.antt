@@ -58,7 +58,7 @@ module _ (l : Layout) (level boundary : ℕ) (F S : List ℕ) (C : List ℤ) (fr
   module _ (z : Sizes l) (n : length frame ≡ frameSize l) (e : legalRecord l level boundary F S C ≡ true)
       (count : ℕ) (bits : count ≡ length (fields l rec)) (left : List ℕ)
       (stored : left ≡ cond (ltb (fieldEnd l) count) (replicate (frameSize l) 0) (frameOf l rec)) where
-    pub run-long : fieldEnd l < count → writerLeft TooLong left ≡ recordWritten l (writerLent level boundary F S C frame)
+    pub run-long : fieldEnd l < count → writerLeft (TooLong count) left ≡ recordWritten l (writerLent level boundary F S C frame)
     unfolding recordWritten writerOutcome lentRecord
     run-long h =
         let is : left ≡ laid (noFrame l) frame = stored ∙ rw (lt-ltb _ _ h) (sym (laid-exact (noFrame l) frame (omega (arith, blank-length l)))) in

@@ -40,7 +40,7 @@ fn write_exact(
             frame,
         );
         if 8 * (layout.frame_size - 2) < bits {
-            return WriteAnswer::TooLong;
+            return WriteAnswer::TooLong(bits);
         }
         return WriteAnswer::Delivered(level, boundary, bits);
     }

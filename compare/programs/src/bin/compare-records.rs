@@ -90,12 +90,32 @@ fn write(call: &WriteCall, model: bool, counted: &mut Vec<String>) -> Option<Str
     number_differs(number, got, &mut text);
     differ_answer(&before.1, &e.1, &g.1, &mut text);
     differ("frame", &before.0, &e.0, &g.0, &mut text);
+    if got == 7 && text.is_empty() {
+        counted.push("write at the answered size".into());
+        write_larger(call, model, g.1[0], &mut text);
+    }
     (!text.is_empty()).then(|| {
         format!(
             "write_record\n  layout (channels, base, stereo, total, frame) {:?}, kinds {:?}, level and boundary {:?}\n  factors {}\n  side {}\n  codes not zero (place: code) {}\n  lengths of frame, answer: {:?}\n  model: {number} {:?}, library: {got} {:?}\n{text}",
             call.layout, call.kinds, call.record, hex(&call.factors), hex(&call.side), sparse(&call.codes), call.lengths, e.1, g.1
         )
     })
+}
+
+/// At the size that refusal 7 answered the record is delivered with as many bits; a byte below it is refused again.
+fn write_larger(call: &WriteCall, model: bool, bits: u32, text: &mut String) {
+    let f = if model { hca_model::write_record } else { hca_frame::raw::write_record };
+    let size = bits.div_ceil(8) + 2;
+    for (size, expected, at) in [(size, 0, 2), (size - 1, 7, 0)] {
+        let mut layout = call.layout.clone();
+        layout[4] = size;
+        let mut frame = vec![0x5A; size as usize];
+        let mut answer = [0; 4];
+        let number = f(&layout, &call.kinds, &call.record, &call.factors, &call.side, &call.codes, &mut frame, &mut answer);
+        if (number, answer[at]) != (expected, bits) {
+            text.push_str(&format!("  at {size} bytes: expected {expected} and {bits} bits, got {number} and {}\n", answer[at]));
+        }
+    }
 }
 
 fn check(bytes: &[u8], model: bool, counted: &mut Vec<String>) -> Option<String> {

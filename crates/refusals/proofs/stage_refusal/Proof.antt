@@ -20,4 +20,4 @@ stage-refusal-spec =
     (λ c. rw (c .before .before .answer .given .1) (c .refused4 .ensures))
     (λ c. rw (c .before .before .answer2 .given .1) (c .refused5 .ensures))
     (λ c. rw (c .before .before .answer3 .given .1) (c .refused6 .ensures))
-    (λ c. rw (c .before .enum-told4 .given .1) (c .refused7 .ensures)))
+    (λ c. rw (c .before .before .answer4 .given .1) (c .refused7 .ensures)))

@@ -16,4 +16,4 @@ write-refusal-spec =
     (λ c. rw (c .before .enum-told2 .given .1) (c .refused2 .ensures))
     (λ c. rw (c .before .enum-told3 .given .1) (c .refused3 .ensures))
     (λ c. rw (c .before .enum-told4 .given .1) (c .refused4 .ensures))
-    (λ c. rw (c .before .enum-told5 .given .1) (c .refused5 .ensures)))
+    (λ c. rw (c .before .before .answer .given .1) (c .refused5 .ensures)))
