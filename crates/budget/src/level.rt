@@ -63,7 +63,9 @@ pub struct Removal {
 pub fn calculate_noise_level(layout: Layout, scaled: &[f32], factors: &mut [u8]) -> Removal
     requires { ⌜ Sizes layout ⌝ }
     requires { ⌜ (length (now scaled) ≡ spectrumLength layout) × (length (now factors) ≡ factorLength layout) ⌝ }
-    ensures { λ r. ⌜ (r .level ≡ foundOf layout (now (scaled .entry)) (now (factors .entry)) .level) × (r .pairs ≡ foundOf layout (now (scaled .entry)) (now (factors .entry)) .pairs) × (now (factors .exit) ≡ foundOf layout (now (scaled .entry)) (now (factors .entry)) .factors) × (r .level ≤ 255) ⌝ }
+    ensures { λ r. ⌜ (r .level ≡ foundOf layout (now (scaled .entry)) (now (factors .entry)) .level)
+        × (r .pairs ≡ foundOf layout (now (scaled .entry)) (now (factors .entry)) .pairs)
+        × (now (factors .exit) ≡ foundOf layout (now (scaled .entry)) (now (factors .entry)) .factors) × (r .level ≤ 255) ⌝ }
 {
     let mut top = layout.base + layout.stereo;
     let mut pairs: usize = 0;

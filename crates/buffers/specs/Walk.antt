@@ -1,4 +1,5 @@
--- Walks over indices: the first index with a property, whether all have it, a sum, a list built from a function, a list of blocks; and a bound on a list's numbers. Definitions only.
+-- Walks over indices: the first index with a property, whether all have it, a sum, a list built from a function, a list of blocks; and a bound on
+-- a list's numbers. Definitions only.
 use mathlib.Core.List.{List, [], _∷_, _++_}
 use mathlib.Core.Bool.{Bool, true, cond, _&&_}
 use Prim.Native.Nat.{ℕ, zero, suc, _+_, _≤_}

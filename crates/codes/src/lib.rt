@@ -49,7 +49,8 @@ fn channel_codes(resolutions: &[u8], scaled: &[f32], codes: &mut [i32])
 pub fn quantize_spectra(layout: Layout, resolutions: &[u8], scaled: &[f32], codes: &mut [i32])
     requires { ⌜ Sizes layout ⌝ }
     requires { ⌜ AtMost 15 (now resolutions) ⌝ }
-    requires { ⌜ (length (now resolutions) ≡ factorLength layout) × (length (now scaled) ≡ spectrumLength layout) × (length (now codes) ≡ spectrumLength layout) ⌝ }
+    requires { ⌜ (length (now resolutions) ≡ factorLength layout) × (length (now scaled) ≡ spectrumLength layout)
+        × (length (now codes) ≡ spectrumLength layout) ⌝ }
     ensures { λ _. ⌜ now (codes .exit) ≡ allCodes layout (now (resolutions .entry)) (now (scaled .entry)) ⌝ }
 {
     let channels = layout.channels;

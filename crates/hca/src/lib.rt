@@ -24,7 +24,10 @@ pub extern "C" fn hca_encode_frame(
     frame: &mut [u8],
     answer: &mut [u32],
 ) -> u32
-    ensures { λ r. ⌜ encodedAs r (now (answer .exit)) (now (scaled .exit)) (now (codes .exit)) (now (factors .exit)) (now (side .exit)) (now (frame .exit)) ≡ encoded (now (layout .entry)) (now (kinds .entry)) (stageLent (now (spectra .entry)) (now (intensities .entry)) (now (scaled .entry)) (now (codes .entry)) (now (factors .entry)) (now (side .entry)) (now (frame .entry))) (now (answer .entry)) ⌝ }
+    ensures { λ r. ⌜ encodedAs r (now (answer .exit)) (now (scaled .exit)) (now (codes .exit)) (now (factors .exit)) (now (side .exit))
+        (now (frame .exit)) ≡ encoded (now (layout .entry)) (now (kinds .entry))
+        (stageLent (now (spectra .entry)) (now (intensities .entry)) (now (scaled .entry)) (now (codes .entry)) (now (factors .entry))
+        (now (side .entry)) (now (frame .entry))) (now (answer .entry)) ⌝ }
 {
     encode_frame(
         layout,
@@ -52,7 +55,9 @@ pub extern "C" fn hca_write_record(
     frame: &mut [u8],
     answer: &mut [u32],
 ) -> u32
-    ensures { λ r. ⌜ wroteAs r (now (answer .exit)) (now (frame .exit)) ≡ wrote (now (layout .entry)) (now (kinds .entry)) (now («record» .entry)) (now (factors .entry)) (now (side .entry)) (now (codes .entry)) (now (frame .entry)) (now (answer .entry)) ⌝ }
+    ensures { λ r. ⌜ wroteAs r (now (answer .exit)) (now (frame .exit))
+        ≡ wrote (now (layout .entry)) (now (kinds .entry)) (now («record» .entry)) (now (factors .entry)) (now (side .entry)) (now (codes .entry))
+        (now (frame .entry)) (now (answer .entry)) ⌝ }
 {
     write_record(layout, kinds, record, factors, side, codes, frame, answer)
 }
@@ -68,7 +73,9 @@ pub extern "C" fn hca_read_frame(
     codes: &mut [i32],
     answer: &mut [u32],
 ) -> u32
-    ensures { λ r. ⌜ returnedAs r (now (answer .exit)) (now (factors .exit)) (now (side .exit)) (now (codes .exit)) ≡ returned (now (layout .entry)) (now (kinds .entry)) (readerLent (now (frame .entry)) (now (factors .entry)) (now (side .entry)) (now (codes .entry))) (now (answer .entry)) ⌝ }
+    ensures { λ r. ⌜ returnedAs r (now (answer .exit)) (now (factors .exit)) (now (side .exit)) (now (codes .exit))
+        ≡ returned (now (layout .entry)) (now (kinds .entry))
+        (readerLent (now (frame .entry)) (now (factors .entry)) (now (side .entry)) (now (codes .entry))) (now (answer .entry)) ⌝ }
 {
     read_frame(layout, kinds, frame, factors, side, codes, answer)
 }

@@ -20,7 +20,9 @@ fn encode_told(
     frame: &mut [u8],
     answer: &mut [u32],
 ) -> u32
-    ensures { λ r. ⌜ encodedAs r (now (answer .exit)) (now (scaled .exit)) (now (codes .exit)) (now (factors .exit)) (now (side .exit)) (now (frame .exit)) ≡ encodedTold (stage layout (stageLent (now (spectra .entry)) (now (intensities .entry)) (now (scaled .entry)) (now (codes .entry)) (now (factors .entry)) (now (side .entry)) (now (frame .entry)))) (now (answer .entry)) ⌝ }
+    ensures { λ r. ⌜ encodedAs r (now (answer .exit)) (now (scaled .exit)) (now (codes .exit)) (now (factors .exit)) (now (side .exit))
+        (now (frame .exit)) ≡ encodedTold (stage layout (stageLent (now (spectra .entry)) (now (intensities .entry)) (now (scaled .entry))
+        (now (codes .entry)) (now (factors .entry)) (now (side .entry)) (now (frame .entry)))) (now (answer .entry)) ⌝ }
 {
     let a = stage::encode_frame(
         layout,
@@ -48,7 +50,10 @@ pub fn encode_frame(
     frame: &mut [u8],
     answer: &mut [u32],
 ) -> u32
-    ensures { λ r. ⌜ encodedAs r (now (answer .exit)) (now (scaled .exit)) (now (codes .exit)) (now (factors .exit)) (now (side .exit)) (now (frame .exit)) ≡ encoded (now (layout .entry)) (now (kinds .entry)) (stageLent (now (spectra .entry)) (now (intensities .entry)) (now (scaled .entry)) (now (codes .entry)) (now (factors .entry)) (now (side .entry)) (now (frame .entry))) (now (answer .entry)) ⌝ }
+    ensures { λ r. ⌜ encodedAs r (now (answer .exit)) (now (scaled .exit)) (now (codes .exit)) (now (factors .exit)) (now (side .exit))
+        (now (frame .exit)) ≡ encoded (now (layout .entry)) (now (kinds .entry))
+        (stageLent (now (spectra .entry)) (now (intensities .entry)) (now (scaled .entry)) (now (codes .entry)) (now (factors .entry))
+        (now (side .entry)) (now (frame .entry))) (now (answer .entry)) ⌝ }
 {
     if !is_named(layout, kinds) {
         return refuse(1, 0, answer);

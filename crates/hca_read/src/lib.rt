@@ -17,7 +17,9 @@ fn read_told(
     codes: &mut [i32],
     answer: &mut [u32],
 ) -> u32
-    ensures { λ r. ⌜ returnedAs r (now (answer .exit)) (now (factors .exit)) (now (side .exit)) (now (codes .exit)) ≡ returnedTold (read layout (readerLent (now (frame .entry)) (now (factors .entry)) (now (side .entry)) (now (codes .entry)))) (now (answer .entry)) ⌝ }
+    ensures { λ r. ⌜ returnedAs r (now (answer .exit)) (now (factors .exit)) (now (side .exit)) (now (codes .exit))
+        ≡ returnedTold (read layout (readerLent (now (frame .entry)) (now (factors .entry)) (now (side .entry)) (now (codes .entry))))
+        (now (answer .entry)) ⌝ }
 {
     let a = reader::read_frame(layout, frame, factors, side, codes);
     tell_read(a, answer)
@@ -33,7 +35,9 @@ pub fn read_frame(
     codes: &mut [i32],
     answer: &mut [u32],
 ) -> u32
-    ensures { λ r. ⌜ returnedAs r (now (answer .exit)) (now (factors .exit)) (now (side .exit)) (now (codes .exit)) ≡ returned (now (layout .entry)) (now (kinds .entry)) (readerLent (now (frame .entry)) (now (factors .entry)) (now (side .entry)) (now (codes .entry))) (now (answer .entry)) ⌝ }
+    ensures { λ r. ⌜ returnedAs r (now (answer .exit)) (now (factors .exit)) (now (side .exit)) (now (codes .exit))
+        ≡ returned (now (layout .entry)) (now (kinds .entry))
+        (readerLent (now (frame .entry)) (now (factors .entry)) (now (side .entry)) (now (codes .entry))) (now (answer .entry)) ⌝ }
 {
     if !is_named(layout, kinds) {
         return refuse(1, 0, answer);

@@ -20,7 +20,9 @@ fn write_told(
     frame: &mut [u8],
     answer: &mut [u32],
 ) -> u32
-    ensures { λ r. ⌜ wroteAs r (now (answer .exit)) (now (frame .exit)) ≡ wroteTold (written layout (writerLent level boundary (now (factors .entry)) (now (side .entry)) (now (codes .entry)) (now (frame .entry)))) (now (answer .entry)) ⌝ }
+    ensures { λ r. ⌜ wroteAs r (now (answer .exit)) (now (frame .exit))
+        ≡ wroteTold (written layout (writerLent level boundary (now (factors .entry)) (now (side .entry)) (now (codes .entry)) (now (frame .entry))))
+        (now (answer .entry)) ⌝ }
 {
     let a = writer::write_record(layout, level, boundary, factors, side, codes, frame);
     tell_write(a, answer)
@@ -37,7 +39,9 @@ pub fn write_record(
     frame: &mut [u8],
     answer: &mut [u32],
 ) -> u32
-    ensures { λ r. ⌜ wroteAs r (now (answer .exit)) (now (frame .exit)) ≡ wrote (now (layout .entry)) (now (kinds .entry)) (now («record» .entry)) (now (factors .entry)) (now (side .entry)) (now (codes .entry)) (now (frame .entry)) (now (answer .entry)) ⌝ }
+    ensures { λ r. ⌜ wroteAs r (now (answer .exit)) (now (frame .exit))
+        ≡ wrote (now (layout .entry)) (now (kinds .entry)) (now («record» .entry)) (now (factors .entry)) (now (side .entry)) (now (codes .entry))
+        (now (frame .entry)) (now (answer .entry)) ⌝ }
 {
     if !is_named(layout, kinds) {
         return refuse(1, 0, answer);

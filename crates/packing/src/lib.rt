@@ -31,9 +31,11 @@ fn write_fields(
 ) -> usize
     requires { ⌜ Sizes layout ⌝ }
     requires { ⌜ (level ≤ 511) × (boundary ≤ 127) ⌝ }
-    requires { ⌜ (length (now factors) ≡ layout .channels * 128) × (length (now side) ≡ layout .channels * 8) × (length (now codes) ≡ layout .channels * 1024) ⌝ }
+    requires { ⌜ (length (now factors) ≡ layout .channels * 128) × (length (now side) ≡ layout .channels * 8)
+        × (length (now codes) ≡ layout .channels * 1024) ⌝ }
     requires { ⌜ now resolutions ≡ allResolutions layout level boundary (now factors) ⌝ }
-    ensures { λ r. ⌜ Writes (now (bytes .entry)) 0 (fields layout (recOf layout level boundary (now (factors .entry)) (now (side .entry)) (now (codes .entry)))) (now (bytes .exit)) r ⌝ }
+    ensures { λ r. ⌜ Writes (now (bytes .entry)) 0 (fields layout
+        (recOf layout level boundary (now (factors .entry)) (now (side .entry)) (now (codes .entry)))) (now (bytes .exit)) r ⌝ }
 {
     let start = Place { at: 0 };
     let head = write_head(start, bytes, level, boundary);
@@ -55,10 +57,12 @@ pub fn pack_frame(
 ) -> usize
     requires { ⌜ Sizes layout ⌝ }
     requires { ⌜ (level ≤ 511) × (boundary ≤ 127) ⌝ }
-    requires { ⌜ (length (now factors) ≡ layout .channels * 128) × (length (now side) ≡ layout .channels * 8) × (length (now codes) ≡ layout .channels * 1024) ⌝ }
+    requires { ⌜ (length (now factors) ≡ layout .channels * 128) × (length (now side) ≡ layout .channels * 8)
+        × (length (now codes) ≡ layout .channels * 1024) ⌝ }
     requires { ⌜ (now resolutions ≡ allResolutions layout level boundary (now factors)) × (length (now frame) ≡ frameSize layout) ⌝ }
     ensures bits { λ r. ⌜ r ≡ length (fields layout (recOf layout level boundary (now (factors .entry)) (now (side .entry)) (now (codes .entry)))) ⌝ }
-    ensures stored { λ r. ⌜ now (frame .exit) ≡ cond (ltb (fieldEnd layout) r) (replicate (frameSize layout) 0) (frameOf layout (recOf layout level boundary (now (factors .entry)) (now (side .entry)) (now (codes .entry)))) ⌝ }
+    ensures stored { λ r. ⌜ now (frame .exit) ≡ cond (ltb (fieldEnd layout) r) (replicate (frameSize layout) 0)
+        (frameOf layout (recOf layout level boundary (now (factors .entry)) (now (side .entry)) (now (codes .entry)))) ⌝ }
 {
     clear_u8(frame);
     let end = layout.frame_size - 2;

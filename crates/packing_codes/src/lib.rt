@@ -81,7 +81,9 @@ fn write_spectra(
 ) -> Place
     requires { ⌜ (place .at < 2 ^ 48) × (length (now resolutions) ≡ 128) × (length (now codes) ≡ 128) × (coded ≤ 128) ⌝ }
     requires { ⌜ AtMost 15 (now resolutions) ⌝ }
-    ensures { λ r. ⌜ Writes (now (payload .entry)) (place .at) (eachBits codeBits (take coded (now (resolutions .entry))) (take coded (now (codes .entry)))) (now (payload .exit)) (r .at) × (r .at ≤ place .at + 1536) ⌝ }
+    ensures { λ r. ⌜ Writes (now (payload .entry)) (place .at)
+        (eachBits codeBits (take coded (now (resolutions .entry))) (take coded (now (codes .entry)))) (now (payload .exit)) (r .at)
+        × (r .at ≤ place .at + 1536) ⌝ }
 {
     let mut at = place;
     let mut b = 0;
@@ -102,9 +104,12 @@ fn write_subframe(
     codes: &[i32],
 ) -> Place
     requires { ⌜ Sizes layout ⌝ }
-    requires { ⌜ (place .at < 2 ^ 47) × (subframe < 8) × (length (now resolutions) ≡ layout .channels * 128) × (length (now codes) ≡ layout .channels * 1024) ⌝ }
+    requires { ⌜ (place .at < 2 ^ 47) × (subframe < 8) × (length (now resolutions) ≡ layout .channels * 128)
+        × (length (now codes) ≡ layout .channels * 1024) ⌝ }
     requires { ⌜ AtMost 15 (now resolutions) ⌝ }
-    ensures { λ r. ⌜ Writes (now (payload .entry)) (place .at) (eachBits (eachBits codeBits) (build (codedResolutions layout (now (resolutions .entry))) (layout .channels)) (build (codesIn layout (now (codes .entry)) subframe) (layout .channels))) (now (payload .exit)) (r .at) × (r .at ≤ place .at + 24576) ⌝ }
+    ensures { λ r. ⌜ Writes (now (payload .entry)) (place .at)
+        (eachBits (eachBits codeBits) (build (codedResolutions layout (now (resolutions .entry))) (layout .channels))
+        (build (codesIn layout (now (codes .entry)) subframe) (layout .channels))) (now (payload .exit)) (r .at) × (r .at ≤ place .at + 24576) ⌝ }
 {
     let channels = layout.channels;
     let mut at = place;
@@ -136,7 +141,10 @@ pub fn write_codes(
     requires { ⌜ Sizes layout ⌝ }
     requires { ⌜ (place .at < 2 ^ 46) × (length (now resolutions) ≡ layout .channels * 128) × (length (now codes) ≡ layout .channels * 1024) ⌝ }
     requires { ⌜ AtMost 15 (now resolutions) ⌝ }
-    ensures { λ r. ⌜ Writes (now (payload .entry)) (place .at) (eachBits (λ _. eachBits (eachBits codeBits) (build (codedResolutions layout (now (resolutions .entry))) (layout .channels))) (times 8) (build (λ s. build (codesIn layout (now (codes .entry)) s) (layout .channels)) 8)) (now (payload .exit)) (r .at) × (r .at ≤ place .at + 196608) ⌝ }
+    ensures { λ r. ⌜ Writes (now (payload .entry)) (place .at)
+        (eachBits (λ _. eachBits (eachBits codeBits) (build (codedResolutions layout (now (resolutions .entry))) (layout .channels))) (times 8)
+        (build (λ s. build (codesIn layout (now (codes .entry)) s) (layout .channels)) 8)) (now (payload .exit)) (r .at)
+        × (r .at ≤ place .at + 196608) ⌝ }
 {
     let mut at = place;
     let mut s = 0;

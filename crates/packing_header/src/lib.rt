@@ -26,7 +26,8 @@ use widths::reach;
 // FFFF, the level in 9 bits, the boundary in 7.
 pub fn write_head(place: Place, payload: &mut [u8], level: usize, boundary: usize) -> Place
     requires { ⌜ (level ≤ 511) × (boundary ≤ 127) × (place .at < 2 ^ 49) ⌝ }
-    ensures { λ r. ⌜ Writes (now (payload .entry)) (place .at) (bits 16 0xFFFF ++ (bits 9 level ++ bits 7 boundary)) (now (payload .exit)) (r .at) × (r .at ≡ place .at + 32) ⌝ }
+    ensures { λ r. ⌜ Writes (now (payload .entry)) (place .at) (bits 16 0xFFFF ++ (bits 9 level ++ bits 7 boundary)) (now (payload .exit)) (r .at)
+        × (r .at ≡ place .at + 32) ⌝ }
 {
     let a = place.write(payload, 0xFFFF, 16);
     let b = a.write(payload, level as u32, 9);
@@ -36,7 +37,8 @@ pub fn write_head(place: Place, payload: &mut [u8], level: usize, boundary: usiz
 // All ones in d bits, and the factor in 6.
 fn write_escape(place: Place, payload: &mut [u8], d: usize, factor: u8) -> Place
     requires { ⌜ (1 ≤ d) × (d ≤ 5) × (place .at < 2 ^ 49) ⌝ }
-    ensures { λ r. ⌜ Writes (now (payload .entry)) (place .at) (bits d (2 ^ d - 1) ++ bits 6 factor) (now (payload .exit)) (r .at) × (r .at ≡ place .at + d + 6) ⌝ }
+    ensures { λ r. ⌜ Writes (now (payload .entry)) (place .at) (bits d (2 ^ d - 1) ++ bits 6 factor) (now (payload .exit)) (r .at)
+        × (r .at ≡ place .at + d + 6) ⌝ }
 {
     let width = d as u32;
     let next = place.write(payload, bits::ones(width), width);
@@ -66,7 +68,9 @@ fn write_delta(place: Place, payload: &mut [u8], d: usize, previous: u8, factor:
 // Factor i at a width: the first, and each at width 6, in 6 bits.
 fn write_factor(place: Place, payload: &mut [u8], factors: &[u8], i: usize, width: usize) -> Place
     requires { ⌜ (1 ≤ width) × (width ≤ 6) × (place .at < 2 ^ 49) × (i < length (now factors)) ⌝ }
-    ensures { λ r. ⌜ Writes (now (payload .entry)) (place .at) (factorBits width (factorBefore i (getD (now (factors .entry)) (i - 1) 0)) (getD (now (factors .entry)) i 0)) (now (payload .exit)) (r .at) × (r .at ≤ place .at + 11) ⌝ }
+    ensures { λ r. ⌜ Writes (now (payload .entry)) (place .at)
+        (factorBits width (factorBefore i (getD (now (factors .entry)) (i - 1) 0)) (getD (now (factors .entry)) i 0)) (now (payload .exit)) (r .at)
+        × (r .at ≤ place .at + 11) ⌝ }
 {
     let factor = factors[i];
     if i == 0 {
@@ -86,7 +90,8 @@ fn write_factors(
     width: usize,
 ) -> Place
     requires { ⌜ (1 ≤ width) × (width ≤ 6) × (place .at < 2 ^ 48) × (length (now factors) ≡ 128) × (coded ≤ 128) ⌝ }
-    ensures { λ r. ⌜ Writes (now (payload .entry)) (place .at) (allFactorBits width coded (take coded (now (factors .entry)))) (now (payload .exit)) (r .at) × (r .at ≤ place .at + 1408) ⌝ }
+    ensures { λ r. ⌜ Writes (now (payload .entry)) (place .at) (allFactorBits width coded (take coded (now (factors .entry)))) (now (payload .exit))
+        (r .at) × (r .at ≤ place .at + 1408) ⌝ }
 {
     let mut at = place;
     let mut i = 0;
@@ -100,7 +105,9 @@ fn write_factors(
 // The width in 3 bits, and the coded factors; width 0 has none.
 fn write_scale_factors(place: Place, payload: &mut [u8], factors: &[u8], coded: usize) -> Place
     requires { ⌜ (place .at < 2 ^ 47) × (length (now factors) ≡ 128) × (coded ≤ 128) ⌝ }
-    ensures { λ r. ⌜ Writes (now (payload .entry)) (place .at) (bits 3 (width (take coded (now (factors .entry)))) ++ allFactorBits (width (take coded (now (factors .entry)))) coded (take coded (now (factors .entry)))) (now (payload .exit)) (r .at) × (r .at ≤ place .at + 1411) ⌝ }
+    ensures { λ r. ⌜ Writes (now (payload .entry)) (place .at)
+        (bits 3 (width (take coded (now (factors .entry)))) ++ allFactorBits (width (take coded (now (factors .entry)))) coded
+        (take coded (now (factors .entry)))) (now (payload .exit)) (r .at) × (r .at ≤ place .at + 1411) ⌝ }
 {
     let best = calculate_optimal_delta_length(factors, coded);
     let width = best.bits;
@@ -114,7 +121,8 @@ fn write_scale_factors(place: Place, payload: &mut [u8], factors: &[u8], coded: 
 // The first side values, each in `width` bits.
 fn write_side(place: Place, payload: &mut [u8], side: &[u8], count: usize, width: u32) -> Place
     requires { ⌜ (place .at < 2 ^ 47) × (length (now side) ≡ 8) × (count ≤ 8) × (width ≤ 6) ⌝ }
-    ensures { λ r. ⌜ Writes (now (payload .entry)) (place .at) (eachBits (λ _. bits width) (times count) (take count (now (side .entry)))) (now (payload .exit)) (r .at) × (r .at ≤ place .at + 48) ⌝ }
+    ensures { λ r. ⌜ Writes (now (payload .entry)) (place .at) (eachBits (λ _. bits width) (times count) (take count (now (side .entry))))
+        (now (payload .exit)) (r .at) × (r .at ≤ place .at + 48) ⌝ }
 {
     let mut at = place;
     let mut i = 0;
@@ -136,7 +144,9 @@ fn write_channel(
 ) -> Place
     requires { ⌜ Sizes layout ⌝ }
     requires { ⌜ (place .at < 2 ^ 46) × (channel < 16) × (length (now factors) ≡ 128) × (length (now side) ≡ 8) ⌝ }
-    ensures { λ r. ⌜ Writes (now (payload .entry)) (place .at) (channelFields layout (kindAt layout channel) (chanIn layout channel (now (factors .entry)) (now (side .entry)))) (now (payload .exit)) (r .at) × (r .at ≤ place .at + 1459) ⌝ }
+    ensures { λ r. ⌜ Writes (now (payload .entry)) (place .at)
+        (channelFields layout (kindAt layout channel) (chanIn layout channel (now (factors .entry)) (now (side .entry)))) (now (payload .exit))
+        (r .at) × (r .at ≤ place .at + 1459) ⌝ }
 {
     let coded = coded_count(layout, channel);
     let next = write_scale_factors(place, payload, factors, coded);
@@ -154,7 +164,9 @@ pub fn write_channels(
 ) -> Place
     requires { ⌜ Sizes layout ⌝ }
     requires { ⌜ (place .at < 2 ^ 45) × (length (now factors) ≡ layout .channels * 128) × (length (now side) ≡ layout .channels * 8) ⌝ }
-    ensures { λ r. ⌜ Writes (now (payload .entry)) (place .at) (eachBits (channelFields layout) (kindsOf layout) (build (chanOf layout (now (factors .entry)) (now (side .entry))) (layout .channels))) (now (payload .exit)) (r .at) × (r .at ≤ place .at + 23344) ⌝ }
+    ensures { λ r. ⌜ Writes (now (payload .entry)) (place .at)
+        (eachBits (channelFields layout) (kindsOf layout) (build (chanOf layout (now (factors .entry)) (now (side .entry))) (layout .channels)))
+        (now (payload .exit)) (r .at) × (r .at ≤ place .at + 23344) ⌝ }
 {
     let channels = layout.channels;
     let mut at = place;

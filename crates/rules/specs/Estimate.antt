@@ -14,7 +14,8 @@ use Rattle.rules.specs.Width.{widthCost}
 use Rattle.rules.specs.Code.{rawCode, codePlace, magnitudeBits}
 use Rattle.rules.specs.declared.Layout.{Layout}
 
--- one value at resolution r: below 8 the count from the table at 8 + code, the code unclamped before the table's 0..15; from 8 up MAX_BIT_TABLE - 1, plus 1 if the magnitude reaches the dead zone
+-- one value at resolution r: below 8 the count from the table at 8 + code, the code unclamped before the table's 0..15; from 8 up
+-- MAX_BIT_TABLE - 1, plus 1 if the magnitude reaches the dead zone
 unfoldable pub valueBits : (resolution : ℕ) (x : Float) → ℕ
 valueBits r x =
     cond (ltb r 8)

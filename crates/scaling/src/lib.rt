@@ -69,7 +69,8 @@ pub fn scale_spectra(
     requires { ⌜ Sizes layout ⌝ }
     requires { ⌜ IsScaling (now table) ⌝ }
     requires { ⌜ ((i : ℕ) → getD (now factors) i 0 < 64) ⌝ }
-    requires { ⌜ (length (now spectra) ≡ spectrumLength layout) × (length (now factors) ≡ factorLength layout) × (length (now scaled) ≡ spectrumLength layout) ⌝ }
+    requires { ⌜ (length (now spectra) ≡ spectrumLength layout) × (length (now factors) ≡ factorLength layout)
+        × (length (now scaled) ≡ spectrumLength layout) ⌝ }
     ensures { λ _. ⌜ now (scaled .exit) ≡ allScaled layout (now (spectra .entry)) (now (factors .entry)) ⌝ }
 {
     let channels = layout.channels;

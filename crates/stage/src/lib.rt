@@ -24,8 +24,12 @@ fn encode_parts(
     frame: &mut [u8],
 ) -> StageAnswer
     requires { ⌜ Sizes layout ⌝ }
-    requires { ⌜ Long layout (stageRoom (length (now spectra)) (length (now intensities)) (length (now scaled)) (roomOf (length (now factors)) (length (now side)) (length (now codes)) (length (now frame)))) ⌝ }
-    ensures { λ r. ⌜ stageLeft r (now (scaled .exit)) (now (codes .exit)) (now (factors .exit)) (now (side .exit)) (now (frame .exit)) ≡ stageLaid (stageLent (now (spectra .entry)) (now (intensities .entry)) (now (scaled .entry)) (now (codes .entry)) (now (factors .entry)) (now (side .entry)) (now (frame .entry))) (settled layout (made layout (take (spectrumLength layout) (now (spectra .entry))) (take (sideLength layout) (now (intensities .entry))))) ⌝ }
+    requires { ⌜ Long layout (stageRoom (length (now spectra)) (length (now intensities)) (length (now scaled))
+        (roomOf (length (now factors)) (length (now side)) (length (now codes)) (length (now frame)))) ⌝ }
+    ensures { λ r. ⌜ stageLeft r (now (scaled .exit)) (now (codes .exit)) (now (factors .exit)) (now (side .exit)) (now (frame .exit))
+        ≡ stageLaid (stageLent (now (spectra .entry)) (now (intensities .entry)) (now (scaled .entry)) (now (codes .entry)) (now (factors .entry))
+        (now (side .entry)) (now (frame .entry))) (settled layout
+        (made layout (take (spectrumLength layout) (now (spectra .entry))) (take (sideLength layout) (now (intensities .entry))))) ⌝ }
 {
     let n = layout.channels * 1024;
     let k = layout.channels * 8;
@@ -54,7 +58,9 @@ pub fn encode_frame(
     side: &mut [u8],
     frame: &mut [u8],
 ) -> StageAnswer
-    ensures { λ r. ⌜ stageLeft r (now (scaled .exit)) (now (codes .exit)) (now (factors .exit)) (now (side .exit)) (now (frame .exit)) ≡ stage layout (stageLent (now (spectra .entry)) (now (intensities .entry)) (now (scaled .entry)) (now (codes .entry)) (now (factors .entry)) (now (side .entry)) (now (frame .entry))) ⌝ }
+    ensures { λ r. ⌜ stageLeft r (now (scaled .exit)) (now (codes .exit)) (now (factors .exit)) (now (side .exit)) (now (frame .exit))
+        ≡ stage layout (stageLent (now (spectra .entry)) (now (intensities .entry)) (now (scaled .entry)) (now (codes .entry)) (now (factors .entry))
+        (now (side .entry)) (now (frame .entry))) ⌝ }
 {
     let stored = Room {
         factors: factors.len(),

@@ -34,7 +34,8 @@ fn quantize(
     requires { ⌜ (level ≤ 511) × (boundary ≤ 127) ⌝ }
     requires { ⌜ (length (now scaled) ≡ spectrumLength layout) × (length (now factors) ≡ factorLength layout) × (length (now side) ≡ sideLength layout) ⌝ }
     requires { ⌜ (length (now resolutions) ≡ factorLength layout) × (length (now codes) ≡ spectrumLength layout) × (length (now frame) ≡ frameSize layout) ⌝ }
-    ensures { λ r. ⌜ Delivers layout level boundary (now (scaled .entry)) (now (factors .entry)) (now (side .entry)) r (now (codes .exit)) (now (frame .exit)) ⌝ }
+    ensures { λ r. ⌜ Delivers layout level boundary (now (scaled .entry)) (now (factors .entry)) (now (side .entry)) r (now (codes .exit))
+        (now (frame .exit)) ⌝ }
 {
     calculate_frame_resolutions(layout, level, boundary, factors, resolutions);
     quantize_spectra(layout, resolutions, scaled, codes);
@@ -65,7 +66,8 @@ fn deliver(
     requires { ⌜ (level ≤ 511) × (boundary ≤ 127) ⌝ }
     requires { ⌜ (length (now scaled) ≡ spectrumLength layout) × (length (now factors) ≡ factorLength layout) × (length (now side) ≡ sideLength layout) ⌝ }
     requires { ⌜ (length (now codes) ≡ spectrumLength layout) × (length (now frame) ≡ frameSize layout) ⌝ }
-    ensures { λ r. ⌜ Delivers layout level boundary (now (scaled .entry)) (now (factors .entry)) (now (side .entry)) r (now (codes .exit)) (now (frame .exit)) ⌝ }
+    ensures { λ r. ⌜ Delivers layout level boundary (now (scaled .entry)) (now (factors .entry)) (now (side .entry)) r (now (codes .exit))
+        (now (frame .exit)) ⌝ }
 {
     let n = layout.channels * 128;
     let mut resolutions = [0u8; RESOLUTION_ROOM];
@@ -106,7 +108,9 @@ fn boundary_to_frame(
     requires { ⌜ Sizes layout ⌝ }
     requires { ⌜ level ≤ 254 ⌝ }
     requires { ⌜ Sized layout (length (now scaled)) (length (now codes)) (length (now factors)) (length (now side)) (length (now frame)) ⌝ }
-    ensures { λ r. ⌜ wiped layout (stageLeft r (now (scaled .entry)) (now (codes .exit)) (now (factors .entry)) (now (side .entry)) (now (frame .exit))) ≡ packed layout (madeFrom layout (now (scaled .entry)) (now (side .entry)) (foundAs level pairs (now (factors .entry)))) ⌝ }
+    ensures { λ r. ⌜ wiped layout (stageLeft r (now (scaled .entry)) (now (codes .exit)) (now (factors .entry)) (now (side .entry))
+        (now (frame .exit))) ≡ packed layout (madeFrom layout (now (scaled .entry)) (now (side .entry)) (foundAs level pairs (now (factors .entry))))
+        ⌝ }
 {
     let boundary = calculate_evaluation_boundary(layout, scaled, factors, level);
     let bits = deliver(layout, level, boundary, scaled, factors, side, codes, frame);
@@ -124,7 +128,9 @@ pub(crate) fn level_to_frame(
 ) -> StageAnswer
     requires { ⌜ Sizes layout ⌝ }
     requires { ⌜ Sized layout (length (now scaled)) (length (now codes)) (length (now factors)) (length (now side)) (length (now frame)) ⌝ }
-    ensures { λ r. ⌜ wiped layout (stageLeft r (now (scaled .entry)) (now (codes .exit)) (now (factors .exit)) (now (side .entry)) (now (frame .exit))) ≡ settled layout (madeFrom layout (now (scaled .entry)) (now (side .entry)) (foundOf layout (now (scaled .entry)) (now (factors .entry)))) ⌝ }
+    ensures { λ r. ⌜ wiped layout (stageLeft r (now (scaled .entry)) (now (codes .exit)) (now (factors .exit)) (now (side .entry))
+        (now (frame .exit))) ≡ settled layout (madeFrom layout (now (scaled .entry)) (now (side .entry))
+        (foundOf layout (now (scaled .entry)) (now (factors .entry)))) ⌝ }
 {
     let removal = calculate_noise_level(layout, scaled, factors);
     let level = removal.level;

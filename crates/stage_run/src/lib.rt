@@ -38,7 +38,8 @@ fn prepare(
     requires { ⌜ (length (now scaled) ≡ spectrumLength layout) × (length (now factors) ≡ factorLength layout) × (length (now side) ≡ sideLength layout) ⌝ }
     ensures factored { λ _. ⌜ now (factors .exit) ≡ allFactors layout (now (spectra .entry)) ⌝ }
     ensures rated { λ _. ⌜ now (scaled .exit) ≡ allScaled layout (now (spectra .entry)) (allFactors layout (now (spectra .entry))) ⌝ }
-    ensures sided { λ _. ⌜ now (side .exit) ≡ allSide layout (now (spectra .entry)) (allScaled layout (now (spectra .entry)) (allFactors layout (now (spectra .entry)))) (now (intensities .entry)) ⌝ }
+    ensures sided { λ _. ⌜ now (side .exit) ≡ allSide layout (now (spectra .entry))
+        (allScaled layout (now (spectra .entry)) (allFactors layout (now (spectra .entry)))) (now (intensities .entry)) ⌝ }
 {
     let table = scaling_table();
     calculate_scale_factors(layout, &table, spectra, factors);
@@ -76,7 +77,10 @@ fn clear_refused(
     side: &mut [u8],
     frame: &mut [u8],
 )
-    ensures { λ _. ⌜ ((l : Layout) → Sized l (length (now (scaled .entry))) (length (now (codes .entry))) (length (now (factors .entry))) (length (now (side .entry))) (length (now (frame .entry))) → stageLeft answer (now (scaled .exit)) (now (codes .exit)) (now (factors .exit)) (now (side .exit)) (now (frame .exit)) ≡ wiped l (stageLeft answer (now (scaled .entry)) (now (codes .entry)) (now (factors .entry)) (now (side .entry)) (now (frame .entry)))) ⌝ }
+    ensures { λ _. ⌜ ((l : Layout) → Sized l (length (now (scaled .entry))) (length (now (codes .entry))) (length (now (factors .entry)))
+        (length (now (side .entry))) (length (now (frame .entry)))
+        → stageLeft answer (now (scaled .exit)) (now (codes .exit)) (now (factors .exit)) (now (side .exit)) (now (frame .exit))
+        ≡ wiped l (stageLeft answer (now (scaled .entry)) (now (codes .entry)) (now (factors .entry)) (now (side .entry)) (now (frame .entry)))) ⌝ }
 {
     let StageAnswer::Delivered(_, _, _, _) = answer else {
         clear_all(scaled, codes, factors, side, frame);
@@ -95,8 +99,10 @@ pub fn run_stage(
     frame: &mut [u8],
 ) -> StageAnswer
     requires { ⌜ Sizes layout ⌝ }
-    requires { ⌜ StageLengths layout (length (now spectra)) (length (now intensities)) (length (now scaled)) (length (now codes)) (length (now factors)) (length (now side)) (length (now frame)) ⌝ }
-    ensures { λ r. ⌜ stageLeft r (now (scaled .exit)) (now (codes .exit)) (now (factors .exit)) (now (side .exit)) (now (frame .exit)) ≡ settled layout (made layout (now (spectra .entry)) (now (intensities .entry))) ⌝ }
+    requires { ⌜ StageLengths layout (length (now spectra)) (length (now intensities)) (length (now scaled)) (length (now codes))
+        (length (now factors)) (length (now side)) (length (now frame)) ⌝ }
+    ensures { λ r. ⌜ stageLeft r (now (scaled .exit)) (now (codes .exit)) (now (factors .exit)) (now (side .exit)) (now (frame .exit))
+        ≡ settled layout (made layout (now (spectra .entry)) (now (intensities .entry))) ⌝ }
 {
     prepare(layout, spectra, intensities, scaled, factors, side);
     let answer = level_to_frame(layout, scaled, codes, factors, side, frame);

@@ -162,7 +162,8 @@ impl Walk {
 // of least cost. Each factor is read once.
 pub fn calculate_optimal_delta_length(factors: &[u8], n: usize) -> Width
     requires { ⌜ (n ≤ 128) × (n ≤ length (now factors)) ⌝ }
-    ensures { λ r. ⌜ (r .bits ≡ width (take n (now (factors .entry)))) × (r .cost ≡ widthCost (take n (now (factors .entry)))) × (r .bits ≤ 6) × (r .cost ≤ 3 + 6 * n) ⌝ }
+    ensures { λ r. ⌜ (r .bits ≡ width (take n (now (factors .entry)))) × (r .cost ≡ widthCost (take n (now (factors .entry)))) × (r .bits ≤ 6)
+        × (r .cost ≤ 3 + 6 * n) ⌝ }
 {
     if n == 0 {
         return Width { bits: 0, cost: 3 };

@@ -25,8 +25,11 @@ fn write_exact(
     frame: &mut [u8],
 ) -> WriteAnswer
     requires { ⌜ Sizes layout ⌝ }
-    requires { ⌜ (length (now factors) ≡ layout .channels * 128) × (length (now side) ≡ layout .channels * 8) × (length (now codes) ≡ layout .channels * 1024) × (length (now resolutions) ≡ layout .channels * 128) × (length (now frame) ≡ frameSize layout) ⌝ }
-    ensures { λ r. ⌜ writerLeft r (now (frame .exit)) ≡ recordWritten layout (writerLent level boundary (now (factors .entry)) (now (side .entry)) (now (codes .entry)) (now (frame .entry))) ⌝ }
+    requires { ⌜ (length (now factors) ≡ layout .channels * 128) × (length (now side) ≡ layout .channels * 8)
+        × (length (now codes) ≡ layout .channels * 1024) × (length (now resolutions) ≡ layout .channels * 128)
+        × (length (now frame) ≡ frameSize layout) ⌝ }
+    ensures { λ r. ⌜ writerLeft r (now (frame .exit)) ≡ recordWritten layout
+        (writerLent level boundary (now (factors .entry)) (now (side .entry)) (now (codes .entry)) (now (frame .entry))) ⌝ }
 {
     if is_legal(layout, level, boundary, factors, side, codes, resolutions) {
         let bits = pack_frame(
@@ -59,7 +62,8 @@ fn write_parts(
 ) -> WriteAnswer
     requires { ⌜ Sizes layout ⌝ }
     requires { ⌜ Enough layout (roomOf (length (now factors)) (length (now side)) (length (now codes)) (length (now frame))) ⌝ }
-    ensures { λ r. ⌜ writerLeft r (now (frame .exit)) ≡ recordWritten layout (writerLent level boundary (now (factors .entry)) (now (side .entry)) (now (codes .entry)) (now (frame .entry))) ⌝ }
+    ensures { λ r. ⌜ writerLeft r (now (frame .exit)) ≡ recordWritten layout
+        (writerLent level boundary (now (factors .entry)) (now (side .entry)) (now (codes .entry)) (now (frame .entry))) ⌝ }
 {
     let m = layout.channels * 128;
     let k = layout.channels * 8;
@@ -88,7 +92,8 @@ pub fn write_record(
     codes: &[i32],
     frame: &mut [u8],
 ) -> WriteAnswer
-    ensures { λ r. ⌜ writerLeft r (now (frame .exit)) ≡ written layout (writerLent level boundary (now (factors .entry)) (now (side .entry)) (now (codes .entry)) (now (frame .entry))) ⌝ }
+    ensures { λ r. ⌜ writerLeft r (now (frame .exit)) ≡ written layout
+        (writerLent level boundary (now (factors .entry)) (now (side .entry)) (now (codes .entry)) (now (frame .entry))) ⌝ }
 {
     let room = Room {
         factors: factors.len(),

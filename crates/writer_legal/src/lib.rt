@@ -168,7 +168,8 @@ fn legal_channels(
     resolutions: &[u8],
 ) -> bool
     requires { ⌜ Sizes layout ⌝ }
-    requires { ⌜ (length (now factors) ≡ layout .channels * 128) × (length (now side) ≡ layout .channels * 8) × (length (now codes) ≡ layout .channels * 1024) × (length (now resolutions) ≡ layout .channels * 128) ⌝ }
+    requires { ⌜ (length (now factors) ≡ layout .channels * 128) × (length (now side) ≡ layout .channels * 8)
+        × (length (now codes) ≡ layout .channels * 1024) × (length (now resolutions) ≡ layout .channels * 128) ⌝ }
     ensures { λ r. ⌜ r ≡ legalChannels layout (now (factors .entry)) (now (side .entry)) (now (codes .entry)) (now (resolutions .entry)) ⌝ }
 {
     let channels = layout.channels;
@@ -201,8 +202,10 @@ pub fn is_legal(
     resolutions: &mut [u8],
 ) -> bool
     requires { ⌜ Sizes layout ⌝ }
-    requires { ⌜ (length (now factors) ≡ layout .channels * 128) × (length (now side) ≡ layout .channels * 8) × (length (now codes) ≡ layout .channels * 1024) × (length (now resolutions) ≡ layout .channels * 128) ⌝ }
-    ensures { λ r. ⌜ (r ≡ legalRecord layout level boundary (now (factors .entry)) (now (side .entry)) (now (codes .entry))) × (r ≡ true → now (resolutions .exit) ≡ allResolutions layout level boundary (now (factors .entry))) ⌝ }
+    requires { ⌜ (length (now factors) ≡ layout .channels * 128) × (length (now side) ≡ layout .channels * 8)
+        × (length (now codes) ≡ layout .channels * 1024) × (length (now resolutions) ≡ layout .channels * 128) ⌝ }
+    ensures { λ r. ⌜ (r ≡ legalRecord layout level boundary (now (factors .entry)) (now (side .entry)) (now (codes .entry)))
+        × (r ≡ true → now (resolutions .exit) ≡ allResolutions layout level boundary (now (factors .entry))) ⌝ }
 {
     if legal_head(level, boundary) {
         calculate_frame_resolutions(layout, level, boundary, factors, resolutions);
