@@ -1,11 +1,12 @@
 #!/bin/sh
 # Tries hcaframe on what its own run does not reach: every command, both ways, and what it must refuse. One line a case; the first wrong result
-# ends it with status 1. The argument is the program (target/bin/hcaframe if none is given).
-# A Rattle program has no exit status of its own, so its status is read from the last line of standard error; a program that has one is asked for it.
+# ends it with status 1. The argument is the program: target/hcaframe, the form with an exit status, if none is given (scripts/hcaframe-build.sh).
+# The other form, target/bin/hcaframe, has no exit status: its status is read from the last line of standard error, and a closed pipe is not tried.
 set -u
 here=$(cd "$(dirname "$0")/.." && pwd)
-program=${1:-$here/target/bin/hcaframe}
+program=${1:-$here/target/hcaframe}
 case $program in /*) ;; *) program=$(pwd)/$program ;; esac
+if "$program" --help | grep -q 'status of this form is always 0'; then form=plain; else form=status; fi
 folder=$(mktemp -d)
 trap 'rm -rf "$folder"' EXIT
 cd "$folder" || exit 1
@@ -29,8 +30,14 @@ status() {
     shift 2
     "$program" "$@" >out 2>err </dev/null
     got=$?
-    if [ "$got" -eq 0 ]; then
-        got=$(sed -n '$s/^hcaframe: status //p' err)
+    ended "$got"
+}
+
+# ended GOT: the status that the program ended with is the one that is wanted
+ended() {
+    got=$1
+    if [ $form = plain ] && [ "$got" -eq 0 ]; then
+        got=$(sed -n '$s/^hcaframe: status \([0-9]\).*/\1/p' err)
         got=${got:-0}
     fi
     [ "$got" = "$want" ] || fail "$name: status $got, not $want"
@@ -56,14 +63,25 @@ absent() {
 }
 
 # -- help
-status 0 'help' --help
-says out 'usage: hcaframe'
-good
+for word in --help -h help; do
+    status 0 "help by $word" $word
+    for command in encode read write check; do says out "usage: hcaframe $command"; done
+    says out 'Status: 0 all is well'
+    says out 'FILE.tmp-NUMBER'
+    [ $form = status ] || says out 'The exit status of this form is always 0'
+    good
+done
 for command in encode read write check; do
     status 0 "help of $command" "$command" --help
     says out "usage: hcaframe $command"
     good
 done
+status 0 'help anywhere' check $layout --frames -h --loud
+says out 'usage: hcaframe check'
+good
+status 0 'version' --version
+[ "$(cat out)" = "hcaframe $(sed -n 's/^version = "\(.*\)"/\1/p' "$here/rust/Cargo.toml")" ] || fail "$name: another version than the Rust crate's"
+good
 
 # -- the round trip
 status 0 'encode' encode $layout --spectra spectra.f32 --out frames.hca
@@ -87,6 +105,60 @@ good
 status 0 'write' write $layout --records records.bin --out back.hca
 says out '3 frames, 600 bytes'
 same frames.hca back.hca
+good
+
+status 0 'option=value' encode --kinds=D --base=40 --stereo 0 --total=60 --frame-size=200 --spectra=spectra.f32 --out=again.hca
+same frames.hca again.hca
+good
+status 0 'a layout file by ='  check --layout=layout.txt --frames=frames.hca
+says out '3 good, 0 refused'
+good
+echo '--kinds=D --base=40 --stereo=0 --total=60 --frame-size=200' >equals.txt
+status 0 'a layout file with =' check --layout equals.txt --frames frames.hca
+good
+status 0 'quiet' encode $layout --quiet --spectra spectra.f32 --out again.hca
+[ ! -s out ] || fail "$name: something is said"
+same frames.hca again.hca
+good
+
+# -- standard input and output
+want=0 name='standard input'
+"$program" check $layout --frames - <frames.hca >out 2>err
+ended $?
+says out '3 good, 0 refused'
+good
+name='standard output'
+"$program" encode $layout --spectra - --out - <spectra.f32 >piped.hca 2>err
+ended $?
+cp piped.hca out
+same frames.hca piped.hca
+says err '3 frames, 600 bytes'
+good
+name='standard output, quiet'
+"$program" write $layout --quiet --records=records.bin --out=- >piped.hca 2>err </dev/null
+ended $?
+same frames.hca piped.hca
+[ ! -s err ] || fail "$name: something is said"
+good
+name='records on standard output'
+cat frames.hca | "$program" read --layout layout.txt --frames - --records - >piped.bin 2>err
+ended $?
+same records.bin piped.bin
+says err 'frame 2: level '
+good
+name='the layout from standard input'
+"$program" check --layout - --frames frames.hca <layout.txt >out 2>err
+ended $?
+says out '3 good, 0 refused'
+good
+want=2 name='standard input in the middle of a frame'
+{ head -c 100 >/dev/null; "$program" check $layout --frames - >out 2>err; } <frames.hca
+ended $?
+says err 'the input ends within frame 2; bytes of it: 100 of 200'
+good
+status 2 'standard input twice' encode $layout --spectra - --intensities - --out x.hca
+says err '--spectra and --intensities are the same file'
+absent x.hca
 good
 
 # -- stereo: the spectra of three frames twice, so the layout has two channels and three frames
@@ -206,22 +278,181 @@ status 2 'a pipe that ends within a frame' encode $layout --spectra pipe --out x
 says err 'the input ends within frame 1; bytes of it: 904 of 4096'
 absent x.hca
 good
-status 2 'an output that is no file' encode $layout --spectra spectra.f32 --out pipe
-says err 'hcaframe: pipe: Invalid argument'
+
+# -- output files: what stands under their name
+status 2 'an output that is a pipe' encode $layout --spectra spectra.f32 --out pipe
+says err 'hcaframe: --out: pipe is no regular file'
 [ -p pipe ] || fail "$name: the pipe is gone"
+good
+status 2 'an output that is a device' encode $layout --spectra spectra.f32 --out /dev/null
+says err 'hcaframe: --out: /dev/null is no regular file'
+[ -c /dev/null ] || fail "$name: the device is gone"
+good
+echo kept >kept.hca
+ln -s kept.hca link.hca
+ln -s nowhere loose.hca
+for link in link.hca loose.hca /dev/stdout; do
+    status 2 "an output that is a link: $link" encode $layout --spectra spectra.f32 --out $link
+    says err "hcaframe: --out: $link is a symbolic link: name the file that it leads to"
+    [ -L $link ] || fail "$name: the link is gone"
+    same kept.hca kept.copy
+    good
+done
+status 2 'records that are a link' read $layout --frames frames.hca --records link.hca
+says err 'hcaframe: --records: link.hca is a symbolic link'
+good
+status 2 'an output that is a folder' encode $layout --spectra spectra.f32 --out inner
+says err 'hcaframe: --out: inner is a folder'
+[ ! -s out ] || fail "$name: something was encoded"
+good
+status 2 'an output that is a folder, with a slash' encode $layout --spectra spectra.f32 --out inner/
+says err 'hcaframe: --out: inner/ is a folder'
+[ -z "$(ls inner)" ] || fail "$name: a file is left in it"
+good
+status 2 'an output without a name' encode $layout --spectra spectra.f32 --out ''
+says err 'hcaframe: --out names no file'
+[ ! -s out ] || fail "$name: something was encoded"
+good
+status 2 'an output without a name, by =' encode $layout --spectra spectra.f32 --out=
+says err 'hcaframe: --out names no file'
+good
+status 0 'an output in the place of a file' encode $layout --spectra spectra.f32 --out kept.hca
+same frames.hca kept.hca
+[ -L link.hca ] || fail "$name: the link is gone"
+good
+
+# -- output files: none of the inputs
+mkdir here
+cp spectra.f32 frames.hca layout.txt here
+ln -s ../here inner/there
+# twin WORDS..: a call of which two words name one file is refused, and every file stays as it was
+twin() {
+    status 2 "$@"
+    says err 'are the same file'
+    for file in spectra.f32 frames.hca layout.txt; do same $file here/$file; done
+    [ "$(ls here | wc -l)" -eq 3 ] || fail "$name: a file is left behind"
+    [ ! -s out ] || fail "$name: something was read"
+    good
+}
+twin 'spectra as the output' encode $layout --spectra here/spectra.f32 --out here/spectra.f32
+twin 'spectra as the output, by another name' encode $layout --spectra here/spectra.f32 --out ./here/spectra.f32
+twin 'spectra as the output, through a link' encode $layout --spectra inner/there/spectra.f32 --out here/spectra.f32
+ln spectra.f32 hard.f32
+twin 'spectra as the output, by a hard link' encode $layout --spectra spectra.f32 --out hard.f32
+twin 'frames as the records' read $layout --frames here/frames.hca --records here/frames.hca
+twin 'frames as the records, through a link' read $layout --frames here/frames.hca --records inner/there/frames.hca
+twin 'intensities as the output' encode $pair --spectra stereo.f32 --intensities here/frames.hca --out=here/frames.hca
+twin 'spectra as the intensities' encode $pair --spectra here/spectra.f32 --intensities here/spectra.f32 --out x.hca
+twin 'the layout as the output' encode --layout here/layout.txt --spectra spectra.f32 --out here/layout.txt
+twin 'the layout as the output, by another name' encode --layout here/layout.txt --spectra spectra.f32 --out "$folder/here/layout.txt"
+want=2 name='standard input as the output'
+"$program" encode $layout --spectra - --out here/spectra.f32 <here/spectra.f32 >out 2>err
+ended $?
+says err '--spectra and --out are the same file'
+same spectra.f32 here/spectra.f32
+good
+name='standard input as standard output'
+"$program" read $layout --frames - --records - <here/frames.hca 2>err >>here/frames.hca
+ended $?
+says err '--frames and --records are the same file'
+same frames.hca here/frames.hca
+good
+name='standard output as the output'
+"$program" encode $layout --spectra spectra.f32 --out out >out 2>err </dev/null
+ended $?
+says err '--out and standard output are the same file'
+good
+want=0 name='one device as standard input and output'
+"$program" encode $layout --spectra - --out - </dev/null >/dev/null 2>err
+ended $?
+good
+
+# -- output files: standard input, output and error closed, full, or given up
+closed() {
+    same frames.hca x.hca
+    rm x.hca
+    good
+}
+: >out
+want=2 name='standard output closed'
+"$program" encode $layout --spectra spectra.f32 --out x.hca 2>err </dev/null >&-
+ended $?
+says err 'hcaframe: standard output: Bad file descriptor'
+closed
+name='standard input and output closed'
+"$program" encode $layout --spectra spectra.f32 --out x.hca 2>err <&- >&-
+ended $?
+closed
+want=0 name='standard output closed, quiet'
+"$program" encode $layout --quiet --spectra spectra.f32 --out x.hca 2>err <&- >&-
+ended $?
+closed
+name='all three closed'
+"$program" encode --layout layout.txt --spectra spectra.f32 --out x.hca <&- >&- 2>&-
+closed
+name='standard error closed, and a refusal'
+"$program" encode $layout --spectra nan.f32 --out x.hca >out </dev/null 2>&-
+absent x.hca
+good
+want=2 name='closed standard input as an input'
+"$program" check $layout --frames - >out 2>err <&-
+ended $?
+says err 'Bad file descriptor'
+good
+name='closed standard output as an output'
+"$program" encode $layout --spectra spectra.f32 --out - 2>err </dev/null >&-
+ended $?
+says err 'Bad file descriptor'
 good
 if [ -w /dev/full ]; then
     name='standard output is full'
-    : >out
     for file in frames.hca empty; do
         "$program" check $layout --frames $file >/dev/full 2>err </dev/null
-        says err 'hcaframe: writing: No space left on device'
+        ended $?
+        says err 'hcaframe: standard output: No space left on device'
     done
     "$program" encode $layout --spectra spectra.f32 --out x.hca >/dev/full 2>err </dev/null
+    ended $?
+    says err 'hcaframe: standard output: No space left on device'
+    closed
+    name='frames on a full device'
+    "$program" encode $layout --spectra spectra.f32 --out - >/dev/full 2>err </dev/null
+    ended $?
     says err 'hcaframe: writing: No space left on device'
-    absent x.hca
     good
 fi
+if [ $form = status ]; then
+    want=0 name='a closed pipe ends the text, not the records'
+    # enough frames that a pipe does not hold their text
+    i=0
+    while [ $i -lt 40 ]; do cat frames.hca; i=$((i + 1)); done >many.hca
+    { "$program" read $layout --frames many.hca --records x.bin 2>err; echo $? >code; } | head -n 1 >out
+    ended "$(cat code)"
+    says out 'frame 0: level '
+    [ ! -s err ] || fail "$name: something is said"
+    [ "$(wc -c <x.bin)" -eq 508800 ] || fail "$name: length"
+    [ -z "$(ls | grep tmp-)" ] || fail "$name: a file is left behind"
+    good
+fi
+
+# -- whole HCA files
+{ printf 'HCA\000\002\000\000\140'; head -c 88 /dev/zero; cat frames.hca; } >whole.hca
+for command in check read; do
+    status 2 "$command of a whole HCA file" $command $layout --frames whole.hca
+    says err 'whole.hca is a whole HCA file, with a header of 96 bytes'
+    says err 'take them out with tail -c +97 FILE'
+    good
+    want=2 name="$command of a whole HCA file as a stream"
+    cat whole.hca | "$program" $command $layout --frames - >out 2>err
+    ended $?
+    says err 'the input is a whole HCA file, with a header of 96 bytes'
+    good
+done
+want=0 name='the frames of a whole HCA file'
+tail -c +97 whole.hca | "$program" check $layout --frames - >out 2>err
+ended $?
+says out '3 good, 0 refused'
+good
 
 # -- words
 status 2 'no command'
@@ -258,11 +489,41 @@ good
 status 2 'too many channels' check --kinds DDDDDDDDDDDDDDDDD --base 40 --stereo 0 --total 60 --frame-size 200 --frames frames.hca
 says err 'more than 16 letters'
 good
-status 2 'bands outside the limits' check --kinds D --base 40 --stereo 30 --total 60 --frame-size 200 --frames frames.hca
-says err 'refusal 1: the layout is outside its limits'
+limit() {
+    status 2 "outside the limits: $*" check --kinds D --base $1 --stereo $2 --total $3 --frame-size $4 --frames frames.hca
+    says err "hcaframe: refusal 1: the layout is outside its limits: $5"
+    good
+}
+limit 40 30 60 200 '--base and --stereo are 70 together, above --total, which is 60'
+limit 61 0 60 200 '--base is 61, above --total, which is 60'
+limit 0 0 0 200 '--total is 0; it is 1 to 128'
+limit 40 0 129 200 '--total is 129; it is 1 to 128'
+limit 40 0 60 7 '--frame-size is 7; it is 8 to 65535'
+limit 40 0 60 65536 '--frame-size is 65536; it is 8 to 65535'
+status 2 'a bare command' encode
+says err 'hcaframe: --kinds is missing; a file with the words of a layout is --layout FILE'
+good
+status 2 'quiet with a value' check $layout --quiet=yes --frames frames.hca
+says err 'hcaframe: --quiet has no value'
 good
 printf '# a comment\n--kinds D --out x\n' >bad.txt
 status 2 'a file word in a layout file' check --layout bad.txt --frames frames.hca
-says err '--out is not for this command or this file'
+says err 'hcaframe: bad.txt, line 2: --out is not for this command or this file'
+good
+printf '# a comment\n\n--kinds D --base\n40x\n' >bad.txt
+status 2 'not a number in a layout file' check --layout=bad.txt --frames frames.hca
+says err 'hcaframe: bad.txt, line 4: --base: 40x is not a number'
+good
+printf -- '--kinds D\n--loud 3\n' >bad.txt
+status 2 'an unknown word in a layout file' check --layout bad.txt --frames frames.hca
+says err 'hcaframe: bad.txt, line 2: --loud is an unknown word'
+good
+printf -- '--kinds D\n--base' >bad.txt
+status 2 'a value that is missing in a layout file' check --layout bad.txt --frames frames.hca
+says err 'hcaframe: bad.txt, line 2: --base: its value is missing'
+good
+printf -- '--kinds D\n' >bad.txt
+status 2 'a word that is missing in a layout file' check --layout bad.txt --frames frames.hca
+says err 'hcaframe: --base is missing'
 good
 echo "$cases cases, all as expected"

@@ -1,7 +1,8 @@
 #!/bin/sh
 # Every test of the repository: the layout of the sources, every proof, every must-fail edit and every program, and the command line on good and bad
-# words; where a C compiler is at hand the C example, the installed library and hostile calls of it; where cargo and g++ are, the comparisons with the
-# Rust and with the model in their small form and the Rust crate's tests. The last line is that of `rt ci`: N passed, M failed.
+# words; where a C compiler is at hand the command line with an exit status, the C example, the installed library and hostile calls of it; where cargo and
+# g++ are, the comparisons with the Rust and with the model in their small form and the Rust crate's tests. The last line is that of `rt ci`: N passed,
+# M failed.
 set -eu
 cd "$(dirname "$0")/.."
 # rt waits for a whole batch before it starts the next: with twelve at a time two cores are seldom idle
@@ -13,15 +14,17 @@ trap 'rm -f "$log" "$log.status"' EXIT
 if [ "$(cat "$log.status")" -ne 0 ]; then
     exit 1
 fi
-sh scripts/hcaframe-test.sh
+sh scripts/hcaframe-test.sh target/bin/hcaframe
 if command -v cc >/dev/null; then
+    sh scripts/hcaframe-build.sh
+    sh scripts/hcaframe-test.sh
     rt staticlib hca
     cc -std=c99 -Wall -Wextra -Iinclude examples/encode.c target/staticlib/libhca.a -o target/encode-example
     target/encode-example
     sh scripts/install-test.sh
     sh fuzz/run.sh 20000
 else
-    echo "SKIPPED: the C example and the hostile calls (a C compiler is needed)"
+    echo "SKIPPED: hcaframe with an exit status, the C example and the hostile calls (a C compiler is needed)"
 fi
 if command -v cargo >/dev/null && command -v g++ >/dev/null; then
     sh compare/check.sh

@@ -1,13 +1,15 @@
 // One frame of each command of hcaframe, by the public calls.
-use cli_jobs::outcomes::encoded;
-use cli_jobs::outcomes::read;
-use cli_jobs::outcomes::written;
-use cli_jobs::progress::Job;
-use cli_jobs::progress::Run;
-use cli_jobs::progress::is_whole_block;
-use cli_jobs::progress::take_intensities;
-use cli_jobs::progress::without_intensities;
-use cli_jobs::records::take_record;
+use cli_files::headers::is_whole_hca;
+use cli_files::job::Job;
+use cli_runs::outcomes::encoded;
+use cli_runs::outcomes::read;
+use cli_runs::outcomes::written;
+use cli_runs::progress::Run;
+use cli_runs::progress::is_whole_block;
+use cli_runs::progress::take_intensities;
+use cli_runs::progress::without_frames;
+use cli_runs::progress::without_intensities;
+use cli_runs::records::take_record;
 use cli_words::layouts::value_count;
 use rules::Layout;
 use rules::StageAnswer;
@@ -58,6 +60,9 @@ pub(crate) fn encode_next(job: Job, run: Run, block: &[u8]) -> Run {
 
 // Frames to what they hold.
 pub(crate) fn read_next(job: Job, run: Run, frame: &[u8]) -> Run {
+    if run.done == 0 && is_whole_hca(frame) {
+        return without_frames(run, frame);
+    }
     let mut factors = [0u8; 2048];
     let mut side = [0u8; 128];
     let mut codes = [0i32; 16384];

@@ -2,22 +2,23 @@
 use crate::calls::encode_next;
 use crate::calls::read_next;
 use crate::calls::write_next;
-use cli_jobs::outcomes::say_first;
-use cli_jobs::outcomes::say_last;
-use cli_jobs::progress::Job;
-use cli_jobs::progress::Run;
-use cli_jobs::progress::at_start;
-use cli_jobs::progress::end_progress;
-use cli_jobs::progress::is_whole_block;
-use cli_jobs::progress::without_block;
-use cli_words::manual::complain;
+use cli_files::job::Job;
+use cli_runs::outcomes::say_first;
+use cli_runs::outcomes::say_last;
+use cli_runs::progress::Run;
+use cli_runs::progress::at_start;
+use cli_runs::progress::end_progress;
+use cli_runs::progress::is_whole_block;
+use cli_runs::progress::told;
+use cli_runs::progress::without_block;
+use cli_words::commands::Command;
 use text::blocks::next_block;
 
 fn do_frame(job: Job, run: Run, block: &[u8]) -> Run {
     let command = job.command;
     match command {
-        1 => encode_next(job, run, block),
-        3 => write_next(job, run, block),
+        Command::Encode => encode_next(job, run, block),
+        Command::Write => write_next(job, run, block),
         _ => read_next(job, run, block),
     }
 }
@@ -33,8 +34,8 @@ fn do_next(job: Job, run: Run) -> Run {
 }
 
 // A proved loop has to end, and nothing says that a file does: the turns are counted down from a number that no run uses up.
-fn do_all(job: Job) -> Run {
-    let mut run = at_start();
+fn do_all(job: Job, first: Run) -> Run {
+    let mut run = first;
     let mut turns = u64::MAX;
     while turns > 0 && run.is_going {
         run = do_next(job, run);
@@ -43,20 +44,12 @@ fn do_all(job: Job) -> Run {
     run
 }
 
-// Every frame, with what is said around them. Answers the status.
-pub(crate) fn do_frames(job: Job) -> i32 {
-    if !say_first(job.command) {
-        complain(b"writing");
-        return 2;
-    }
-    let run = do_all(job);
+// Every frame, with what is said around them.
+pub(crate) fn do_frames(job: Job) -> Run {
+    let run = do_all(job, told(at_start(), say_first(job)));
     end_progress(job, run);
     if run.status != 0 {
-        return run.status;
+        return run;
     }
-    if !say_last(job.command, run) {
-        complain(b"writing");
-        return 2;
-    }
-    if run.refused == 0 { 0 } else { 1 }
+    told(run, say_last(job, run))
 }

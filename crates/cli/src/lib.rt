@@ -2,28 +2,43 @@
 use self::frames::do_frames;
 use cli_jobs::setting::ended;
 use cli_jobs::setting::opened;
+use cli_options::faults::UNKNOWN_COMMAND;
+use cli_options::faults::refuse_word;
+use cli_options::options::Options;
+use cli_options::options::none_yet;
+use cli_parser::sources::all_words;
+use cli_runs::progress::last_status;
+use cli_words::commands::Command;
+use cli_words::commands::command_of;
+use cli_words::commands::is_known;
 use cli_words::manual::help;
 use cli_words::manual::say_usage;
-use cli_words::options::Options;
-use cli_words::options::UNKNOWN_COMMAND;
-use cli_words::options::none_yet;
-use cli_words::options::refuse_word;
-use cli_words::sources::all_words;
+use cli_words::manual::say_version;
 use text::names::is_same;
 use text::tables::entry_of;
+use whole_files::standard::take_standard;
 
 mod calls;
 mod frames;
 
-// The command's number; 5 and 6 are help, 0 is none.
-fn command_of(word: &[u8]) -> usize {
-    entry_of(b"\nencode\nread\nwrite\ncheck\n--help\nhelp\n", word)
-}
-
+// Does the argument ask for help?
 fn is_help(i: usize) -> bool {
     let mut word = [0u8; 16];
     let n = os::arg(i, &mut word);
-    is_same(&word[..n], b"--help")
+    entry_of(b"\n--help\n-h\n", &word[..n]) != 0
+}
+
+// Does any?
+fn asks_for_help() -> bool {
+    let count = os::arg_count();
+    let mut i = 1;
+    while i < count {
+        if is_help(i) {
+            return true;
+        }
+        i += 1;
+    }
+    false
 }
 
 // The command that the words say; answers the status.
@@ -32,36 +47,44 @@ fn do_command(options: Options) -> i32 {
     if !job.is_ready {
         return ended(job, 2);
     }
-    ended(job, do_frames(job))
+    let run = do_frames(job);
+    last_status(run, ended(job, run.status))
 }
 
-fn run_command(command: usize, word: &[u8]) -> i32 {
-    if 4 < command {
-        return help(0);
+// What the first word asks, where no word asks for help.
+fn run_word(word: &[u8], has_status: bool) -> i32 {
+    if is_same(word, b"help") {
+        return help(Command::Nothing, has_status);
     }
-    if command == 0 {
-        refuse_word(none_yet(0), word, UNKNOWN_COMMAND);
-        return 2;
+    if is_same(word, b"--version") {
+        return say_version();
     }
-    if is_help(2) {
-        return help(command);
+    let command = command_of(word);
+    if is_known(command) {
+        return do_command(all_words(command));
     }
-    do_command(all_words(command))
+    refuse_word(none_yet(command), word, UNKNOWN_COMMAND);
+    2
 }
 
-// Does what the arguments ask; answers the status: 0 all is well, 1 something was refused, 2 the words or a file were wrong.
-pub fn run_program() -> i32 {
+// Does what the arguments ask; answers the status: 0 all is well, 1 something was refused, 2 the words or a file were wrong. The help says whether
+// the program has a status.
+pub fn run_program(has_status: bool) -> i32 {
+    take_standard();
     if os::arg_count() < 2 {
-        say_usage(2, 0);
+        say_usage(2, Command::Nothing);
         return 2;
     }
     let mut word = io::buffer();
     let n = os::arg(1, &mut word);
-    run_command(command_of(&word[..n]), &word[..n])
+    if asks_for_help() {
+        return help(command_of(&word[..n]), has_status);
+    }
+    run_word(&word[..n], has_status)
 }
 
 // The same for C, whose program can hand the status on.
 #[no_mangle]
 pub extern "C" fn hcaframe_run() -> i32 {
-    run_program()
+    run_program(true)
 }

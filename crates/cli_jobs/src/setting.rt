@@ -1,79 +1,97 @@
 // The files of a command, opened and ended.
-use crate::opening::begin_output;
-use crate::opening::blocks_in;
-use crate::opening::end_output;
-use crate::opening::open_blocks;
-use crate::progress::Job;
-use crate::progress::is_terminal;
-use cli_reports::reasons::is_possible;
+use cli_files::clashes::are_inputs_apart;
+use cli_files::clashes::have_own_names;
+use cli_files::job::Job;
+use cli_files::opening::blocks_in;
+use cli_files::opening::open_blocks;
+use cli_files::targets::begin_output;
+use cli_files::targets::end_output;
+use cli_options::faults::MISSING_FOR_S;
+use cli_options::faults::refuse_option;
+use cli_options::options::Options;
+use cli_options::options::is_given;
+use cli_options::said::FileName;
+use cli_options::said::file_of;
+use cli_options::said::layout_from_words;
+use cli_reports::limits::is_possible;
+use cli_words::commands::Command;
+use cli_words::commands::is_encode;
 use cli_words::layouts::has_secondary;
-use cli_words::layouts::layout_from_words;
 use cli_words::layouts::record_size;
 use cli_words::layouts::side_value_count;
 use cli_words::layouts::spectra_size;
-use cli_words::options::MISSING_FOR_S;
-use cli_words::options::Options;
-use cli_words::options::refuse_option;
-use cli_words::options::value;
+use cli_words::names::Name;
+use cli_words::names::input_of;
+use cli_words::names::output_of;
 use rules::Layout;
 use text::lines::say;
-
-// The option that names a command's input.
-fn input_option(command: usize) -> usize {
-    match command {
-        1 => 7,
-        3 => 11,
-        _ => 10,
-    }
-}
-
-// The option that names its output; the check has none.
-fn output_option(command: usize) -> usize {
-    match command {
-        2 => 11,
-        4 => 0,
-        _ => 9,
-    }
-}
+use whole_files::standard::close_file;
 
 // The bytes of a frame in its input.
-fn block_size(command: usize, layout: Layout) -> usize {
+fn block_size(command: Command, layout: Layout) -> usize {
     match command {
-        1 => spectra_size(layout),
-        3 => record_size(layout),
+        Command::Encode => spectra_size(layout),
+        Command::Write => record_size(layout),
         _ => layout.frame_size,
     }
 }
 
-// Can the command be done with this layout? If not, that is said.
+// Is the input made of frames?
+fn takes_frames(command: Command) -> bool {
+    match command {
+        Command::Read => true,
+        Command::Check => true,
+        _ => false,
+    }
+}
+
+// Can the command be done with these words and this layout? If not, that is said.
 fn is_sound(options: Options, layout: Layout) -> bool {
-    if options.is_bad || !is_possible(layout) {
+    if options.is_bad || !is_possible(layout) || !have_own_names(options) {
         return false;
     }
-    if options.command == 1 && has_secondary(layout) && value(options, 8) == 0 {
-        refuse_option(options, 8, MISSING_FOR_S);
+    let command = options.command;
+    if is_encode(command) && has_secondary(layout) && !is_given(options, Name::Intensities) {
+        refuse_option(options, Name::Intensities, MISSING_FOR_S);
         return false;
     }
     true
 }
 
-fn unopened(command: usize, layout: Layout) -> Job {
+// Where the text goes: nowhere, or to standard output.
+fn text_of(options: Options) -> i32 {
+    if is_given(options, Name::Quiet) {
+        -1
+    } else {
+        1
+    }
+}
+
+fn unopened(options: Options, layout: Layout) -> Job {
+    let command = options.command;
     Job {
         command: command,
         layout: layout,
         size: block_size(command, layout),
+        layout_file: options.layout_file,
         input: -1,
         intensities: -1,
         output: -1,
-        output_name: 0,
+        output_file: FileName {
+            argument: 0,
+            start: 0,
+        },
+        text: text_of(options),
         is_ready: false,
-        is_watched: is_terminal(),
+        is_watched: libc::isatty(2) == 1,
     }
 }
 
 fn with_input(options: Options, job: Job) -> Job {
     let mut j = job;
-    j.input = open_blocks(value(options, input_option(job.command)), job.size);
+    let command = job.command;
+    let file = file_of(options, input_of(command));
+    j.input = open_blocks(file, job.size, takes_frames(command));
     j.is_ready = 0 <= j.input;
     j
 }
@@ -94,53 +112,63 @@ fn is_even(job: Job) -> bool {
 
 // With the intensities, if they are given.
 fn with_intensities(options: Options, job: Job) -> Job {
-    let argument = value(options, 8);
-    if !job.is_ready || argument == 0 {
+    if !job.is_ready || !is_given(options, Name::Intensities) {
         return job;
     }
     let mut j = job;
-    j.intensities = open_blocks(argument, side_value_count(job.layout));
+    let file = file_of(options, Name::Intensities);
+    j.intensities = open_blocks(file, side_value_count(job.layout), false);
     j.is_ready = 0 <= j.intensities && is_even(j);
     j
 }
 
-// With its output, if there is one.
-fn with_output(options: Options, job: Job) -> Job {
-    let argument = value(options, output_option(job.command));
-    if !job.is_ready || argument == 0 {
-        return job;
-    }
+// The text gives way where the output is standard output.
+fn with_text(job: Job) -> Job {
     let mut j = job;
-    j.output = begin_output(argument);
-    j.output_name = argument;
-    j.is_ready = 0 <= j.output;
+    if job.output == 1 {
+        j.is_watched = false;
+        if 0 < job.text {
+            j.text = 2;
+        }
+    }
     j
+}
+
+// With its output, if there is one. Nothing has been read yet.
+fn with_output(options: Options, job: Job) -> Job {
+    let command = job.command;
+    let name = output_of(command);
+    let mut j = job;
+    j.is_ready = job.is_ready && are_inputs_apart(job);
+    if !j.is_ready || !is_given(options, name) {
+        return j;
+    }
+    let file = file_of(options, name);
+    j.output = begin_output(job, file);
+    j.output_file = file;
+    j.is_ready = 0 <= j.output;
+    with_text(j)
 }
 
 // The job that the words say; what keeps it from being ready is said.
 pub fn opened(options: Options) -> Job {
     let layout = layout_from_words(options);
-    let job = unopened(options.command, layout);
+    let job = unopened(options, layout);
     if !is_sound(options, layout) {
         return job;
     }
     with_output(options, with_intensities(options, with_input(options, job)))
 }
 
-fn close(fd: i32) {
-    if 0 <= fd {
-        libc::close(fd);
-    }
-}
-
-// Ends the output, which is whole or not there, and closes the inputs. Answers the status.
+// Ends the output, which is whole or not there unless it is standard output, and closes the inputs. Answers the status.
 pub fn ended(job: Job, status: i32) -> i32 {
-    let last = if job.output < 0 {
+    let last = if job.output < 3 {
         status
     } else {
-        end_output(job.output_name, job.output, status)
+        end_output(job.output_file, job.output, status)
     };
-    close(job.intensities);
-    close(job.input);
+    close_file(job.intensities);
+    close_file(job.input);
+    close_file(job.layout_file);
     last
 }

@@ -37,31 +37,31 @@ fn put_codes(line: &mut [u8], place: usize, codes: &[i32], from: usize, n: usize
     at
 }
 
-fn say_channel_head(channel: usize, bands: usize) -> bool {
-    say_form(1, b"  channel #, coded bands #\n", &[channel, bands])
+fn say_channel_head(fd: i32, channel: usize, bands: usize) -> bool {
+    say_form(fd, b"  channel #, coded bands #\n", &[channel, bands])
 }
 
 // A line of n values from a place on, behind what they are.
-fn say_values(name: &[u8], data: &[u8], from: usize, n: usize) -> bool {
+fn say_values(fd: i32, name: &[u8], data: &[u8], from: usize, n: usize) -> bool {
     let mut line = [0u8; 1024];
     let a = put_text(&mut line, 0, name);
     let b = put_values(&mut line, a, data, from, n);
-    say_line(1, &mut line, b)
+    say_line(fd, &mut line, b)
 }
 
-fn say_subframe(codes: &[i32], subframe: usize, from: usize, n: usize) -> bool {
+fn say_subframe(fd: i32, codes: &[i32], subframe: usize, from: usize, n: usize) -> bool {
     let mut line = [0u8; 2048];
     let a = put_form(&mut line, 0, b"    codes #:", &[subframe]);
     let b = put_codes(&mut line, a, codes, from, n);
-    say_line(1, &mut line, b)
+    say_line(fd, &mut line, b)
 }
 
 // The eight subframes of a channel, 128 codes apart.
-fn say_subframes(codes: &[i32], from: usize, n: usize) -> bool {
+fn say_subframes(fd: i32, codes: &[i32], from: usize, n: usize) -> bool {
     let mut at = from;
     let mut s = 0;
     while s < 8 {
-        if !say_subframe(codes, s, at, n) {
+        if !say_subframe(fd, codes, s, at, n) {
             return false;
         }
         at = ahead(at, 128);
@@ -70,20 +70,27 @@ fn say_subframes(codes: &[i32], from: usize, n: usize) -> bool {
     true
 }
 
-fn say_channel(layout: Layout, channel: usize, factors: &[u8], side: &[u8], codes: &[i32]) -> bool {
+fn say_channel(
+    fd: i32,
+    layout: Layout,
+    channel: usize,
+    factors: &[u8],
+    side: &[u8],
+    codes: &[i32],
+) -> bool {
     let c = text::places::clip(channel, 16);
     let n = coded(layout, c);
-    say_channel_head(channel, n)
-        && say_values(b"    factors", factors, c * 128, n)
-        && say_values(b"    side", side, c * 8, sides(layout, c))
-        && say_subframes(codes, c * 1024, n)
+    say_channel_head(fd, channel, n)
+        && say_values(fd, b"    factors", factors, c * 128, n)
+        && say_values(fd, b"    side", side, c * 8, sides(layout, c))
+        && say_subframes(fd, codes, c * 1024, n)
 }
 
 // Every channel; false where something could not be written.
-fn say_channels(layout: Layout, factors: &[u8], side: &[u8], codes: &[i32]) -> bool {
+fn say_channels(fd: i32, layout: Layout, factors: &[u8], side: &[u8], codes: &[i32]) -> bool {
     let mut c = 0;
     while c < 16 {
-        if c < layout.channels && !say_channel(layout, c, factors, side, codes) {
+        if c < layout.channels && !say_channel(fd, layout, c, factors, side, codes) {
             return false;
         }
         c += 1;
@@ -93,12 +100,13 @@ fn say_channels(layout: Layout, factors: &[u8], side: &[u8], codes: &[i32]) -> b
 
 // The head is frame, level, boundary and bits.
 pub fn say_frame(
+    fd: i32,
     head: &[usize; 4],
     layout: Layout,
     factors: &[u8],
     side: &[u8],
     codes: &[i32],
 ) -> bool {
-    say_form(1, b"frame #: level #, boundary #, bits #\n", head)
-        && say_channels(layout, factors, side, codes)
+    say_form(fd, b"frame #: level #, boundary #, bits #\n", head)
+        && say_channels(fd, layout, factors, side, codes)
 }

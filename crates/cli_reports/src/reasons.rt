@@ -1,11 +1,7 @@
 // What is told of a refusal.
 use refusals::Refusal;
-use refusals::refused;
-use rules::Layout;
-use rules::legal;
 use text::forms::put_entry;
 use text::forms::put_form;
-use text::lines::put_text;
 use text::lines::say_line;
 
 // The line of each refusal, with its number and, where document 01 has one, the number beside it; line 0 is for any other.
@@ -56,15 +52,4 @@ pub fn say_refusal(fd: i32, frame: usize, told: Refusal) -> bool {
     let mut line = [0u8; 256];
     let at = put_form(&mut line, 0, b"frame #: ", &[frame]);
     say_told(fd, &mut line, at, told)
-}
-
-// Is the layout within its limits? If not, that is said.
-pub fn is_possible(layout: Layout) -> bool {
-    if legal(layout) {
-        return true;
-    }
-    let mut line = [0u8; 256];
-    let at = put_text(&mut line, 0, b"hcaframe: ");
-    say_told(2, &mut line, at, refused(1, 0));
-    false
 }

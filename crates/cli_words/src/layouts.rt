@@ -1,23 +1,9 @@
-// The layout that the words say, and what is counted by it.
+// What is counted by a layout.
 ghost use Prim.Native.Nat.{_≤_};
-use crate::options::Options;
-use crate::options::number;
 use rules::Layout;
 use rules::is_secondary;
 use rules::legal;
 use text::places::clip;
-
-pub fn layout_from_words(options: Options) -> Layout {
-    let kinds = options.kinds;
-    Layout {
-        channels: options.channels,
-        kinds: kinds,
-        base: number(options, 2),
-        stereo: number(options, 3),
-        total: number(options, 4),
-        frame_size: number(options, 5),
-    }
-}
 
 fn channels(layout: Layout) -> usize
     ensures { λ r. ⌜ r ≤ 16 ⌝ }

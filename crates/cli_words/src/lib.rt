@@ -1,5 +1,5 @@
-// The words of hcaframe's command line, and the layout that they say.
+// The names that hcaframe knows, its help, and what is counted by a layout.
+pub mod commands;
 pub mod layouts;
 pub mod manual;
-pub mod options;
-pub mod sources;
+pub mod names;

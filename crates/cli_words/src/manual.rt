@@ -1,19 +1,26 @@
 // What each command takes, and what is said when it is called otherwise.
+use crate::commands::Command;
+use crate::commands::line_of;
 use text::lines::say;
 use text::tables::say_entry;
 
-// How a command is called; command 0 is none.
-pub fn say_usage(fd: i32, command: usize) -> bool {
-    say_entry(
-        fd,
-        b"usage: hcaframe encode | read | write | check .. ; hcaframe --help\n\
-          usage: hcaframe encode LAYOUT --spectra FILE [--intensities FILE] --out FILE\n\
-          usage: hcaframe read LAYOUT --frames FILE [--records FILE]\n\
-          usage: hcaframe write LAYOUT --records FILE --out FILE\n\
-          usage: hcaframe check LAYOUT --frames FILE\n",
-        command,
-    )
-        && say(fd, b"\n")
+// How a command is called, on a line each; the first is for none.
+const USAGES: [u8; 341] = *b"usage: hcaframe encode | read | write | check .. ; hcaframe --help\n\
+    usage: hcaframe encode LAYOUT --spectra FILE [--intensities FILE] --out FILE [--quiet]\n\
+    usage: hcaframe read LAYOUT --frames FILE [--records FILE] [--quiet]\n\
+    usage: hcaframe write LAYOUT --records FILE --out FILE [--quiet]\n\
+    usage: hcaframe check LAYOUT --frames FILE [--quiet]\n";
+
+pub fn say_usage(fd: i32, command: Command) -> bool {
+    say_entry(fd, &USAGES, line_of(command)) && say(fd, b"\n")
+}
+
+// How each of the four is called.
+fn say_usages() -> bool {
+    say_usage(1, Command::Encode)
+        && say_usage(1, Command::Read)
+        && say_usage(1, Command::Write)
+        && say_usage(1, Command::Check)
 }
 
 fn say_layout() -> bool {
@@ -64,30 +71,69 @@ fn say_check() -> bool {
     )
 }
 
+// Of the files of every command.
+fn say_files() -> bool {
+    say(
+        1,
+        b"Every option is --option VALUE or --option=VALUE; --quiet has no value and keeps standard output empty.\n\
+          - as FILE is standard input or output. With - as the output, the text goes to standard error, and what was written\n\
+          before a refusal stays written.\n\
+          An output is a new file or takes the place of a regular file, never of a link, a folder or a device, and none of the\n\
+          call's files may be another one of them. It is written as FILE.tmp-NUMBER, the process's, and takes its name, with the\n\
+          mode of a new file, when it is whole. A run that is ended from outside can leave FILE.tmp-NUMBER behind.\n",
+    )
+}
+
 fn say_all() -> bool {
     say(
         1,
         b"encode makes frames from spectra, read tells what frames hold, write makes frames from records,\n\
-          check tells which frames are good. More: hcaframe COMMAND --help\n\
-          Status: 0 all is well, 1 a frame or a record was refused, 2 the words or a file were wrong.\n",
+          check tells which frames are good. More: hcaframe COMMAND --help; hcaframe --version\n",
     )
 }
 
-fn say_command(command: usize) -> bool {
+// Of the status, by the form of the program: one that has it, and one that can only say it.
+fn say_status(has_status: bool) -> bool {
+    let is_said = say(
+        1,
+        b"Status: 0 all is well, 1 a frame or a record was refused, 2 the words or a file were wrong.\n",
+    );
+    if has_status {
+        return is_said && say(1, b"A closed pipe ends the text, not the work.\n");
+    }
+    is_said
+        && say(
+            1,
+            b"The exit status of this form is always 0: one that is not 0 is the last line on standard error. A closed pipe ends it\n\
+              at once, without its files. The form that has the status is target/hcaframe of scripts/hcaframe-build.sh.\n",
+        )
+}
+
+fn say_command(command: Command) -> bool {
     match command {
-        1 => say_encode(),
-        2 => say_read(),
-        3 => say_write(),
-        4 => say_check(),
-        _ => say_all(),
+        Command::Nothing => say_usages() && say_all(),
+        Command::Encode => say_usage(1, command) && say_encode(),
+        Command::Read => say_usage(1, command) && say_read(),
+        Command::Write => say_usage(1, command) && say_write(),
+        Command::Check => say_usage(1, command) && say_check(),
     }
 }
 
 // On standard output; the answer is the status.
-pub fn help(command: usize) -> i32 {
-    if say_usage(1, command) && say_command(command) && say_layout() {
+pub fn help(command: Command, has_status: bool) -> i32 {
+    if say_command(command) && say_layout() && say_files() && say_status(has_status) {
         return 0;
     }
+    complain(b"standard output");
+    2
+}
+
+// The version of the C header and the Rust crate, too.
+pub fn say_version() -> i32 {
+    if say(1, b"hcaframe 0.1.0\n") {
+        return 0;
+    }
+    complain(b"standard output");
     2
 }
 

@@ -64,9 +64,9 @@ fn put_row(line: &mut [u8], numbers: &[usize], widths: &[usize]) -> usize {
     at
 }
 
-// A line of a table on standard output.
-pub fn say_row(numbers: &[usize], widths: &[usize]) -> bool {
+// Writes a line of a table.
+pub fn say_row(fd: i32, numbers: &[usize], widths: &[usize]) -> bool {
     let mut line = [0u8; 128];
     let n = put_row(&mut line, numbers, widths);
-    say_line(1, &mut line, n)
+    say_line(fd, &mut line, n)
 }

@@ -1,11 +1,9 @@
-// What the programs share, and nothing of HCA: numbers, floats and names in bytes; lines, tables and forms; blocks read, and files written whole or
-// not at all.
+// What the programs share, and nothing of HCA: numbers, floats and names in bytes; lines, tables and forms; blocks read.
 pub mod blocks;
 pub mod forms;
 pub mod lines;
 pub mod names;
 pub mod numbers;
-pub mod output;
 pub mod places;
 pub mod tables;
 pub mod words;

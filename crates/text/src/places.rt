@@ -10,7 +10,7 @@ pub fn clip(n: usize, limit: usize) -> usize
 }
 
 // How many bytes a call may be given: n of the data, or all of them where there are fewer.
-pub(crate) fn within(n: usize, data: &[u8]) -> usize
+pub fn within(n: usize, data: &[u8]) -> usize
     ensures { λ r. ⌜ Counts r (now («data» .entry)) ⌝ }
 {
     clip(n, data.len())

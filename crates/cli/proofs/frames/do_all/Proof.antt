@@ -10,9 +10,6 @@ Inv-loop job run₀ turns₀ run turns = Unit {0}
 abbrev μ-loop : tie.MeasureT-loop
 μ-loop job run₀ turns₀ run turns = turns
 
-at-start-requires : tie.Need-at-start-requires Inv-loop μ-loop
-at-start-requires c κs = tt
-
 loop-holds : tie.Need-loop-holds Inv-loop μ-loop
 loop-holds c = tt
 
@@ -40,7 +37,6 @@ do-all-spec =
     (tie.spec
     Inv-loop
     μ-loop
-    at-start-requires
     loop-holds
     do-next-requires
     sub-turns

@@ -5,10 +5,10 @@ use Rattle.cli_reports.proofs.dump.say_channels.Statement.{statement}
 use Rattle.cli_reports.proofs.dump.say_channels.Tie as tie
 
 abbrev Inv-loop : tie.InvT-loop
-Inv-loop layout factors side codes c₀ c = Unit {0}
+Inv-loop fd layout factors side codes c₀ c = Unit {0}
 
 abbrev μ-loop : tie.MeasureT-loop
-μ-loop layout factors side codes c₀ c = 16 - c
+μ-loop fd layout factors side codes c₀ c = 16 - c
 
 loop-holds : tie.Need-loop-holds Inv-loop μ-loop
 loop-holds c = tt

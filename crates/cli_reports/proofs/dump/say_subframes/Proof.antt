@@ -5,10 +5,10 @@ use Rattle.cli_reports.proofs.dump.say_subframes.Statement.{statement}
 use Rattle.cli_reports.proofs.dump.say_subframes.Tie as tie
 
 abbrev Inv-loop : tie.InvT-loop
-Inv-loop codes from n at₀ s₀ at s = Unit {0}
+Inv-loop fd codes from n at₀ s₀ at s = Unit {0}
 
 abbrev μ-loop : tie.MeasureT-loop
-μ-loop codes from n at₀ s₀ at s = 8 - s
+μ-loop fd codes from n at₀ s₀ at s = 8 - s
 
 loop-holds : tie.Need-loop-holds Inv-loop μ-loop
 loop-holds c = tt

@@ -1,0 +1,88 @@
+// No file of a call may be another one of its files: an output would take an input's place.
+use crate::job::Job;
+use cli_options::options::Options;
+use cli_options::said::is_same_name;
+use cli_words::names::Name;
+use cli_words::names::input_of;
+use cli_words::names::name_at;
+use cli_words::names::output_of;
+use cli_words::names::place_of;
+use cli_words::names::say_name;
+use text::lines::say;
+use whole_files::same::is_one_file;
+
+fn say_same(a: Name, b: Name) {
+    say(2, b"hcaframe: ");
+    say_name(2, a);
+    say(2, b" and ");
+    say_name(2, b);
+    say(2, b" are the same file\n");
+}
+
+// Are the options of these places two names that differ, as far as they are given?
+fn differ(options: Options, j: usize, k: usize) -> bool {
+    let command = options.command;
+    let output = place_of(output_of(command));
+    let is_output = j == output || k == output;
+    if j < k && is_same_name(options, name_at(j), name_at(k), is_output) {
+        say_same(name_at(j), name_at(k));
+        return false;
+    }
+    true
+}
+
+// Have all of the call's files names of their own? The six that name a file stand at the places 6 to 11.
+pub fn have_own_names(options: Options) -> bool {
+    let mut c = 0;
+    while c < 36 {
+        if !differ(options, 6 + c / 6, 6 + c % 6) {
+            return false;
+        }
+        c += 1;
+    }
+    true
+}
+
+// Are the two open files two?
+fn are_two(a: i32, a_name: Name, b: i32, b_name: Name) -> bool {
+    if is_one_file(a, b) {
+        say_same(a_name, b_name);
+        return false;
+    }
+    true
+}
+
+// Are the inputs different files?
+pub fn are_inputs_apart(job: Job) -> bool {
+    let command = job.command;
+    let input = input_of(command);
+    are_two(job.input, input, job.intensities, Name::Intensities)
+        && are_two(job.layout_file, Name::Layout, job.input, input)
+        && are_two(
+            job.layout_file,
+            Name::Layout,
+            job.intensities,
+            Name::Intensities,
+        )
+}
+
+// Is the file that the output is, or takes the place of, none of the inputs?
+pub fn is_output_apart(job: Job, fd: i32) -> bool {
+    let command = job.command;
+    let output = output_of(command);
+    are_two(job.input, input_of(command), fd, output)
+        && are_two(job.intensities, Name::Intensities, fd, output)
+        && are_two(job.layout_file, Name::Layout, fd, output)
+}
+
+// Is it not where the text goes?
+pub fn is_text_apart(job: Job, fd: i32) -> bool {
+    if job.text < 0 || !is_one_file(1, fd) {
+        return true;
+    }
+    let command = job.command;
+    say(2, b"hcaframe: ");
+    say_name(2, output_of(command));
+    say(2, b" and standard output are the same file\n");
+    false
+}

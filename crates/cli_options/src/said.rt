@@ -1,0 +1,61 @@
+// What the options say: the layout, and the names of files.
+ghost use Rattle.io.specs.Counts.{Counts};
+use crate::options::Options;
+use crate::options::number;
+use crate::options::start;
+use crate::options::value;
+use cli_words::names::Name;
+use rules::Layout;
+use text::lines::put_text;
+use text::names::is_same;
+use text::places::clip;
+use text::places::within;
+use whole_files::standard::is_standard;
+
+pub fn layout_from_words(options: Options) -> Layout {
+    let kinds = options.kinds;
+    Layout {
+        channels: options.channels,
+        kinds: kinds,
+        base: number(options, Name::Base),
+        stereo: number(options, Name::Stereo),
+        total: number(options, Name::Total),
+        frame_size: number(options, Name::FrameSize),
+    }
+}
+
+// A file's name: an argument, from one of its bytes on. Argument 0 is none.
+pub struct FileName {
+    pub argument: usize,
+    pub start: usize,
+}
+
+pub fn file_of(options: Options, name: Name) -> FileName {
+    FileName {
+        argument: value(options, name),
+        start: start(options, name),
+    }
+}
+
+// Puts the file's name; answers its length.
+pub fn put_path(file: FileName, path: &mut [u8]) -> usize
+    ensures { λ r. ⌜ Counts r (now (path .exit)) ⌝ }
+{
+    let mut word = io::buffer();
+    let n = os::arg(file.argument, &mut word);
+    let a = clip(file.start, n);
+    let end = put_text(path, 0, &word[a..n]);
+    within(end, path)
+}
+
+// Are the two options given, and do they name one file by the same letters? Standard input and standard output are two.
+pub fn is_same_name(options: Options, a: Name, b: Name, is_output: bool) -> bool {
+    if value(options, a) == 0 || value(options, b) == 0 {
+        return false;
+    }
+    let mut x = io::buffer();
+    let mut y = io::buffer();
+    let n = put_path(file_of(options, a), &mut x);
+    let m = put_path(file_of(options, b), &mut y);
+    is_same(&x[..n], &y[..m]) && !(is_output && is_standard(&x[..n]))
+}

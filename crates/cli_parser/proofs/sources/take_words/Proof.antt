@@ -1,0 +1,68 @@
+-- `cli_parser::sources::take_words` is safe and ends. Nothing has to hold from turn to turn. Assumes nothing.
+use lib.ListN.{length}
+use native.Mathlib.Omega.{arith}
+use Prim.Native.Nat.{_-_}
+use borrow.Author.Needs.{needs}
+use Rattle.cli_parser.proofs.sources.take_words.Statement.{statement}
+use Rattle.cli_parser.proofs.sources.take_words.Tie as tie
+
+abbrev Inv-loop : tie.InvT-loop
+Inv-loop text o₀ at₀ o at = Unit {0}
+
+abbrev μ-loop : tie.MeasureT-loop
+μ-loop text o₀ at₀ o at = length text - at
+
+loop-holds : tie.Need-loop-holds Inv-loop μ-loop
+loop-holds c = tt
+
+word-start-requires : tie.Need-word-start-requires Inv-loop μ-loop
+word-start-requires c κs = tt
+
+word-end-requires : tie.Need-word-end-requires Inv-loop μ-loop
+word-end-requires c κs = search needs
+
+line-at-requires : tie.Need-line-at-requires Inv-loop μ-loop
+line-at-requires c κs = tt
+
+sub-take-word-on : tie.Need-sub-take-word-on Inv-loop μ-loop
+sub-take-word-on c = search needs
+
+part-take-word-on-start : tie.Need-part-take-word-on-start Inv-loop μ-loop
+part-take-word-on-start c = search needs
+
+part-take-word-on-end : tie.Need-part-take-word-on-end Inv-loop μ-loop
+part-take-word-on-end c = search needs
+
+take-word-on-requires : tie.Need-take-word-on-requires Inv-loop μ-loop
+take-word-on-requires c κs = tt
+
+further-requires : tie.Need-further-requires Inv-loop μ-loop
+further-requires c κs = search needs
+
+loop-less : tie.Need-loop-less Inv-loop μ-loop
+loop-less c = omega arith
+
+loop-again : tie.Need-loop-again Inv-loop μ-loop
+loop-again c = tt
+
+returns : tie.Need-returns Inv-loop μ-loop
+returns c = tt
+
+pub take-words-spec : {M : Type 1} → statement M
+take-words-spec =
+    tie.close
+    (tie.spec
+    Inv-loop
+    μ-loop
+    loop-holds
+    word-start-requires
+    word-end-requires
+    line-at-requires
+    sub-take-word-on
+    part-take-word-on-start
+    part-take-word-on-end
+    take-word-on-requires
+    further-requires
+    loop-less
+    loop-again
+    returns)

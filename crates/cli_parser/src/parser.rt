@@ -1,0 +1,187 @@
+// The words of a command. One parser takes those of the command line and those of a layout file.
+ghost use Prim.Native.Nat.{_≤_};
+ghost use lib.ListN.{length};
+use crate::kinds::kinds_of;
+use crate::kinds::letters_fault;
+use cli_options::faults::EMPTY_NAME;
+use cli_options::faults::GIVEN_TWICE;
+use cli_options::faults::MISSING;
+use cli_options::faults::MISSING_FOR_LAYOUT;
+use cli_options::faults::NO_NUMBER;
+use cli_options::faults::NO_VALUE;
+use cli_options::faults::NOT_WELCOME;
+use cli_options::faults::TAKES_NO_VALUE;
+use cli_options::faults::UNKNOWN_WORD;
+use cli_options::faults::refuse_option;
+use cli_options::faults::refuse_value;
+use cli_options::faults::refuse_word;
+use cli_options::options::Options;
+use cli_options::options::is_given;
+use cli_options::options::kept;
+use cli_options::options::waits;
+use cli_options::options::with_waiting;
+use cli_words::names::Name;
+use cli_words::names::is_needed;
+use cli_words::names::is_of_layout;
+use cli_words::names::is_taken;
+use cli_words::names::name_at;
+use cli_words::names::name_of;
+use cli_words::names::place_of;
+use text::names::Spelt;
+use text::names::spelt_number;
+use text::places::more;
+use text::places::within;
+
+fn take_number(options: Options, word: &[u8]) -> Options {
+    let name = options.waiting;
+    match spelt_number(word) {
+        Spelt::Number(n) => kept(options, name, more(n, 1)),
+        Spelt::Other => refuse_value(options, word, NO_NUMBER),
+    }
+}
+
+fn take_kinds(options: Options, word: &[u8]) -> Options {
+    let fault = letters_fault(word);
+    if fault != 0 {
+        return refuse_value(options, word, fault);
+    }
+    let mut o = kept(options, Name::Kinds, 1);
+    o.channels = word.len();
+    let kinds = kinds_of(word);
+    o.kinds = kinds;
+    o
+}
+
+// A file is kept as its argument.
+fn take_file(options: Options, word: &[u8]) -> Options {
+    let name = options.waiting;
+    if word.len() == 0 {
+        return refuse_option(options, name, EMPTY_NAME);
+    }
+    kept(options, name, options.argument)
+}
+
+// The value begins at this byte of its argument.
+fn take_value(options: Options, start: usize, word: &[u8]) -> Options {
+    let mut o = options;
+    o.start = start;
+    let name = options.waiting;
+    match name {
+        Name::Kinds => take_kinds(o, word),
+        Name::Base => take_number(o, word),
+        Name::Stereo => take_number(o, word),
+        Name::Total => take_number(o, word),
+        Name::FrameSize => take_number(o, word),
+        _ => take_file(o, word),
+    }
+}
+
+// A word of a layout file comes from no argument, and is of a layout.
+fn is_welcome(options: Options, name: Name) -> bool {
+    if options.line != 0 && !is_of_layout(name) {
+        return false;
+    }
+    let command = options.command;
+    is_taken(command, name)
+}
+
+// What is wrong with an option; 0 if nothing is.
+fn option_fault(options: Options, name: Name) -> usize {
+    if place_of(name) == 0 {
+        return UNKNOWN_WORD;
+    }
+    if !is_welcome(options, name) {
+        return NOT_WELCOME;
+    }
+    if is_given(options, name) {
+        return GIVEN_TWICE;
+    }
+    0
+}
+
+// Where the option's name ends: at the first =, or with the word.
+fn name_end(word: &[u8]) -> usize {
+    let mut i = 0;
+    while i < word.len() {
+        if word[i] == b'=' {
+            return i;
+        }
+        i += 1;
+    }
+    word.len()
+}
+
+// The one option without a value.
+fn take_quiet(options: Options, has_value: bool) -> Options {
+    if has_value {
+        return refuse_option(options, Name::Quiet, TAKES_NO_VALUE);
+    }
+    kept(options, Name::Quiet, 1)
+}
+
+// An option that may be taken, with the value that stands behind its =, or that comes next.
+fn take_named(options: Options, name: Name, word: &[u8], end: usize) -> Options
+    requires { ⌜ end ≤ length (now word) ⌝ }
+{
+    if place_of(name) == place_of(Name::Quiet) {
+        return take_quiet(options, end < word.len());
+    }
+    let o = with_waiting(options, name);
+    if end < word.len() {
+        let start = end + 1;
+        return take_value(o, start, &word[start..]);
+    }
+    o
+}
+
+fn take_option(options: Options, word: &[u8]) -> Options {
+    let end = within(name_end(word), word);
+    let name = name_of(&word[..end]);
+    let fault = option_fault(options, name);
+    if fault != 0 {
+        return refuse_word(options, &word[..end], fault);
+    }
+    take_named(options, name, word, end)
+}
+
+pub(crate) fn take_word(options: Options, word: &[u8]) -> Options {
+    if waits(options) {
+        return take_value(options, 0, word);
+    }
+    take_option(options, word)
+}
+
+// Nothing may wait for its value.
+pub(crate) fn closed(options: Options) -> Options {
+    if options.is_bad || !waits(options) {
+        return options;
+    }
+    let name = options.waiting;
+    refuse_option(options, name, NO_VALUE)
+}
+
+// Is the option needed, and not there?
+fn lacks(options: Options, name: Name) -> bool {
+    let command = options.command;
+    is_needed(command, name) && !is_given(options, name)
+}
+
+fn without(options: Options, name: Name) -> Options {
+    if is_of_layout(name) && !is_given(options, Name::Layout) {
+        return refuse_option(options, name, MISSING_FOR_LAYOUT);
+    }
+    refuse_option(options, name, MISSING)
+}
+
+// Everything that the command needs must be there.
+pub(crate) fn complete(options: Options) -> Options {
+    let mut k = 1;
+    while k < 13 {
+        let name = name_at(k);
+        if lacks(options, name) {
+            return without(options, name);
+        }
+        k += 1;
+    }
+    options
+}

@@ -1,0 +1,78 @@
+// What is told of a layout that no call takes.
+use rules::Layout;
+use rules::legal;
+use text::forms::put_entry;
+use text::lines::put_text;
+use text::lines::say_line;
+use text::places::more;
+
+// The limit that is broken, with what it was broken by; line 0 is for any other.
+const LIMITS: [u8; 207] = *b"\n\
+    : # channels; there are 1 to 16\n\
+    : --total is #; it is 1 to 128\n\
+    : --base is #, above --total, which is #\n\
+    : --base and --stereo are # together, above --total, which is #\n\
+    : --frame-size is #; it is 8 to 65535\n";
+
+// A broken limit, by its line, and the numbers of it.
+struct Broken {
+    line: usize,
+    value: usize,
+    beside: usize,
+}
+
+fn broken_by(line: usize, value: usize, beside: usize) -> Broken {
+    Broken {
+        line: line,
+        value: value,
+        beside: beside,
+    }
+}
+
+fn is_outside(n: usize, least: usize, most: usize) -> bool {
+    n < least || most < n
+}
+
+// The first that is broken, in the order of document 01.
+fn broken_limit(layout: Layout) -> Broken {
+    let both = more(layout.base, layout.stereo);
+    if is_outside(layout.channels, 1, 16) {
+        return broken_by(1, layout.channels, 0);
+    }
+    if is_outside(layout.total, 1, 128) {
+        return broken_by(2, layout.total, 0);
+    }
+    if layout.total < layout.base {
+        return broken_by(3, layout.base, layout.total);
+    }
+    if layout.total < both {
+        return broken_by(4, both, layout.total);
+    }
+    if is_outside(layout.frame_size, 8, 65535) {
+        return broken_by(5, layout.frame_size, 0);
+    }
+    broken_by(0, 0, 0)
+}
+
+// Is the layout within its limits? If not, that is said: refusal 1.
+pub fn is_possible(layout: Layout) -> bool {
+    if legal(layout) {
+        return true;
+    }
+    let limit = broken_limit(layout);
+    let mut line = [0u8; 256];
+    let at = put_text(
+        &mut line,
+        0,
+        b"hcaframe: refusal 1: the layout is outside its limits",
+    );
+    let end = put_entry(
+        &mut line,
+        at,
+        &LIMITS,
+        limit.line,
+        &[limit.value, limit.beside],
+    );
+    say_line(2, &mut line, end);
+    false
+}

@@ -1,0 +1,65 @@
+// Records in the form of a file: level and boundary, factors from byte 8 on, then side values, then codes.
+use cli_files::job::Job;
+use cli_words::layouts::factor_count;
+use cli_words::layouts::record_size;
+use cli_words::layouts::side_value_count;
+use cli_words::layouts::value_count;
+use rules::Layout;
+use text::lines::put_out;
+use text::numbers::put_bytes;
+use text::numbers::put_ints;
+use text::numbers::take_bytes;
+use text::numbers::take_ints;
+use text::words::put_word;
+
+fn put_head(out: &mut [u8], level: usize, boundary: usize) {
+    put_word(out, 0, level);
+    put_word(out, 4, boundary);
+}
+
+fn put_record(
+    out: &mut [u8],
+    layout: Layout,
+    level: usize,
+    boundary: usize,
+    factors: &[u8],
+    side: &[u8],
+    codes: &[i32],
+) {
+    put_head(out, level, boundary);
+    let a = put_bytes(out, 8, factors, factor_count(layout));
+    let b = put_bytes(out, a, side, side_value_count(layout));
+    put_ints(out, b, codes, value_count(layout));
+}
+
+// Written where a file for the records is asked for.
+pub(crate) fn keep_record(
+    job: Job,
+    level: usize,
+    boundary: usize,
+    factors: &[u8],
+    side: &[u8],
+    codes: &[i32],
+) -> bool {
+    if job.output < 0 {
+        return true;
+    }
+    let mut out = [0u8; 67720];
+    put_record(&mut out, job.layout, level, boundary, factors, side, codes);
+    put_out(job.output, &out, record_size(job.layout))
+}
+
+// Takes a record apart.
+pub fn take_record(
+    layout: Layout,
+    block: &[u8],
+    factors: &mut [u8],
+    side: &mut [u8],
+    codes: &mut [i32],
+) {
+    let n = factor_count(layout);
+    let m = side_value_count(layout);
+    take_bytes(block, 8, n, factors);
+    take_bytes(block, 8 + n, m, side);
+    take_ints(block, 8 + n + m, value_count(layout), codes);
+}
