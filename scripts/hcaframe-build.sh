@@ -1,6 +1,6 @@
 #!/bin/sh
 # Builds hcaframe with an exit status, at target/hcaframe. A Rattle program cannot set its status or ignore a signal yet, so the proved commands are
-# taken as a library, and main is two lines of C: a closed pipe is a failed write and not the end, and the status is handed on. cc is needed.
+# taken as a library, and main is three lines of C: a closed pipe is a failed write and not the end, and the status is handed on. cc is needed.
 set -eu
 cd "$(dirname "$0")/.."
 log=$(mktemp)
