@@ -1,9 +1,9 @@
 // One frame of each command of hcaframe, by the public calls.
 use cli_files::headers::is_whole_hca;
 use cli_files::job::Job;
-use cli_runs::outcomes::encoded;
-use cli_runs::outcomes::read;
-use cli_runs::outcomes::written;
+use cli_runs::outcomes::after_encode;
+use cli_runs::outcomes::after_read;
+use cli_runs::outcomes::after_write;
 use cli_runs::progress::Run;
 use cli_runs::progress::is_whole_block;
 use cli_runs::progress::take_intensities;
@@ -45,7 +45,7 @@ fn encode_block(job: Job, run: Run, block: &[u8], intensities: &[u8]) -> Run {
     let mut frame = [0u8; 65535];
     take_floats(block, 0, value_count(layout), &mut spectra);
     let answer = encode_spectra(layout, &spectra, intensities, &mut frame);
-    encoded(job, run, answer, &frame)
+    after_encode(job, run, answer, &frame)
 }
 
 // Spectra to frames.
@@ -67,7 +67,7 @@ pub(crate) fn read_next(job: Job, run: Run, frame: &[u8]) -> Run {
     let mut side = [0u8; 128];
     let mut codes = [0i32; 16384];
     let answer = reader::read_frame(job.layout, frame, &mut factors, &mut side, &mut codes);
-    read(job, run, answer, &factors, &side, &codes)
+    after_read(job, run, answer, &factors, &side, &codes)
 }
 
 // Records to frames.
@@ -87,5 +87,5 @@ pub(crate) fn write_next(job: Job, run: Run, block: &[u8]) -> Run {
         &codes,
         &mut frame,
     );
-    written(job, run, answer, &frame)
+    after_write(job, run, answer, &frame)
 }

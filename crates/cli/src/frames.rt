@@ -9,7 +9,7 @@ use cli_runs::progress::Run;
 use cli_runs::progress::at_start;
 use cli_runs::progress::end_progress;
 use cli_runs::progress::is_whole_block;
-use cli_runs::progress::told;
+use cli_runs::progress::text_told;
 use cli_runs::progress::without_block;
 use cli_words::commands::Command;
 use text::blocks::next_block;
@@ -46,10 +46,10 @@ fn do_all(job: Job, first: Run) -> Run {
 
 // Every frame, with what is said around them.
 pub(crate) fn do_frames(job: Job) -> Run {
-    let run = do_all(job, told(at_start(), say_first(job)));
+    let run = do_all(job, text_told(at_start(), say_first(job)));
     end_progress(job, run);
     if run.status != 0 {
         return run;
     }
-    told(run, say_last(job, run))
+    text_told(run, say_last(job, run))
 }

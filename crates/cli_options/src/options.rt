@@ -68,7 +68,7 @@ pub fn with_waiting(options: Options, name: Name) -> Options {
 }
 
 // With the option's value, for which nothing waits any more.
-pub fn kept(options: Options, name: Name, n: usize) -> Options {
+pub fn with_option(options: Options, name: Name, n: usize) -> Options {
     let k = place_of(name);
     let mut o = with_waiting(options, Name::Unknown);
     if k < 16 {
@@ -78,7 +78,7 @@ pub fn kept(options: Options, name: Name, n: usize) -> Options {
     o
 }
 
-pub fn value(options: Options, name: Name) -> usize {
+pub fn option_value(options: Options, name: Name) -> usize {
     let k = place_of(name);
     if k < 16 {
         return options.values[k];
@@ -87,10 +87,10 @@ pub fn value(options: Options, name: Name) -> usize {
 }
 
 pub fn is_given(options: Options, name: Name) -> bool {
-    value(options, name) != 0
+    option_value(options, name) != 0
 }
 
-pub fn start(options: Options, name: Name) -> usize {
+pub fn option_start(options: Options, name: Name) -> usize {
     let k = place_of(name);
     if k < 16 {
         return options.starts[k];
@@ -99,8 +99,8 @@ pub fn start(options: Options, name: Name) -> usize {
 }
 
 // The number that an option has, 0 where it is not given.
-pub fn number(options: Options, name: Name) -> usize {
-    let n = value(options, name);
+pub fn option_number(options: Options, name: Name) -> usize {
+    let n = option_value(options, name);
     if n == 0 {
         return 0;
     }

@@ -1,9 +1,9 @@
 // What the options say: the layout, and the names of files.
 ghost use Rattle.io.specs.Counts.{Counts};
 use crate::options::Options;
-use crate::options::number;
-use crate::options::start;
-use crate::options::value;
+use crate::options::option_number;
+use crate::options::option_start;
+use crate::options::option_value;
 use cli_words::names::Name;
 use rules::Layout;
 use text::lines::put_text;
@@ -17,10 +17,10 @@ pub fn layout_from_words(options: Options) -> Layout {
     Layout {
         channels: options.channels,
         kinds: kinds,
-        base: number(options, Name::Base),
-        stereo: number(options, Name::Stereo),
-        total: number(options, Name::Total),
-        frame_size: number(options, Name::FrameSize),
+        base: option_number(options, Name::Base),
+        stereo: option_number(options, Name::Stereo),
+        total: option_number(options, Name::Total),
+        frame_size: option_number(options, Name::FrameSize),
     }
 }
 
@@ -32,8 +32,8 @@ pub struct FileName {
 
 pub fn file_of(options: Options, name: Name) -> FileName {
     FileName {
-        argument: value(options, name),
-        start: start(options, name),
+        argument: option_value(options, name),
+        start: option_start(options, name),
     }
 }
 
@@ -50,7 +50,7 @@ pub fn put_path(file: FileName, path: &mut [u8]) -> usize
 
 // Are the two options given, and do they name one file by the same letters? Standard input and standard output are two.
 pub fn is_same_name(options: Options, a: Name, b: Name, is_output: bool) -> bool {
-    if value(options, a) == 0 || value(options, b) == 0 {
+    if option_value(options, a) == 0 || option_value(options, b) == 0 {
         return false;
     }
     let mut x = io::buffer();

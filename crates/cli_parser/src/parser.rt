@@ -17,8 +17,8 @@ use cli_options::faults::refuse_value;
 use cli_options::faults::refuse_word;
 use cli_options::options::Options;
 use cli_options::options::is_given;
-use cli_options::options::kept;
 use cli_options::options::waits;
+use cli_options::options::with_option;
 use cli_options::options::with_waiting;
 use cli_words::names::Name;
 use cli_words::names::is_needed;
@@ -35,7 +35,7 @@ use text::places::within;
 fn take_number(options: Options, word: &[u8]) -> Options {
     let name = options.waiting;
     match spelt_number(word) {
-        Spelt::Number(n) => kept(options, name, more(n, 1)),
+        Spelt::Number(n) => with_option(options, name, more(n, 1)),
         Spelt::Other => refuse_value(options, word, NO_NUMBER),
     }
 }
@@ -45,7 +45,7 @@ fn take_kinds(options: Options, word: &[u8]) -> Options {
     if fault != 0 {
         return refuse_value(options, word, fault);
     }
-    let mut o = kept(options, Name::Kinds, 1);
+    let mut o = with_option(options, Name::Kinds, 1);
     o.channels = word.len();
     let kinds = kinds_of(word);
     o.kinds = kinds;
@@ -58,7 +58,7 @@ fn take_file(options: Options, word: &[u8]) -> Options {
     if word.len() == 0 {
         return refuse_option(options, name, EMPTY_NAME);
     }
-    kept(options, name, options.argument)
+    with_option(options, name, options.argument)
 }
 
 // The value begins at this byte of its argument.
@@ -116,7 +116,7 @@ fn take_quiet(options: Options, has_value: bool) -> Options {
     if has_value {
         return refuse_option(options, Name::Quiet, TAKES_NO_VALUE);
     }
-    kept(options, Name::Quiet, 1)
+    with_option(options, Name::Quiet, 1)
 }
 
 // An option that may be taken, with the value that stands behind its =, or that comes next.

@@ -8,8 +8,8 @@ use cli_options::faults::NO_LAYOUT_FILE;
 use cli_options::faults::refuse_word;
 use cli_options::options::Options;
 use cli_options::options::none_yet;
+use cli_options::options::option_value;
 use cli_options::options::spoilt;
-use cli_options::options::value;
 use cli_options::said::file_of;
 use cli_options::said::put_path;
 use cli_words::commands::Command;
@@ -171,7 +171,7 @@ pub fn all_words(command: Command) -> Options {
     if o.is_bad {
         return o;
     }
-    if value(o, Name::Layout) == 0 {
+    if option_value(o, Name::Layout) == 0 {
         return complete(o);
     }
     let all = from_layout(o);

@@ -3,7 +3,7 @@ use crate::progress::Run;
 use crate::progress::ended_by;
 use crate::progress::frame_done;
 use crate::progress::text_to;
-use crate::progress::told;
+use crate::progress::text_told;
 use crate::records::keep_record;
 use cli_files::job::Job;
 use cli_reports::dump::say_frame;
@@ -30,26 +30,26 @@ fn with_bytes(job: Job, run: Run, frame: &[u8]) -> Run {
     frame_done(job, run, put_out(job.output, frame, job.layout.frame_size))
 }
 
-pub fn encoded(job: Job, run: Run, answer: StageAnswer, frame: &[u8]) -> Run {
+pub fn after_encode(job: Job, run: Run, answer: StageAnswer, frame: &[u8]) -> Run {
     let StageAnswer::Delivered(level, boundary, pairs, bits) = answer else {
         return ended_by(run, stage_refusal(answer));
     };
     let row = [run.done, level, boundary, pairs, bits];
     with_bytes(
         job,
-        told(run, say_stage_row(text_to(job, run), &row)),
+        text_told(run, say_stage_row(text_to(job, run), &row)),
         frame,
     )
 }
 
-pub fn written(job: Job, run: Run, answer: WriteAnswer, frame: &[u8]) -> Run {
+pub fn after_write(job: Job, run: Run, answer: WriteAnswer, frame: &[u8]) -> Run {
     let WriteAnswer::Delivered(level, boundary, bits) = answer else {
         return ended_by(run, write_refusal(answer));
     };
     let row = [run.done, level, boundary, bits];
     with_bytes(
         job,
-        told(run, say_record_row(text_to(job, run), &row)),
+        text_told(run, say_record_row(text_to(job, run), &row)),
         frame,
     )
 }
@@ -63,7 +63,7 @@ fn say_and_keep(
     side: &[u8],
     codes: &[i32],
 ) -> Run {
-    let r = told(
+    let r = text_told(
         run,
         say_frame(text_to(job, run), head, job.layout, factors, side, codes),
     );
@@ -94,14 +94,14 @@ fn checked(job: Job, run: Run, answer: Refusal) -> Run {
     let text = text_to(job, run);
     if answer.number == 0 {
         let is_told = say_form(text, b"frame #: good\n", &[run.done]);
-        return frame_done(job, told(run, is_told), true);
+        return frame_done(job, text_told(run, is_told), true);
     }
-    let mut r = told(run, say_refusal(text, run.done, answer));
+    let mut r = text_told(run, say_refusal(text, run.done, answer));
     r.refused = more(run.refused, 1);
     frame_done(job, r, true)
 }
 
-pub fn read(
+pub fn after_read(
     job: Job,
     run: Run,
     answer: ReadAnswer,

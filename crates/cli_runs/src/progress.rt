@@ -49,7 +49,7 @@ pub(crate) fn text_to(job: Job, run: Run) -> i32 {
 }
 
 // The text ends where it cannot be written, and the work goes on. A reader who has had enough is no fault.
-pub fn told(run: Run, is_told: bool) -> Run {
+pub fn text_told(run: Run, is_told: bool) -> Run {
     if is_told {
         return run;
     }

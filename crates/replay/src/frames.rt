@@ -7,12 +7,12 @@ use replay_vectors::data::numbers_at;
 use replay_vectors::layouts::can_say;
 use replay_vectors::layouts::layout_in_body;
 use replay_vectors::layouts::past_layout;
+use replay_vectors::lines::CaseOutcome;
 use replay_vectors::lines::Left;
-use replay_vectors::lines::Outcome;
 use replay_vectors::lines::Verdict;
-use replay_vectors::lines::judged;
+use replay_vectors::lines::judge_case;
 use replay_vectors::lines::not_run;
-use replay_vectors::lines::told;
+use replay_vectors::lines::refusal_told;
 use replay_vectors::runs::runs_f32;
 use replay_vectors::sums::sum_f32;
 use replay_vectors::sums::sum_i32;
@@ -25,7 +25,7 @@ use text::words::word;
 
 fn stage_answer(answer: StageAnswer) -> Numbers {
     let StageAnswer::Delivered(level, boundary, pairs, bits) = answer else {
-        return told(stage_refusal(answer));
+        return refusal_told(stage_refusal(answer));
     };
     Numbers {
         a: 0,
@@ -97,14 +97,14 @@ fn stage_call(layout: Layout, lengths: Numbers, spectra: &[f32], intensities: &[
 }
 
 // At a place the five lengths, then the answer and the sums that are to come.
-fn judge_stage(body: &[u8], at: usize, spectra: &[f32], intensities: &[u8]) -> Outcome {
+fn judge_stage(body: &[u8], at: usize, spectra: &[f32], intensities: &[u8]) -> CaseOutcome {
     let lengths = numbers_at(body, at);
     let left = stage_call(layout_in_body(body), lengths, spectra, intensities);
-    judged(body, ahead(at, 20), left, 40)
+    judge_case(body, ahead(at, 20), left, 40)
 }
 
 // The intensities stand behind the n spectra, and the lengths behind them.
-fn stage_parts(body: &[u8], at: usize, spectra: &[f32], n: usize) -> Outcome {
+fn stage_parts(body: &[u8], at: usize, spectra: &[f32], n: usize) -> CaseOutcome {
     let intensities = bytes_at(body, at);
     let a = intensities.start;
     let e = intensities.end;
@@ -112,7 +112,7 @@ fn stage_parts(body: &[u8], at: usize, spectra: &[f32], n: usize) -> Outcome {
     judge_stage(body, e, &spectra[..m], &body[a..e])
 }
 
-pub(crate) fn stage_case(body: &[u8]) -> Outcome {
+pub(crate) fn stage_case(body: &[u8]) -> CaseOutcome {
     if !can_say(body) {
         return not_run(Verdict::Skipped);
     }

@@ -4,7 +4,7 @@ use self::records::check_case;
 use self::records::read_case;
 use self::records::write_case;
 use replay_vectors::data::bytes_at;
-use replay_vectors::lines::Outcome;
+use replay_vectors::lines::CaseOutcome;
 use replay_vectors::lines::Tally;
 use replay_vectors::lines::Verdict;
 use replay_vectors::lines::add_to_tally;
@@ -22,7 +22,7 @@ mod frames;
 mod records;
 
 // Runs the call that a case's body says. A kind that there is not is damage.
-fn run_case(kind: usize, body: &[u8]) -> Outcome {
+fn run_case(kind: usize, body: &[u8]) -> CaseOutcome {
     match kind {
         1 => stage_case(body),
         2 => read_case(body),

@@ -8,13 +8,13 @@ use replay_vectors::data::numbers_at;
 use replay_vectors::layouts::can_say;
 use replay_vectors::layouts::layout_in_body;
 use replay_vectors::layouts::past_layout;
+use replay_vectors::lines::CaseOutcome;
 use replay_vectors::lines::Left;
-use replay_vectors::lines::Outcome;
 use replay_vectors::lines::Verdict;
 use replay_vectors::lines::delivered;
-use replay_vectors::lines::judged;
+use replay_vectors::lines::judge_case;
 use replay_vectors::lines::not_run;
-use replay_vectors::lines::told;
+use replay_vectors::lines::refusal_told;
 use replay_vectors::lines::verdict_for;
 use replay_vectors::runs::runs_i32;
 use replay_vectors::sums::sum_i32;
@@ -28,7 +28,7 @@ use text::words::word;
 
 fn read_answer(answer: ReadAnswer) -> Numbers {
     let ReadAnswer::Delivered(level, boundary, bits) = answer else {
-        return told(read_refusal(answer));
+        return refusal_told(read_refusal(answer));
     };
     delivered(level, boundary, bits)
 }
@@ -71,13 +71,13 @@ fn read_call(layout: Layout, lengths: Numbers, frame: &[u8]) -> Left {
 }
 
 // At a place the three lengths, then the answer and the sums that are to come.
-fn judge_read(body: &[u8], at: usize, frame: &[u8]) -> Outcome {
+fn judge_read(body: &[u8], at: usize, frame: &[u8]) -> CaseOutcome {
     let lengths = numbers_at(body, at);
     let left = read_call(layout_in_body(body), lengths, frame);
-    judged(body, ahead(at, 12), left, 32)
+    judge_case(body, ahead(at, 12), left, 32)
 }
 
-pub(crate) fn read_case(body: &[u8]) -> Outcome {
+pub(crate) fn read_case(body: &[u8]) -> CaseOutcome {
     if !can_say(body) {
         return not_run(Verdict::Skipped);
     }
@@ -89,7 +89,7 @@ pub(crate) fn read_case(body: &[u8]) -> Outcome {
 
 fn write_answer(answer: WriteAnswer) -> Numbers {
     let WriteAnswer::Delivered(level, boundary, bits) = answer else {
-        return told(write_refusal(answer));
+        return refusal_told(write_refusal(answer));
     };
     delivered(level, boundary, bits)
 }
@@ -139,23 +139,23 @@ fn judge_write(
     side: &[u8],
     codes: &[i32],
     count: usize,
-) -> Outcome {
+) -> CaseOutcome {
     let layout = layout_in_body(body);
     let head = numbers_at(body, past_layout(body));
     let n = word(body, at);
     let k = clip(count, codes.len());
     let left = write_call(layout, head, factors, side, &codes[..k], n);
-    judged(body, ahead(at, 4), left, 24)
+    judge_case(body, ahead(at, 4), left, 24)
 }
 
 // The codes stand at a place, and the frame's length behind them.
-fn write_with_codes(body: &[u8], at: usize, factors: &[u8], side: &[u8]) -> Outcome {
+fn write_with_codes(body: &[u8], at: usize, factors: &[u8], side: &[u8]) -> CaseOutcome {
     let mut codes = [0i32; 16384];
     let next = runs_i32(body, at, &mut codes);
     judge_write(body, next, factors, side, &codes, word(body, at))
 }
 
-pub(crate) fn write_case(body: &[u8]) -> Outcome {
+pub(crate) fn write_case(body: &[u8]) -> CaseOutcome {
     if !can_say(body) {
         return not_run(Verdict::Skipped);
     }
@@ -172,14 +172,14 @@ fn check_number(check: u16) -> usize {
     check as usize
 }
 
-pub(crate) fn check_case(body: &[u8]) -> Outcome {
+pub(crate) fn check_case(body: &[u8]) -> CaseOutcome {
     let bytes = bytes_at(body, 0);
     let a = bytes.start;
     let e = bytes.end;
     let check = check_number(crc::crc16_checksum(&body[a..e]));
     let is_same = check == word(body, e);
-    Outcome {
-        answer: told(refused(0, check)),
+    CaseOutcome {
+        answer: refusal_told(refused(0, check)),
         verdict: verdict_for(is_same, ahead(e, 4) == body.len()),
     }
 }

@@ -23,7 +23,7 @@ pub struct Left {
     pub sums: Numbers,
 }
 
-pub struct Outcome {
+pub struct CaseOutcome {
     pub answer: Numbers,
     pub verdict: Verdict,
 }
@@ -37,7 +37,7 @@ pub struct Tally {
 }
 
 // An answer place that no call writes holds 0x5A5A5A5A.
-pub fn told(refusal: Refusal) -> Numbers {
+pub fn refusal_told(refusal: Refusal) -> Numbers {
     Numbers {
         a: refusal.number,
         b: refusal.beside,
@@ -70,21 +70,21 @@ pub fn verdict_for(is_same: bool, is_whole: bool) -> Verdict {
 }
 
 // At a place the answer that is to come, and the sums behind it, up to the body's end n bytes on: past it all is 0, as are the sums of no buffer.
-pub fn judged(body: &[u8], at: usize, left: Left, n: usize) -> Outcome {
+pub fn judge_case(body: &[u8], at: usize, left: Left, n: usize) -> CaseOutcome {
     let answer = left.answer;
     let sums = left.sums;
     let is_told = are_same(numbers_at(body, at), answer);
     let is_left = are_same(numbers_at(body, ahead(at, 20)), sums);
-    Outcome {
+    CaseOutcome {
         answer: answer,
         verdict: verdict_for(is_told && is_left, ahead(at, n) == body.len()),
     }
 }
 
 // Of a case that is not run.
-pub fn not_run(verdict: Verdict) -> Outcome {
-    Outcome {
-        answer: told(refused(0, 0)),
+pub fn not_run(verdict: Verdict) -> CaseOutcome {
+    CaseOutcome {
+        answer: refusal_told(refused(0, 0)),
         verdict: verdict,
     }
 }
@@ -144,7 +144,7 @@ pub fn is_damaged(verdict: Verdict) -> bool {
 }
 
 // Only what was run has an answer. The verdict's line is that of its number.
-pub fn say_outcome(number: usize, kind: usize, outcome: Outcome) {
+pub fn say_outcome(number: usize, kind: usize, outcome: CaseOutcome) {
     let answer = outcome.answer;
     let verdict = outcome.verdict;
     let n = verdict_number(verdict);

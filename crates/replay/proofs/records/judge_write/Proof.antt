@@ -28,8 +28,8 @@ write-call-requires c κs = tt
 ahead-requires : tie.Need-ahead-requires
 ahead-requires c κs = tt
 
-judged-requires : tie.Need-judged-requires
-judged-requires c κs = tt
+judge-case-requires : tie.Need-judge-case-requires
+judge-case-requires c κs = tt
 
 returns : tie.Need-returns
 returns c = tt
@@ -46,5 +46,5 @@ judge-write-spec =
     slice-aggregate-write-call
     write-call-requires
     ahead-requires
-    judged-requires
+    judge-case-requires
     returns)
