@@ -8,7 +8,7 @@ use cli_words::names::Name;
 use rules::Layout;
 use text::lines::put_text;
 use text::names::is_same;
-use text::places::clip;
+use text::places::at_most;
 use text::places::within;
 use whole_files::standard::is_standard;
 
@@ -43,7 +43,7 @@ pub fn put_path(file: FileName, path: &mut [u8]) -> usize
 {
     let mut word = io::buffer();
     let n = os::arg(file.argument, &mut word);
-    let a = clip(file.start, n);
+    let a = at_most(file.start, n);
     let end = put_text(path, 0, &word[a..n]);
     within(end, path)
 }

@@ -78,7 +78,7 @@ fn say_channel(
     side: &[u8],
     codes: &[i32],
 ) -> bool {
-    let c = text::places::clip(channel, 16);
+    let c = text::places::at_most(channel, 16);
     let n = coded(layout, c);
     say_channel_head(fd, channel, n)
         && say_values(fd, b"    factors", factors, c * 128, n)

@@ -3,12 +3,12 @@ ghost use Prim.Native.Nat.{_≤_};
 use rules::Layout;
 use rules::is_secondary;
 use rules::legal;
-use text::places::clip;
+use text::places::at_most;
 
 fn channels(layout: Layout) -> usize
     ensures { λ r. ⌜ r ≤ 16 ⌝ }
 {
-    clip(layout.channels, 16)
+    at_most(layout.channels, 16)
 }
 
 // Spectrum values, or codes.

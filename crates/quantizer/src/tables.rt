@@ -11,7 +11,7 @@ ghost use Rattle.rules.specs.Code.{stepOf, stepShift, magnitudeBits, codeLimit}
 ghost use Rattle.quantizer.specs.Packed.{packedRow, entryOf};
 
 // The entry at a place of a row.
-pub fn digit(row: u64, place: usize) -> u32
+pub fn row_entry(row: u64, place: usize) -> u32
     requires { ⌜ place ≤ 15 ⌝ }
     ensures { λ r. ⌜ r ≡ entryOf row place ⌝ }
 {
@@ -23,7 +23,7 @@ pub fn magnitude_bits(r: u8) -> u32
     requires { ⌜ r ≤ 15 ⌝ }
     ensures { λ n. ⌜ (n ≡ magnitudeBits r) × (n ≤ 11) ⌝ }
 {
-    digit(0xBA98_7654_3333_2210, r as usize)
+    row_entry(0xBA98_7654_3333_2210, r as usize)
 }
 
 pub fn limit_of(r: u8) -> i64
@@ -120,12 +120,12 @@ pub fn code_length(r: u8, place: usize) -> u32
     requires { ⌜ (r < 8) × (place ≤ 15) ⌝ }
     ensures { λ n. ⌜ (n ≡ getD (getD spectrumBits r []) place 0) × (n ≤ 4) ⌝ }
 {
-    digit(length_row(r), place)
+    row_entry(length_row(r), place)
 }
 
 pub fn code_word(r: u8, place: usize) -> u32
     requires { ⌜ (r < 8) × (place ≤ 15) ⌝ }
     ensures { λ n. ⌜ (n ≡ getD (getD spectrumValue r []) place 0) × (n < 2 ^ getD (getD spectrumBits r []) place 0) ⌝ }
 {
-    digit(word_row(r), place)
+    row_entry(word_row(r), place)
 }

@@ -3,8 +3,8 @@
 ghost use mathlib.Core.Path.{_≡_};
 ghost use Prim.Native.Nat.{_≤_, _<_};
 ghost use Rattle.reader_codes.specs.Seen.{wordBits, codeSeen, lengthSeen, placeSeen, IsRow};
-use quantizer::tables::digit;
 use quantizer::tables::magnitude_bits;
+use quantizer::tables::row_entry;
 
 // MAX_BIT_TABLE.
 pub(crate) fn word_bits(r: u8) -> u32
@@ -52,12 +52,12 @@ pub(crate) fn seen_length(r: u8, seen: u32) -> u32
     requires { ⌜ (r < 8) × (seen < 16) ⌝ }
     ensures { λ n. ⌜ (n ≡ lengthSeen r seen) × (n ≤ 15) ⌝ }
 {
-    digit(length_row(r), seen as usize)
+    row_entry(length_row(r), seen as usize)
 }
 
 pub(crate) fn seen_code(r: u8, seen: u32) -> i32
     requires { ⌜ (r < 8) × (seen < 16) ⌝ }
     ensures { λ z. ⌜ z ≡ codeSeen r seen ⌝ }
 {
-    digit(code_row(r), seen as usize) as i32 - 8
+    row_entry(code_row(r), seen as usize) as i32 - 8
 }

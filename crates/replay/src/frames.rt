@@ -20,7 +20,7 @@ use replay_vectors::sums::sum_u8;
 use rules::Layout;
 use rules::StageAnswer;
 use text::places::ahead;
-use text::places::clip;
+use text::places::at_most;
 use text::words::word;
 
 fn stage_answer(answer: StageAnswer) -> Numbers {
@@ -41,11 +41,11 @@ fn lent_lengths(lengths: Numbers) -> Numbers
     ensures { λ r. ⌜ (r .a ≤ 16384) × (r .b ≤ 16384) × (r .c ≤ 2048) × (r .d ≤ 128) × (r .e ≤ 2048) ⌝ }
 {
     Numbers {
-        a: clip(lengths.a, 16384),
-        b: clip(lengths.b, 16384),
-        c: clip(lengths.c, 2048),
-        d: clip(lengths.d, 128),
-        e: clip(lengths.e, 2048),
+        a: at_most(lengths.a, 16384),
+        b: at_most(lengths.b, 16384),
+        c: at_most(lengths.c, 2048),
+        d: at_most(lengths.d, 128),
+        e: at_most(lengths.e, 2048),
     }
 }
 
@@ -108,7 +108,7 @@ fn stage_parts(body: &[u8], at: usize, spectra: &[f32], n: usize) -> CaseOutcome
     let intensities = bytes_at(body, at);
     let a = intensities.start;
     let e = intensities.end;
-    let m = clip(n, spectra.len());
+    let m = at_most(n, spectra.len());
     judge_stage(body, e, &spectra[..m], &body[a..e])
 }
 

@@ -23,7 +23,7 @@ use rules::Layout;
 use rules::ReadAnswer;
 use rules::WriteAnswer;
 use text::places::ahead;
-use text::places::clip;
+use text::places::at_most;
 use text::words::word;
 
 fn read_answer(answer: ReadAnswer) -> Numbers {
@@ -54,9 +54,9 @@ fn read_call(layout: Layout, lengths: Numbers, frame: &[u8]) -> Left {
     let mut factors = [0x5Au8; 2048];
     let mut side = [0x5Au8; 128];
     let mut codes = [0x5A5A_5A5Ai32; 16384];
-    let m = clip(lengths.a, 2048);
-    let k = clip(lengths.b, 128);
-    let n = clip(lengths.c, 16384);
+    let m = at_most(lengths.a, 2048);
+    let k = at_most(lengths.b, 128);
+    let n = at_most(lengths.c, 16384);
     let answer = reader::read_frame(
         layout,
         frame,
@@ -115,7 +115,7 @@ fn write_call(
     n: usize,
 ) -> Left {
     let mut frame = [0x5Au8; 2048];
-    let f = clip(n, 2048);
+    let f = at_most(n, 2048);
     let answer = writer::write_record(
         layout,
         head.a,
@@ -143,7 +143,7 @@ fn judge_write(
     let layout = layout_in_body(body);
     let head = numbers_at(body, past_layout(body));
     let n = word(body, at);
-    let k = clip(count, codes.len());
+    let k = at_most(count, codes.len());
     let left = write_call(layout, head, factors, side, &codes[..k], n);
     judge_case(body, ahead(at, 4), left, 24)
 }

@@ -2,7 +2,7 @@
 ghost use Prim.Native.Nat.{_≤_};
 ghost use lib.ListN.{length};
 use text::places::ahead;
-use text::places::clip;
+use text::places::at_most;
 use text::places::end;
 use text::words::word;
 use text::words::word_past;
@@ -26,7 +26,7 @@ pub struct Numbers {
 pub fn bytes_at(body: &[u8], at: usize) -> Part
     ensures { λ r. ⌜ (r .start ≤ r .end) × (r .end ≤ length (now (body .entry))) ⌝ }
 {
-    let a = clip(ahead(at, 4), body.len());
+    let a = at_most(ahead(at, 4), body.len());
     Part {
         start: a,
         end: end(a, word(body, at), body.len()),

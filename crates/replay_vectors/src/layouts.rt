@@ -2,7 +2,7 @@
 use crate::data::bytes_at;
 use rules::Layout;
 use text::places::ahead;
-use text::places::clip;
+use text::places::at_most;
 use text::words::byte;
 use text::words::word;
 
@@ -31,7 +31,7 @@ pub fn can_say(body: &[u8]) -> bool {
     if word(body, 20) < channels {
         return false;
     }
-    let n = clip(channels, 16);
+    let n = at_most(channels, 16);
     let mut i = 0;
     while i < n {
         if 2 < byte(body, ahead(24, i)) {

@@ -1,7 +1,7 @@
 // Lists of words that are 0 but for some runs, and what the words stand for.
 use text::numbers::float_of;
 use text::places::ahead;
-use text::places::clip;
+use text::places::at_most;
 use text::words::int_of;
 use text::words::word;
 use text::words::word_past;
@@ -28,12 +28,12 @@ fn put_run(body: &[u8], place: usize, start: usize, k: usize, out: &mut [u32]) -
 }
 
 fn put_runs(body: &[u8], place: usize, out: &mut [u32]) -> usize {
-    let count = clip(word_past(body, place, 4), 16384);
+    let count = at_most(word_past(body, place, 4), 16384);
     let mut at = ahead(place, 8);
     let mut j = 0;
     while j < count {
         let start = word(body, at);
-        let k = clip(word_past(body, at, 4), 16384);
+        let k = at_most(word_past(body, at, 4), 16384);
         at = put_run(body, ahead(at, 8), start, k, out);
         j += 1;
     }

@@ -9,7 +9,7 @@ ghost use Rattle.rules.specs.Layout.{Sizes};
 ghost use Rattle.rules.specs.Resolution.{noiseAt, heldPosition, resolutionIn, resolution, channelResolutions, allResolutions};
 ghost use Rattle.quantizer.specs.Packed.{packedRow};
 use quantizer::held;
-use quantizer::tables::digit;
+use quantizer::tables::row_entry;
 use rules::Layout;
 use rules::coded_count;
 
@@ -55,7 +55,7 @@ fn curve(at: usize) -> u8
     requires { ⌜ at ≤ 58 ⌝ }
     ensures { λ r. ⌜ (r ≡ getD resolutionCurve at 0) × (r ≤ 15) ⌝ }
 {
-    digit(curve_row(at / 16), at % 16) as u8
+    row_entry(curve_row(at / 16), at % 16) as u8
 }
 
 fn larger(a: u8, b: u8) -> u8

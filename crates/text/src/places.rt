@@ -3,7 +3,7 @@ ghost use Prim.Native.Nat.{_≤_};
 ghost use Rattle.io.specs.Counts.{Counts};
 
 // The lesser of the two.
-pub fn clip(n: usize, limit: usize) -> usize
+pub fn at_most(n: usize, limit: usize) -> usize
     ensures { λ r. ⌜ r ≤ limit ⌝ }
 {
     if limit < n { limit } else { n }
@@ -13,7 +13,7 @@ pub fn clip(n: usize, limit: usize) -> usize
 pub fn within(n: usize, data: &[u8]) -> usize
     ensures { λ r. ⌜ Counts r (now («data» .entry)) ⌝ }
 {
-    clip(n, data.len())
+    at_most(n, data.len())
 }
 
 // The end of n bytes from a on, or of the data.

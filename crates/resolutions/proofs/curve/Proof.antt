@@ -11,8 +11,8 @@ use Rattle.resolutions.proofs.curve.Tie as tie
 curve-row-requires : tie.Need-curve-row-requires
 curve-row-requires c κs = search needs
 
-digit-requires : tie.Need-digit-requires
-digit-requires c κs = search needs
+row-entry-requires : tie.Need-row-entry-requires
+row-entry-requires c κs = search needs
 
 cast-result : tie.Need-cast-result
 cast-result c = search needs
@@ -20,7 +20,7 @@ cast-result c = search needs
 returns : tie.Need-returns
 returns c =
     let at = c .before .before .args .at in
-    (c .digit .ensures ∙ ap (λ (n : ℕ). entryOf n (at % 16)) (c .before .curve-row .ensures) ∙ curve-entry at (c .before .before .pre), omega arith)
+    (c .row-entry .ensures ∙ ap (λ (n : ℕ). entryOf n (at % 16)) (c .before .curve-row .ensures) ∙ curve-entry at (c .before .before .pre), omega arith)
 
 pub curve-spec : {M : Type 1} → statement M
-curve-spec = tie.close (tie.spec curve-row-requires digit-requires cast-result returns)
+curve-spec = tie.close (tie.spec curve-row-requires row-entry-requires cast-result returns)

@@ -13,16 +13,16 @@ use Rattle.quantizer.proofs.tables.code_length.Tie as tie
 length-row-requires : tie.Need-length-row-requires
 length-row-requires c κs = search needs
 
-digit-requires : tie.Need-digit-requires
-digit-requires c κs = search needs
+row-entry-requires : tie.Need-row-entry-requires
+row-entry-requires c κs = search needs
 
 returns : tie.Need-returns
 returns c =
     let a = c .before .before .args in
     let p = c .before .before .pre in
-    let is : c .digit .result ≡ getD (getD spectrumBits (a .r) []) (a .place) 0 =
-    c .digit .ensures ∙ ap (λ (n : ℕ). entryOf n (a .place)) (c .before .length-row .ensures) ∙ length-entry (a .r) (a .place) (p .0) (p .1) in
+    let is : c .row-entry .result ≡ getD (getD spectrumBits (a .r) []) (a .place) 0 =
+    c .row-entry .ensures ∙ ap (λ (n : ℕ). entryOf n (a .place)) (c .before .length-row .ensures) ∙ length-entry (a .r) (a .place) (p .0) (p .1) in
     (is, rw is (length-le (a .r) (a .place) (p .0) (p .1)))
 
 pub code-length-spec : {M : Type 1} → statement M
-code-length-spec = tie.close (tie.spec length-row-requires digit-requires returns)
+code-length-spec = tie.close (tie.spec length-row-requires row-entry-requires returns)

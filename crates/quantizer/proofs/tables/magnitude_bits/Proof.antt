@@ -6,14 +6,14 @@ use Rattle.quantizer.proofs.Entries.{bits-entry, bits-le}
 use Rattle.quantizer.proofs.tables.magnitude_bits.Statement.{statement}
 use Rattle.quantizer.proofs.tables.magnitude_bits.Tie as tie
 
-digit-requires : tie.Need-digit-requires
-digit-requires c κs = search needs
+row-entry-requires : tie.Need-row-entry-requires
+row-entry-requires c κs = search needs
 
 returns : tie.Need-returns
 returns c =
     let r = c .before .args .r in
-    let is : c .digit .result ≡ magnitudeBits r = c .digit .ensures ∙ bits-entry r (c .before .pre) in
+    let is : c .row-entry .result ≡ magnitudeBits r = c .row-entry .ensures ∙ bits-entry r (c .before .pre) in
     (is, rw is (bits-le r (c .before .pre)))
 
 pub magnitude-bits-spec : {M : Type 1} → statement M
-magnitude-bits-spec = tie.close (tie.spec digit-requires returns)
+magnitude-bits-spec = tie.close (tie.spec row-entry-requires returns)

@@ -10,14 +10,14 @@ use Rattle.reader_codes.proofs.lookup.seen_length.Tie as tie
 length-row-requires : tie.Need-length-row-requires
 length-row-requires c κs = search needs
 
-digit-requires : tie.Need-digit-requires
-digit-requires c κs = search needs
+row-entry-requires : tie.Need-row-entry-requires
+row-entry-requires c κs = search needs
 
 returns : tie.Need-returns
 returns c = (
-  c .digit .ensures ∙ row-entry (lengthSeen (c .before .before .args .r)) _ _ (c .before .length-row .ensures) (c .before .before .pre .1),
+  c .row-entry .ensures ∙ row-entry (lengthSeen (c .before .before .args .r)) _ _ (c .before .length-row .ensures) (c .before .before .pre .1),
   omega arith,
 )
 
 pub seen-length-spec : {M : Type 1} → statement M
-seen-length-spec = tie.close (tie.spec length-row-requires digit-requires returns)
+seen-length-spec = tie.close (tie.spec length-row-requires row-entry-requires returns)

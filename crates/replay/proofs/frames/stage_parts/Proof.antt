@@ -8,11 +8,11 @@ use Rattle.replay.proofs.frames.stage_parts.Tie as tie
 bytes-at-requires : tie.Need-bytes-at-requires
 bytes-at-requires c κs = tt
 
-clip-requires : tie.Need-clip-requires
-clip-requires c κs = tt
+at-most-requires : tie.Need-at-most-requires
+at-most-requires c κs = tt
 
 slice-aggregate-judge-stage : tie.Need-slice-aggregate-judge-stage
-slice-aggregate-judge-stage c = sym (length-take-le _ _ (c .before .clip .ensures))
+slice-aggregate-judge-stage c = sym (length-take-le _ _ (c .before .at-most .ensures))
 
 sub-judge-stage : tie.Need-sub-judge-stage
 sub-judge-stage c = search needs
@@ -34,7 +34,7 @@ stage-parts-spec =
     tie.close
     (tie.spec
     bytes-at-requires
-    clip-requires
+    at-most-requires
     slice-aggregate-judge-stage
     sub-judge-stage
     part-judge-stage-start

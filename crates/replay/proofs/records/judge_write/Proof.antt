@@ -16,11 +16,11 @@ numbers-at-requires c κs = tt
 word-requires : tie.Need-word-requires
 word-requires c κs = tt
 
-clip-requires : tie.Need-clip-requires
-clip-requires c κs = tt
+at-most-requires : tie.Need-at-most-requires
+at-most-requires c κs = tt
 
 slice-aggregate-write-call : tie.Need-slice-aggregate-write-call
-slice-aggregate-write-call c = sym (length-take-le _ _ (c .before .clip .ensures))
+slice-aggregate-write-call c = sym (length-take-le _ _ (c .before .at-most .ensures))
 
 write-call-requires : tie.Need-write-call-requires
 write-call-requires c κs = tt
@@ -42,7 +42,7 @@ judge-write-spec =
     past-layout-requires
     numbers-at-requires
     word-requires
-    clip-requires
+    at-most-requires
     slice-aggregate-write-call
     write-call-requires
     ahead-requires

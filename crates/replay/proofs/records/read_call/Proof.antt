@@ -4,32 +4,32 @@ use lib.Seq.{length-take-le}
 use Rattle.replay.proofs.records.read_call.Statement.{statement}
 use Rattle.replay.proofs.records.read_call.Tie as tie
 
-clip-requires : tie.Need-clip-requires
-clip-requires c κs = tt
+at-most-requires : tie.Need-at-most-requires
+at-most-requires c κs = tt
 
-clip-requires-2 : tie.Need-clip-requires-2
-clip-requires-2 c κs = tt
+at-most-requires-2 : tie.Need-at-most-requires-2
+at-most-requires-2 c κs = tt
 
-clip-requires-3 : tie.Need-clip-requires-3
-clip-requires-3 c κs = tt
+at-most-requires-3 : tie.Need-at-most-requires-3
+at-most-requires-3 c κs = tt
 
 array-borrow-prefix-factors : tie.Need-array-borrow-prefix-factors
-array-borrow-prefix-factors c = c .before .before .clip .ensures
+array-borrow-prefix-factors c = c .before .before .at-most .ensures
 
 slice-aggregate-read-frame : tie.Need-slice-aggregate-read-frame
-slice-aggregate-read-frame c = sym (length-take-le _ _ (c .before .before .before .clip .ensures))
+slice-aggregate-read-frame c = sym (length-take-le _ _ (c .before .before .before .at-most .ensures))
 
 array-borrow-prefix-side : tie.Need-array-borrow-prefix-side
-array-borrow-prefix-side c = c .before .before .clip2 .ensures
+array-borrow-prefix-side c = c .before .before .at-most2 .ensures
 
 slice-aggregate-read-frame-2 : tie.Need-slice-aggregate-read-frame-2
-slice-aggregate-read-frame-2 c = sym (length-take-le _ _ (c .before .before .before .clip2 .ensures))
+slice-aggregate-read-frame-2 c = sym (length-take-le _ _ (c .before .before .before .at-most2 .ensures))
 
 array-borrow-prefix-codes : tie.Need-array-borrow-prefix-codes
-array-borrow-prefix-codes c = c .before .before .clip3 .ensures
+array-borrow-prefix-codes c = c .before .before .at-most3 .ensures
 
 slice-aggregate-read-frame-3 : tie.Need-slice-aggregate-read-frame-3
-slice-aggregate-read-frame-3 c = sym (length-take-le _ _ (c .before .before .before .clip3 .ensures))
+slice-aggregate-read-frame-3 c = sym (length-take-le _ _ (c .before .before .before .at-most3 .ensures))
 
 read-frame-requires : tie.Need-read-frame-requires
 read-frame-requires c κs = tt
@@ -47,9 +47,9 @@ pub read-call-spec : {M : Type 1} → statement M
 read-call-spec =
     tie.close
     (tie.spec
-    clip-requires
-    clip-requires-2
-    clip-requires-3
+    at-most-requires
+    at-most-requires-2
+    at-most-requires-3
     array-borrow-prefix-factors
     slice-aggregate-read-frame
     array-borrow-prefix-side

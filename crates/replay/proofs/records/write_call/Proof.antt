@@ -4,14 +4,14 @@ use lib.Seq.{length-take-le}
 use Rattle.replay.proofs.records.write_call.Statement.{statement}
 use Rattle.replay.proofs.records.write_call.Tie as tie
 
-clip-requires : tie.Need-clip-requires
-clip-requires c κs = tt
+at-most-requires : tie.Need-at-most-requires
+at-most-requires c κs = tt
 
 array-borrow-prefix-frame : tie.Need-array-borrow-prefix-frame
-array-borrow-prefix-frame c = c .clip .ensures
+array-borrow-prefix-frame c = c .at-most .ensures
 
 slice-aggregate-write-record : tie.Need-slice-aggregate-write-record
-slice-aggregate-write-record c = sym (length-take-le _ _ (c .before .clip .ensures))
+slice-aggregate-write-record c = sym (length-take-le _ _ (c .before .at-most .ensures))
 
 write-record-requires : tie.Need-write-record-requires
 write-record-requires c κs = tt
@@ -29,7 +29,7 @@ pub write-call-spec : {M : Type 1} → statement M
 write-call-spec =
     tie.close
     (tie.spec
-    clip-requires
+    at-most-requires
     array-borrow-prefix-frame
     slice-aggregate-write-record
     write-record-requires

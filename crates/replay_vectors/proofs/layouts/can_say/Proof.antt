@@ -19,8 +19,8 @@ word-requires-2 c κs = tt
 returns : tie.Need-returns Inv-loop μ-loop
 returns c = tt
 
-clip-requires : tie.Need-clip-requires Inv-loop μ-loop
-clip-requires c κs = tt
+at-most-requires : tie.Need-at-most-requires Inv-loop μ-loop
+at-most-requires c κs = tt
 
 loop-holds : tie.Need-loop-holds Inv-loop μ-loop
 loop-holds c = tt
@@ -55,7 +55,7 @@ can-say-spec =
     word-requires
     word-requires-2
     returns
-    clip-requires
+    at-most-requires
     loop-holds
     ahead-requires
     byte-requires

@@ -16,8 +16,8 @@ abbrev μ-loop : tie.MeasureT-loop
 word-past-requires : tie.Need-word-past-requires Inv-loop μ-loop
 word-past-requires c κs = tt
 
-clip-requires : tie.Need-clip-requires Inv-loop μ-loop
-clip-requires c κs = tt
+at-most-requires : tie.Need-at-most-requires Inv-loop μ-loop
+at-most-requires c κs = tt
 
 ahead-requires : tie.Need-ahead-requires Inv-loop μ-loop
 ahead-requires c κs = tt
@@ -31,8 +31,8 @@ word-requires c κs = tt
 word-past-requires-2 : tie.Need-word-past-requires-2 Inv-loop μ-loop
 word-past-requires-2 c κs = tt
 
-clip-requires-2 : tie.Need-clip-requires-2 Inv-loop μ-loop
-clip-requires-2 c κs = tt
+at-most-requires-2 : tie.Need-at-most-requires-2 Inv-loop μ-loop
+at-most-requires-2 c κs = tt
 
 ahead-requires-2 : tie.Need-ahead-requires-2 Inv-loop μ-loop
 ahead-requires-2 c κs = tt
@@ -62,12 +62,12 @@ put-runs-spec =
     Inv-loop
     μ-loop
     word-past-requires
-    clip-requires
+    at-most-requires
     ahead-requires
     loop-holds
     word-requires
     word-past-requires-2
-    clip-requires-2
+    at-most-requires-2
     ahead-requires-2
     put-run-requires
     add-j

@@ -4,11 +4,11 @@ use Rattle.io.proofs.Counting.{counts}
 use Rattle.text.proofs.places.within.Statement.{statement}
 use Rattle.text.proofs.places.within.Tie as tie
 
-clip-requires : tie.Need-clip-requires
-clip-requires c κs = search needs
+at-most-requires : tie.Need-at-most-requires
+at-most-requires c κs = search needs
 
 returns : tie.Need-returns
-returns c = counts _ _ (c .clip .ensures)
+returns c = counts _ _ (c .at-most .ensures)
 
 pub within-spec : {M : Type 1} → statement M
-within-spec = tie.close (tie.spec clip-requires returns)
+within-spec = tie.close (tie.spec at-most-requires returns)
