@@ -3,6 +3,7 @@
 #include "../include/hca_frame.h"
 #include "checked.h"
 #include "choices.h"
+#include "files.h"
 
 #include <string.h>
 
@@ -247,6 +248,10 @@ static void hostile_checksum(struct source *s)
 
 void one_call(struct source *s)
 {
+    if (one_in(s, 12)) {
+        hostile_header(s);
+        return;
+    }
     switch (pick(s, 16)) {
     case 0: hostile_checksum(s); break;
     case 1: case 2: case 3: case 4: case 5: hostile_encode(s); break;

@@ -1,10 +1,19 @@
-/* Hostile calls of the C interface, each checked against document 01. */
+/* Hostile calls of the C interface, each checked against the documents. */
 #ifndef HCA_FUZZ_CALLS_H
 #define HCA_FUZZ_CALLS_H
 
 #include "source.h"
 
-enum function { ENCODE, WRITE, READ, CHECKSUM, FUNCTIONS };
+enum function {
+    ENCODE,
+    WRITE,
+    READ,
+    CHECKSUM,
+    HEADER,
+    FUNCTIONS
+};
+
+enum { NUMBERS = 32 }; /* every refusal number is below it */
 
 /* Makes one call by the choices of the source, and the calls that check it. */
 void one_call(struct source *s);

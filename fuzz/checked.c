@@ -13,9 +13,20 @@ struct part {
     int written;
 };
 
-static const char *const names[FUNCTIONS] = {"hca_encode_frame", "hca_write_record", "hca_read_frame", "hca_checksum"};
+static const char *const names[FUNCTIONS] = {
+    [ENCODE] = "hca_encode_frame",
+    [WRITE] = "hca_write_record",
+    [READ] = "hca_read_frame",
+    [CHECKSUM] = "hca_checksum",
+};
 /* which numbers a call can give, a bit each; there is no 6 and no 10 */
-static const uint32_t can_give[3] = {0x00BF, 0x8087, 0x7B07};
+const uint32_t can_give[FUNCTIONS] = {
+    [ENCODE] = 0x00BF,
+    [WRITE] = 0x8087,
+    [READ] = 0x7B07,
+    [CHECKSUM] = 1,
+    [HEADER] = 0x10007,
+};
 static const size_t delivered_places[3] = {4, 3, 3};
 
 static struct expected before_the_work(const struct part *parts, int count, int legal, size_t answer_len)
@@ -53,7 +64,7 @@ static void check_call(enum function f, const struct part *parts, int count, con
 {
     uint32_t beside = answer->count < 4 ? 0 : words(answer)[0];
     saw(f, number, number == 0 ? 0 : beside, first);
-    if (number > 15 || (can_give[f] >> number & 1) == 0) {
+    if (number >= NUMBERS || (can_give[f] >> number & 1) == 0) {
         fault("%s: answered %u", names[f], number);
         return;
     }

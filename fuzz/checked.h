@@ -2,6 +2,7 @@
 #ifndef HCA_FUZZ_CHECKED_H
 #define HCA_FUZZ_CHECKED_H
 
+#include "calls.h"
 #include "lend.h"
 #include "rules.h"
 
@@ -16,6 +17,9 @@ extern struct set sets[3];
 static inline uint32_t *words(const struct lent *b) { return (uint32_t *)(void *)b->data; }
 static inline int32_t *codes_of(const struct lent *b) { return (int32_t *)(void *)b->data; }
 static inline float *floats(const struct lent *b) { return (float *)(void *)b->data; }
+
+/* Which numbers each function can give, a bit each. */
+extern const uint32_t can_give[FUNCTIONS];
 
 /* What a call has to answer, where document 01 says it without the whole codec. */
 struct expected {

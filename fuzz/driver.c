@@ -6,6 +6,7 @@
    fault and, from 100,000 calls on, every outcome that can come has come. */
 #define _DEFAULT_SOURCE
 #include "calls.h"
+#include "checked.h"
 #include "lend.h"
 
 #include <signal.h>
@@ -16,14 +17,14 @@
 #include <time.h>
 #include <unistd.h>
 
-static unsigned long first_calls[FUNCTIONS][16], checking_calls[FUNCTIONS][16];
+static unsigned long first_calls[FUNCTIONS][NUMBERS], checking_calls[FUNCTIONS][NUMBERS];
 static unsigned long faults, now_at;
 static unsigned long long seed = 1;
 
 void saw(enum function f, uint32_t number, uint32_t beside, int first)
 {
     (void)beside;
-    if (number < 16)
+    if (number < NUMBERS)
         (first ? first_calls : checking_calls)[f][number]++;
 }
 
@@ -60,11 +61,11 @@ static void call_at(unsigned long index)
     one_call(&s);
 }
 
-static unsigned long total(unsigned long table[FUNCTIONS][16])
+static unsigned long total(unsigned long table[FUNCTIONS][NUMBERS])
 {
     unsigned long sum = 0;
     for (int f = 0; f < FUNCTIONS; f++)
-        for (int n = 0; n < 16; n++)
+        for (int n = 0; n < NUMBERS; n++)
             sum += table[f][n];
     return sum;
 }
@@ -72,19 +73,31 @@ static unsigned long total(unsigned long table[FUNCTIONS][16])
 /* A row for each number that can come; says how many never came. */
 static int report(void)
 {
-    static const unsigned can[FUNCTIONS] = {0x00BF, 0x8087, 0x7B07, 1};
+    static const char *const columns[FUNCTIONS] = {
+        [ENCODE] = "encode_frame",
+        [WRITE] = "write_record",
+        [READ] = "read_frame",
+        [CHECKSUM] = "checksum",
+        [HEADER] = "write_header",
+    };
     int missing = 0;
-    printf("%-8s %14s %14s %14s %14s\n", "number", "encode_frame", "write_record", "read_frame", "checksum");
-    for (int n = 0; n < 16; n++) {
-        if (((can[ENCODE] | can[WRITE] | can[READ]) >> n & 1) == 0)
+    uint32_t some = 0;
+    printf("%-8s", "number");
+    for (int f = 0; f < FUNCTIONS; f++) {
+        printf(" %19s", columns[f]);
+        some |= can_give[f];
+    }
+    printf("\n");
+    for (int n = 0; n < NUMBERS; n++) {
+        if ((some >> n & 1) == 0)
             continue; /* no call gives it */
         printf("%-8d", n);
         for (int f = 0; f < FUNCTIONS; f++) {
-            if (can[f] >> n & 1)
-                printf(" %14lu", first_calls[f][n]);
+            if (can_give[f] >> n & 1)
+                printf(" %19lu", first_calls[f][n]);
             else
-                printf(" %14s", "-");
-            missing += (can[f] >> n & 1) && first_calls[f][n] == 0;
+                printf(" %19s", "-");
+            missing += (can_give[f] >> n & 1) && first_calls[f][n] == 0;
         }
         printf("\n");
     }

@@ -1,5 +1,5 @@
-/* A library with one fault, to see that the fuzzer finds it: linked with --wrap for each of the four functions, and the
-   environment's HCA_FAULT names the fault. `run.sh faults` runs them all; each has to be found. */
+/* A library with one fault, to see that the fuzzer finds it: linked with --wrap for each function, and the environment's
+   HCA_FAULT names the fault. `run.sh faults` runs them all; each has to be found. */
 #include "../include/hca_frame.h"
 
 #include <stdlib.h>
@@ -119,4 +119,27 @@ uint16_t __wrap_hca_checksum(const uint8_t *bytes, size_t bytes_len)
 {
     uint16_t check = __real_hca_checksum(bytes, bytes_len);
     return is_fault("check-of-one-byte-wrong") && bytes_len == 1 ? (uint16_t)(check ^ 1) : check;
+}
+
+/* ---- the header writer */
+
+extern __typeof__(hca_write_header) __real_hca_write_header;
+
+uint32_t __wrap_hca_write_header(const uint32_t *layout, size_t layout_len, const uint8_t *kinds, size_t kinds_len,
+                                 const uint64_t *stream, size_t stream_len, const uint64_t *points, size_t points_len,
+                                 uint8_t *header, size_t header_len)
+{
+    uint32_t number = __real_hca_write_header(layout, layout_len, kinds, kinds_len, stream, stream_len, points, points_len, header,
+                                              header_len);
+    if (is_fault("header-edge-keeps-its-frame") && number == 0 && points_len > 1 && (points[1] + 128) % 1024 == 0)
+        header[51] += 1;
+    if (is_fault("header-rest-is-written") && number == 0 && header_len > 96)
+        header[96] ^= 1;
+    if (is_fault("header-reads-past-the-points") && number == 0)
+        sink = ((const uint8_t *)points)[8 * points_len];
+    if (is_fault("refusal-16-writes") && number == 16)
+        header[95] ^= 1;
+    if (is_fault("header-takes-nine-channels") && number == 16 && layout[0] == 9)
+        number = 0;
+    return number;
 }

@@ -7,7 +7,7 @@
 #include <stdio.h>
 #include <stdlib.h>
 
-__attribute__((section("__libfuzzer_extra_counters"))) static uint8_t outcomes[FUNCTIONS][16][64];
+__attribute__((section("__libfuzzer_extra_counters"))) static uint8_t outcomes[FUNCTIONS][NUMBERS][64];
 
 static unsigned log_of(uint32_t v)
 {
@@ -19,7 +19,7 @@ static unsigned log_of(uint32_t v)
 
 void saw(enum function f, uint32_t number, uint32_t beside, int first)
 {
-    if (number < 16)
+    if (number < NUMBERS)
         outcomes[f][number][(first ? 0 : 32) + log_of(beside) % 32] = 1;
 }
 

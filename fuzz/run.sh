@@ -3,13 +3,14 @@
 # run.sh valgrind [CALLS]   the same under valgrind, buffers on the heap (2,000 by default)
 # run.sh libfuzzer [SECONDS]    the same checks over libFuzzer's bytes (60 s by default); needs clang with libFuzzer
 # run.sh faults             a library with one fault after the other: each has to be found
-# run.sh stack [CALLS]      the most stack that each function takes (20,000 calls by default; x86-64)
+# run.sh stack [CALLS]      the most stack that each function takes (20,000 calls by default; x86-64 or aarch64)
 # Needs target/staticlib/libhca.a (rt staticlib hca) or HCA_LIB_DIR, and a C compiler.
 set -eu
 cd "$(dirname "$0")"
 lib=${HCA_LIB_DIR:-../target/staticlib}/libhca.a
 out=../target/fuzz
 shared="calls.c checked.c choices.c lend.c rules.c"
+shared="$shared files.c header.c"
 if [ ! -f "$lib" ]; then
     echo "$lib is not there: run rt staticlib hca first" >&2
     exit 2
@@ -17,6 +18,7 @@ fi
 mkdir -p "$out"
 flags="-std=c99 -O2 -g -Wall -Wextra -Werror"
 wrap=-Wl,--wrap=hca_encode_frame,--wrap=hca_write_record,--wrap=hca_read_frame,--wrap=hca_checksum
+wrap=$wrap,--wrap=hca_write_header
 sanitizers="-fsanitize=address,undefined -fno-sanitize-recover=undefined"
 
 build_driver() { # $1: the program, then flags

@@ -1,7 +1,8 @@
-/* How much stack a call takes: linked with --wrap for each of the four functions. Before a call the stack below it is
+/* How much stack a call takes: linked with --wrap for each function. Before a call the stack below it is
    painted, after it the lowest byte that changed is looked for. Counted from where the caller stands before it puts the
-   arguments there, so arguments and return address count. `run.sh stack` prints the most of each function. x86-64 only. */
+   arguments there, so arguments and return address count. `run.sh stack` prints the most of each function. x86-64 and aarch64. */
 #include "../include/hca_frame.h"
+#include "calls.h"
 
 #include <stdio.h>
 #include <stdlib.h>
@@ -13,16 +14,21 @@ extern __typeof__(hca_write_record) __real_hca_write_record;
 extern __typeof__(hca_read_frame) __real_hca_read_frame;
 extern __typeof__(hca_checksum) __real_hca_checksum;
 
-enum { ENCODE, WRITE, READ, CHECKSUM, FUNCTIONS };
 static size_t most[FUNCTIONS];
 
 static void say(void)
 {
-    printf("bytes of stack: hca_encode_frame %zu, hca_write_record %zu, hca_read_frame %zu, hca_checksum %zu%s\n", most[ENCODE],
+    printf("bytes of stack: hca_encode_frame %zu, hca_write_record %zu, hca_read_frame %zu, hca_checksum %zu%s", most[ENCODE],
            most[WRITE], most[READ], most[CHECKSUM], most[ENCODE] >= PAINTED ? " or more" : "");
+    printf(", hca_write_header %zu", most[HEADER]);
+    printf("\n");
 }
 
+#ifdef __aarch64__
+#define STACK_POINTER(to) __asm__ volatile("mov %0, sp" : "=r"(to))
+#else
 #define STACK_POINTER(to) __asm__ volatile("mov %%rsp, %0" : "=r"(to))
+#endif
 
 /* Paints the stack below the caller, but for the first 512 bytes, where this function itself stands. */
 __attribute__((noinline)) static void paint(uint8_t *from)
@@ -37,8 +43,10 @@ __attribute__((noinline)) static void look(uint8_t *from, int function)
     volatile uint8_t *at = from - PAINTED;
     while (at < from - 512 && *at == PAINT)
         at++;
-    if (most[CHECKSUM] == 0 && most[READ] == 0 && most[WRITE] == 0 && most[ENCODE] == 0)
+    static int told;
+    if (!told)
         atexit(say);
+    told = 1;
     if ((size_t)(from - (uint8_t *)(uintptr_t)at) > most[function])
         most[function] = (size_t)(from - (uint8_t *)(uintptr_t)at);
 }
@@ -94,4 +102,19 @@ uint16_t __wrap_hca_checksum(const uint8_t *bytes, size_t bytes_len)
     uint16_t check = __real_hca_checksum(bytes, bytes_len);
     look(here, CHECKSUM);
     return check;
+}
+
+extern __typeof__(hca_write_header) __real_hca_write_header;
+
+uint32_t __wrap_hca_write_header(const uint32_t *layout, size_t layout_len, const uint8_t *kinds, size_t kinds_len,
+                                 const uint64_t *stream, size_t stream_len, const uint64_t *points, size_t points_len,
+                                 uint8_t *header, size_t header_len)
+{
+    uint8_t *here;
+    STACK_POINTER(here);
+    paint(here);
+    uint32_t number = __real_hca_write_header(layout, layout_len, kinds, kinds_len, stream, stream_len, points, points_len, header,
+                                              header_len);
+    look(here, HEADER);
+    return number;
 }

@@ -4,6 +4,7 @@
    hca_read_frame     a frame                             -> its record (level, boundary, factors, side, codes)
    hca_write_record   a record                            -> its frame
    hca_checksum       bytes                               -> their check
+   hca_write_header   layout, rate, count, padding, loop  -> the 96 bytes in front of a file's frames
 
    Arguments. Every buffer is a pointer and a number of ELEMENTS (not bytes). What is const is only read. No call has
    a precondition on numbers: any layout, kinds, lengths and contents may be passed, and what cannot be used is refused.
@@ -64,6 +65,15 @@ enum hca_kind {
     HCA_STEREO_SECONDARY = 2    /* codes the base bands only; its side values are intensities */
 };
 
+/* stream: three numbers in this order, of hca_write_header. Numbers after the third are not looked at. */
+enum hca_stream {
+    HCA_STREAM_RATE = 0,    /* samples a second: 1 to 0x7FFFFF */
+    HCA_STREAM_FRAMES = 1,  /* how many frames follow: up to 2^32 - 1 */
+    HCA_STREAM_PADDING = 2, /* samples of padding behind the last one: up to 65,535 */
+    HCA_STREAM_COUNT = 3    /* how many numbers a stream has */
+};
+enum { HCA_HEADER_SIZE = 96 };
+
 /* answer: at least HCA_ANSWER_COUNT places, for each of the three calls.
    Where a call delivered, the first places hold the numbers of its enum below, and the places after them stay as they were.
    Where it refused, answer[0] holds the number beside the refusal, and the other places stay as they were.
@@ -88,11 +98,12 @@ enum hca_record {
 };
 
 /* Refusals. "Beside" is what answer[0] then holds. Bits are counted from the frame's first bit, which is 0.
-   After 1 to 4 and 15 every buffer but answer is as it was. After 5 to 14 the written buffers are zero over the
+   After 1 to 4, 15 and 16 every buffer but answer is as it was. After 5 to 14 the written buffers are zero over the
    elements that the layout asks for (the stage's five, the reader's factors, side and codes, the writer's frame),
    so no half of a frame can be taken for a whole one.
    The stage refuses in the order 1, 2, 3, 4, 5, 7, the writer 1, 2, 15, 7, the reader 1, 2, 8, 9, then the first fault in bit
-   order, 14 last. 6 and 10 are withdrawn and come from no call. A later version may add numbers above 15. */
+   order, 14 last, the file header's writer 1, 2, 16. 6 and 10 are withdrawn and come from no call. A later version may add
+   further numbers. */
 enum hca_refusal {
     HCA_OK = 0,             /* delivered */
     HCA_BAD_LAYOUT = 1,     /* layout outside its limits, under five numbers, or a kind missing or above 2; beside: 0 */
@@ -109,7 +120,9 @@ enum hca_refusal {
     HCA_BAD_FACTOR = 12,    /* an escape was needless, or a factor falls outside 0..63; beside: bit of the field */
     HCA_PAST_END = 13,      /* a field would pass bit 8(F - 2); beside: the field's first bit */
     HCA_FILL_NOT_ZERO = 14, /* the fill before the check holds a 1; beside: its bit */
-    HCA_NOT_LEGAL = 15      /* the record has a value out of range, or not 0 where nothing is written; beside: 0 */
+    HCA_NOT_LEGAL = 15,     /* the record has a value out of range, or not 0 where nothing is written; beside: 0 */
+    HCA_BAD_HEADER = 16     /* more than eight channels, or a rate, count, padding or loop point that the file header has no
+                               room for */
 };
 
 /* A short English text for a call's result, never null: of a number that this header does not know, that. */
@@ -130,6 +143,7 @@ static inline const char *hca_refusal_text(uint32_t refusal)
     case HCA_PAST_END: return "a field would pass the end of the fields";
     case HCA_FILL_NOT_ZERO: return "the fill holds a 1";
     case HCA_NOT_LEGAL: return "the record is not legal";
+    case HCA_BAD_HEADER: return "more than eight channels, or a rate, count, padding or loop point that does not fit the file header";
     default: return "a refusal that this header does not know";
     }
 }
@@ -177,6 +191,21 @@ uint32_t hca_read_frame(
     uint8_t *side, size_t side_len,                     /* written: C x 8 */
     int32_t *codes, size_t codes_len,                   /* written: C x 1,024 by channel, subframe, band */
     uint32_t *answer, size_t answer_len);               /* written: 4 places or more, see enum hca_record */
+
+/* The file header: the 96 bytes in front of a file's frames, version 0x0200, unencrypted. Refuses with 1, 2 or 16; there is no
+   answer, since nothing is delivered beside the bytes and 0 stands beside each refusal.
+   Loop points are samples of the input; the header has them moved by the encoder's delay of 128. A start after the end, or a
+   loop past the frames, is written as it is given.
+   A header carries no kinds: decoders derive them from the channels, their configuration and the stereo bands, so frames of
+   other kinds decode to something else. */
+uint32_t hca_write_header(
+    const uint32_t *layout, size_t layout_len,          /* read: 5 numbers; at most 8 channels */
+    const uint8_t *kinds, size_t kinds_len,             /* read: C bytes; judged as in every call, and not written */
+    const uint64_t *stream, size_t stream_len,          /* read: 3 numbers, see enum hca_stream */
+    const uint64_t *points, size_t points_len,          /* read: none (no loop), or 2 numbers: the loop's start and end, each up
+                                                           to 4,294,967,167; later ones are not looked at. Exactly one is
+                                                           refusal 2 */
+    uint8_t *header, size_t header_len);                /* written: 96 bytes, HCA_HEADER_SIZE */
 
 /* The check of any run of bytes: CRC16, polynomial 8005, start 0, high bit first. Over a frame's first F - 2 bytes it
    is what stands in the last two, high byte first; over a whole good frame it is 0. Never refuses; of no bytes it is 0. */

@@ -1,5 +1,5 @@
 #!/bin/sh
-# Speech to an HCA file and back to sound: the Rust's header and MDCT around the library's frames, decoded by ffmpeg, which shares no code
+# Speech to an HCA file and back to sound: the Rust's MDCT, then the library's header and frames, decoded by ffmpeg, which shares no code
 # with either. Needs cargo and g++, target/staticlib/libhca.a (rt staticlib hca), and ffmpeg for the way back: without it the files are made and
 # compared, and that is all.
 #   end-to-end.sh                  the two sample files at several bit rates

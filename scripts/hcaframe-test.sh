@@ -65,13 +65,13 @@ absent() {
 # -- help
 for word in --help -h help; do
     status 0 "help by $word" $word
-    for command in encode read write check; do says out "usage: hcaframe $command"; done
+    for command in encode read write check header; do says out "usage: hcaframe $command"; done
     says out 'Status: 0 all is well'
     says out 'FILE.tmp-NUMBER'
     [ $form = status ] || says out 'The exit status of this form is always 0'
     good
 done
-for command in encode read write check; do
+for command in encode read write check header; do
     status 0 "help of $command" "$command" --help
     says out "usage: hcaframe $command"
     good
@@ -452,6 +452,122 @@ want=0 name='the frames of a whole HCA file'
 tail -c +97 whole.hca | "$program" check $layout --frames - >out 2>err
 ended $?
 says out '3 good, 0 refused'
+good
+
+# -- the header of an HCA file
+# holds FILE HEX..: the file's bytes are these
+holds() {
+    file=$1
+    shift
+    [ "$(od -An -v -tx1 "$file" | tr -d ' \n')" = "$(printf %s "$@")" ] || fail "$name: $file holds other bytes"
+}
+mono='--kinds D --base 64 --stereo 0 --total 100 --frame-size 170'
+line=4843410002000060666d74000100bb800000002f00800200636f6d7000aa010f
+status 0 'header' header $mono --rate 48000 --count 47 --padding 512 --out head.hca
+says out 'header, 96 bytes'
+holds head.hca $line 0101644000050000636970680000706164000000000000000000000000000000 \
+    0000000000000000000000000000000000000000000000000000000000002b1d
+good
+status 0 'header with a loop' header $mono --rate=48000 --count 47 --padding 512 --loop-start 0 --loop-end 896 --out head.hca --quiet
+[ ! -s out ] || fail "$name: something is said"
+holds head.hca $line 01016440000500006c6f6f700000000000000000008000006369706800007061 \
+    640000000000000000000000000000000000000000000000000000000000238c
+good
+want=0 name='header of a pair, on standard output'
+"$program" header --kinds PS --base 52 --stereo 52 --total 128 --frame-size 417 --rate 44100 --count 40 --padding 832 --loop-start 5000 --loop-end 40000 \
+    --out - >head.hca 2>err </dev/null
+ended $?
+says err 'header, 96 bytes'
+holds head.hca 4843410002000060666d74000200ac440000002800800340636f6d7001a1010f \
+    01008034340300006c6f6f700000000500000027000803406369706800007061 640000000000000000000000000000000000000000000000000000000000da93
+good
+stream='--rate 48000 --padding 512'
+status 0 'header and frames' header $layout $stream --count 3 --frames frames.hca --out made.hca
+says out 'header and 3 frames, 696 bytes'
+status 0 'header and frames' header --layout layout.txt $stream --count 3 --out head.hca
+cat head.hca frames.hca >whole.hca
+same whole.hca made.hca
+good
+name='header and frames, by streams'
+cat frames.hca | "$program" header $layout $stream --count 3 --frames - --out - >made.hca 2>err
+ended $?
+says err 'header and 3 frames, 696 bytes'
+same whole.hca made.hca
+good
+name='header and frames, more than a block'
+i=0
+while [ $i -lt 200 ]; do cat frames.hca; i=$((i + 1)); done >long.hca
+status 0 "$name" header $layout $stream --count 600 --frames long.hca --out made.hca
+says out 'header and 600 frames, 120096 bytes'
+tail -c +97 made.hca >back.hca
+same long.hca back.hca
+good
+status 0 'header and no frames' header $layout $stream --count 0 --frames empty --out made.hca
+says out 'header and 0 frames, 96 bytes'
+good
+for count in 2 4 4294967295; do
+    bytes=$((count * 200))
+    status 2 "header and frames of another count: $count" header $layout $stream --count $count --frames frames.hca --out x.hca
+    says err "hcaframe: the frames are 600 bytes; --count $count and --frame-size 200 make $bytes bytes"
+    absent x.hca
+    good
+    want=2 name="header and a stream of another count: $count"
+    cat frames.hca | "$program" header $layout $stream --count $count --frames - --out x.hca >out 2>err
+    ended $?
+    says err "hcaframe: the frames are 600 bytes; --count $count and --frame-size 200 make $bytes bytes"
+    absent x.hca
+    good
+done
+head -c 599 frames.hca >cut.hca
+status 2 'header and frames that end within a frame' header $layout $stream --count 3 --frames cut.hca --out x.hca
+says err 'hcaframe: the frames are 599 bytes; --count 3 and --frame-size 200 make 600 bytes'
+absent x.hca
+good
+status 2 'header before a whole HCA file' header $layout $stream --count 3 --frames whole.hca --out x.hca
+says err 'whole.hca is a whole HCA file'
+absent x.hca
+want=2 name='header before a whole HCA file as a stream'
+cat whole.hca | "$program" header $layout $stream --count 3 --frames - --out x.hca >out 2>err
+ended $?
+says err 'the input is a whole HCA file'
+absent x.hca
+good
+status 2 'header in the place of its frames' header $layout $stream --count 3 --frames frames.hca --out ./frames.hca
+says err '--frames and --out are the same file'
+good
+status 0 'the largest numbers of a header' header $mono --rate 8388607 --count 4294967295 --padding 65535 --loop-start 4294967167 --loop-end 4294967167 \
+    --out head.hca
+good
+outside() {
+    name="a header's number: $1"
+    status 2 "$name" header --kinds $2 --base 1 --stereo 0 --total 1 --frame-size 8 --rate $3 --count $4 --padding $5 --loop-start $6 --loop-end $7 --out x.hca
+    says err "hcaframe: refusal 16: a number does not fit the header: $1"
+    absent x.hca
+    good
+}
+outside '9 channels; there are 1 to 8' DDDDDDDDD 0 0 0 0 0
+outside '--rate is 0; it is 1 to 8388607' D 0 0 0 0 0
+outside '--rate is 8388608; it is 1 to 8388607' D 8388608 0 0 0 0
+outside '--count is 4294967296; it is at most 4294967295' D 1 4294967296 0 0 0
+outside '--count is 999999999999999999; it is at most 4294967295' D 1 999999999999999999 0 0 0
+outside '--padding is 65536; it is at most 65535' D 1 0 65536 0 0
+outside '--loop-start is 4294967168; it is at most 4294967167' D 1 0 0 4294967168 0
+outside '--loop-end is 4294967168; it is at most 4294967167' D 1 0 0 0 4294967168
+status 2 'a number of nineteen digits' header $mono --rate 1000000000000000000 --count 1 --padding 0 --out x.hca
+says err '--rate: 1000000000000000000 is not a number of up to eighteen digits'
+good
+status 2 'a loop without its end' header $mono $stream --count 1 --loop-start 0 --out x.hca
+says err 'hcaframe: --loop-start is given without --loop-end'
+good
+status 2 'a loop without its start' header $mono $stream --count 1 --loop-end 896 --out x.hca
+says err 'hcaframe: --loop-end is given without --loop-start'
+good
+status 2 'a header without its rate' header $mono --count 1 --padding 0 --out x.hca
+says err 'hcaframe: --rate is missing'
+good
+status 2 'a rate for another command' check $layout --frames frames.hca --rate 48000
+says err '--rate is not for this command'
+absent x.hca
 good
 
 # -- words

@@ -21,6 +21,8 @@ if command -v cc >/dev/null; then
     rt staticlib hca
     cc -std=c99 -Wall -Wextra -Iinclude examples/encode.c target/staticlib/libhca.a -o target/encode-example
     target/encode-example
+    cc -std=c99 -Wall -Wextra -Iinclude examples/header.c target/staticlib/libhca.a -o target/header-example
+    target/header-example
     sh scripts/install-test.sh
     sh fuzz/run.sh 20000
 else

@@ -2,6 +2,7 @@
 //!
 //! An [`Encoder`] turns the spectra of one frame into the frame's bytes, and
 //! [`read_frame`] and [`write_record`] go from a frame to its record and back.
+//! [`write_header`] makes the 96 bytes in front of a file's frames.
 //! The library refuses what it cannot do by number; see [`Refusal`].
 //!
 //! ```
@@ -55,11 +56,13 @@
 #![warn(missing_docs)]
 #![deny(unsafe_code)]
 
+mod file_header;
 mod layout;
 #[allow(unsafe_code)]
 pub mod raw;
 mod refusal;
 
+pub use file_header::{write_header, Stream, HEADER_SIZE};
 pub use layout::{Kind, Layout, LayoutBuilder, LayoutError};
 pub use refusal::{Refusal, RefusalKind};
 

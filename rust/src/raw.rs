@@ -9,3 +9,6 @@
 include!("calls.rs");
 
 calls!(hca_encode_frame, hca_write_record, hca_read_frame, hca_checksum);
+
+mod file_header;
+pub use file_header::write_header;

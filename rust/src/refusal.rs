@@ -39,6 +39,8 @@ impl Refusal {
     pub const FILL_NOT_ZERO: u32 = 14;
     /// The record is not legal; `place` is 0.
     pub const NOT_LEGAL: u32 = 15;
+    /// More channels than a file header has, or a number that does not fit its field; `place` is 0.
+    pub const BAD_HEADER: u32 = 16;
 }
 
 /// What a refusal is about: its number by a name that a `match` can use.
@@ -83,6 +85,8 @@ pub enum RefusalKind {
     FillNotZero,
     /// [`Refusal::NOT_LEGAL`].
     NotLegal,
+    /// [`Refusal::BAD_HEADER`].
+    BadHeader,
     /// A number that this crate has no name for. A later version may have one: match it by `_`.
     Unknown,
 }
@@ -105,6 +109,7 @@ impl Refusal {
             Self::PAST_END => RefusalKind::PastEnd,
             Self::FILL_NOT_ZERO => RefusalKind::FillNotZero,
             Self::NOT_LEGAL => RefusalKind::NotLegal,
+            Self::BAD_HEADER => RefusalKind::BadHeader,
             _ => RefusalKind::Unknown,
         }
     }
@@ -128,6 +133,9 @@ impl fmt::Display for Refusal {
             Self::PAST_END => write!(f, "the field at bit {at} would pass the payload's end"),
             Self::FILL_NOT_ZERO => write!(f, "the fill holds a 1 at bit {at}"),
             Self::NOT_LEGAL => write!(f, "the record is not legal: a value is out of range, or not 0 where nothing is written"),
+            Self::BAD_HEADER => {
+                write!(f, "more than eight channels, or a rate, count, padding or loop point that does not fit the file header")
+            }
             _ => write!(f, "unknown to this crate, with {at} beside it"),
         }
     }

@@ -2,6 +2,7 @@
 //! index, so that one number names it.
 pub mod bands;
 pub mod corners;
+pub mod header;
 pub mod records;
 pub mod rng;
 pub mod speech;

@@ -1,8 +1,12 @@
-//! Calls of the C++ model, with the shapes of the C interface: see model.cpp.
+//! Calls of the C++ model, with the shapes of the C interface: see model.cpp and the files beside it.
 
 include!("../../../rust/src/calls.rs");
 
 calls!(model_encode_frame, model_write_record, model_read_frame, model_checksum);
+
+include!("../../calls/header.rs");
+
+header_call!(model_write_header);
 
 type Over<'a> = &'a mut dyn FnMut(u32) -> bool;
 

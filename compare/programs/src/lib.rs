@@ -1,5 +1,6 @@
 //! What the comparing programs share: options, threads, counts, differences; and speech from a file.
 pub mod front;
+pub mod header;
 
 use std::collections::BTreeMap;
 use std::sync::atomic::{AtomicU64, Ordering};

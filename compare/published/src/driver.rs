@@ -104,7 +104,8 @@ pub struct Notes {
 }
 
 // ---------------------------------------------------------------- before the Rust
-fn layout_fits(l: &[u32], kinds: &[u8]) -> bool {
+/// Whether refusal 1 does not come.
+pub fn layout_fits(l: &[u32], kinds: &[u8]) -> bool {
     l.len() >= 5
         && (1..=16).contains(&l[0])
         && (1..=128).contains(&l[3])

@@ -1,3 +1,4 @@
-//! The published Rust (`hca`, made by import.sh) and a driver over its functions.
+//! The published Rust (`hca`, made by import.sh) and drivers over its functions.
 pub mod driver;
 pub mod hca;
+pub mod header;

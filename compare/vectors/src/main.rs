@@ -1,5 +1,7 @@
 //! Writes the fixed vectors of VECTORS.md: `vectors FOLDER`. With `--check FOLDER`
 //! it writes nothing and says whether the files there are these.
+mod header;
+
 use gen::records::{calls, kind_of, Call, ReadCall, WriteCall, KINDS};
 use gen::speech;
 use published::driver::{stage, Lent, StageCall};
@@ -26,6 +28,10 @@ impl Body {
     fn bytes(&mut self, v: &[u8]) {
         self.word(v.len() as u32);
         self.0.extend(v);
+    }
+    fn longs(&mut self, v: &[u64]) {
+        self.word(v.len() as u32);
+        v.iter().for_each(|n| self.0.extend(n.to_le_bytes()));
     }
     /// Runs of words that are not 0; a gap of up to two zeros stays inside a run.
     fn runs(&mut self, v: &[u32]) {
@@ -61,11 +67,15 @@ impl File {
     }
 
     fn add(&mut self, kind: u32, name: &str, number: u32, answer: &[u32], body: Body) {
-        self.index += &format!("{:>4}  kind {kind}  {name}: ", self.cases);
-        self.index += &match number {
-            0 => format!("delivered {:?}\n", &answer[..if kind == 2 || kind == 3 { 3 } else { answer.len() }]),
-            n => format!("refusal {n}, {} beside it\n", answer[0]),
+        let outcome = match number {
+            0 => format!("delivered {:?}", &answer[..if kind == 2 || kind == 3 { 3 } else { answer.len() }]),
+            n => format!("refusal {n}, {} beside it", answer[0]),
         };
+        self.add_case(kind, name, &outcome, body);
+    }
+
+    fn add_case(&mut self, kind: u32, name: &str, outcome: &str, body: Body) {
+        self.index += &format!("{:>4}  kind {kind}  {name}: {outcome}\n", self.cases);
         self.cases += 1;
         self.bytes.extend(kind.to_le_bytes());
         self.bytes.extend((body.0.len() as u32).to_le_bytes());
@@ -263,7 +273,12 @@ fn main() {
     };
     let mut good = true;
     let mut all = 0;
-    for (name, file) in [("stage", stage_file()), ("records", record_file())] {
+    let files = [
+        ("stage", stage_file()),
+        ("records", record_file()),
+        ("header", header::file()),
+    ];
+    for (name, file) in files {
         let bytes = file.finish();
         all += bytes.len();
         for (name, bytes) in [(format!("{name}.vec"), bytes), (format!("{name}.txt"), file.index.into_bytes())] {

@@ -1,5 +1,6 @@
 // The commands of hcaframe: files of spectra, frames and records, over the three public calls.
 use self::frames::do_frames;
+use cli_header::do_header;
 use cli_jobs::setting::ended;
 use cli_jobs::setting::opened;
 use cli_options::faults::UNKNOWN_COMMAND;
@@ -41,14 +42,23 @@ fn asks_for_help() -> bool {
     false
 }
 
-// The command that the words say; answers the status.
-fn do_command(options: Options) -> i32 {
+// A command that goes frame by frame.
+fn do_run(options: Options) -> i32 {
     let job = opened(options);
     if !job.is_ready {
         return ended(job, 2);
     }
     let run = do_frames(job);
     last_status(run, ended(job, run.status))
+}
+
+// The command that the words say; answers the status.
+fn do_command(options: Options) -> i32 {
+    let command = options.command;
+    match command {
+        Command::Header => do_header(options),
+        _ => do_run(options),
+    }
 }
 
 // What the first word asks, where no word asks for help.

@@ -4,6 +4,7 @@ use cli_options::options::Options;
 use cli_options::said::is_same_name;
 use cli_words::names::Name;
 use cli_words::names::input_of;
+use cli_words::names::is_file;
 use cli_words::names::name_at;
 use cli_words::names::output_of;
 use cli_words::names::place_of;
@@ -19,23 +20,28 @@ fn say_same(a: Name, b: Name) {
     say(2, b" are the same file\n");
 }
 
+// Do both of these places name files?
+fn are_files(j: usize, k: usize) -> bool {
+    is_file(name_at(j)) && is_file(name_at(k))
+}
+
 // Are the options of these places two names that differ, as far as they are given?
 fn differ(options: Options, j: usize, k: usize) -> bool {
     let command = options.command;
     let output = place_of(output_of(command));
     let is_output = j == output || k == output;
-    if j < k && is_same_name(options, name_at(j), name_at(k), is_output) {
+    if j < k && are_files(j, k) && is_same_name(options, name_at(j), name_at(k), is_output) {
         say_same(name_at(j), name_at(k));
         return false;
     }
     true
 }
 
-// Have all of the call's files names of their own? The six that name a file stand at the places 6 to 11.
+// Have all of the call's files names of their own?
 pub fn have_own_names(options: Options) -> bool {
     let mut c = 0;
-    while c < 36 {
-        if !differ(options, 6 + c / 6, 6 + c % 6) {
+    while c < 576 {
+        if !differ(options, c / 24, c % 24) {
             return false;
         }
         c += 1;

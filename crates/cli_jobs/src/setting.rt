@@ -27,11 +27,12 @@ use rules::Layout;
 use text::lines::say;
 use whole_files::standard::close_file;
 
-// The bytes of a frame in its input.
+// The bytes of a frame in its input. Those behind a header are taken as they stand.
 fn block_size(command: Command, layout: Layout) -> usize {
     match command {
         Command::Encode => spectra_size(layout),
         Command::Write => record_size(layout),
+        Command::Header => 1,
         _ => layout.frame_size,
     }
 }
@@ -41,6 +42,7 @@ fn takes_frames(command: Command) -> bool {
     match command {
         Command::Read => true,
         Command::Check => true,
+        Command::Header => true,
         _ => false,
     }
 }
@@ -87,10 +89,15 @@ fn unopened(options: Options, layout: Layout) -> Job {
     }
 }
 
+// With its input. Where that may be left out, the parser has let it pass.
 fn with_input(options: Options, job: Job) -> Job {
     let mut j = job;
     let command = job.command;
     let file = file_of(options, input_of(command));
+    if file.argument == 0 {
+        j.is_ready = true;
+        return j;
+    }
     j.input = open_blocks(file, job.size, takes_frames(command));
     j.is_ready = 0 <= j.input;
     j

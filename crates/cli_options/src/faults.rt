@@ -11,7 +11,7 @@ use text::lines::say;
 use text::tables::say_entry;
 
 // Line 0 is for nothing.
-const FAULTS: [u8; 427] = *b"\n\
+const FAULTS: [u8; 491] = *b"\n\
     \x20is an unknown command\n\
     \x20is an unknown word\n\
     \x20is not for this command or this file\n\
@@ -20,13 +20,15 @@ const FAULTS: [u8; 427] = *b"\n\
     \x20is missing\n\
     \x20is missing; a file with the words of a layout is --layout FILE\n\
     \x20is missing, and a channel is S\n\
-    \x20is not a number of up to nine digits\n\
+    \x20is not a number of up to eighteen digits\n\
     \x20has another letter than D, P and S\n\
     it has no letter\n\
     \x20has more than 16 letters\n\
     : it cannot be read as a layout of up to 4096 bytes\n\
     \x20has no value\n\
-    \x20names no file\n";
+    \x20names no file\n\
+    \x20is given without --loop-end\n\
+    \x20is given without --loop-start\n";
 
 pub const UNKNOWN_COMMAND: usize = 1;
 
@@ -57,6 +59,10 @@ pub const NO_LAYOUT_FILE: usize = 13;
 pub const TAKES_NO_VALUE: usize = 14;
 
 pub const EMPTY_NAME: usize = 15;
+
+pub const WITHOUT_LOOP_END: usize = 16;
+
+pub const WITHOUT_LOOP_START: usize = 17;
 
 // The file and the line of a word that comes from a layout file.
 fn say_origin(options: Options) {

@@ -13,8 +13,8 @@ pub struct Options {
     pub line: usize,
     pub start: usize,
     pub waiting: Name,
-    pub values: [usize; 16],
-    pub starts: [usize; 16],
+    pub values: [usize; 24],
+    pub starts: [usize; 24],
     pub channels: usize,
     pub kinds: [Channel; 16],
     pub layout_file: i32,
@@ -31,8 +31,8 @@ pub fn none_yet(command: Command) -> Options {
         line: 0,
         start: 0,
         waiting: Name::Unknown,
-        values: [0; 16],
-        starts: [0; 16],
+        values: [0; 24],
+        starts: [0; 24],
         channels: 0,
         kinds: kinds,
         layout_file: -1,
@@ -71,7 +71,7 @@ pub fn with_waiting(options: Options, name: Name) -> Options {
 pub fn with_option(options: Options, name: Name, n: usize) -> Options {
     let k = place_of(name);
     let mut o = with_waiting(options, Name::Unknown);
-    if k < 16 {
+    if k < 24 {
         o.values[k] = n;
         o.starts[k] = options.start;
     }
@@ -80,7 +80,7 @@ pub fn with_option(options: Options, name: Name, n: usize) -> Options {
 
 pub fn option_value(options: Options, name: Name) -> usize {
     let k = place_of(name);
-    if k < 16 {
+    if k < 24 {
         return options.values[k];
     }
     0
@@ -92,7 +92,7 @@ pub fn is_given(options: Options, name: Name) -> bool {
 
 pub fn option_start(options: Options, name: Name) -> usize {
     let k = place_of(name);
-    if k < 16 {
+    if k < 24 {
         return options.starts[k];
     }
     0

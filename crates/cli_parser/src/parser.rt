@@ -12,6 +12,8 @@ use cli_options::faults::NO_VALUE;
 use cli_options::faults::NOT_WELCOME;
 use cli_options::faults::TAKES_NO_VALUE;
 use cli_options::faults::UNKNOWN_WORD;
+use cli_options::faults::WITHOUT_LOOP_END;
+use cli_options::faults::WITHOUT_LOOP_START;
 use cli_options::faults::refuse_option;
 use cli_options::faults::refuse_value;
 use cli_options::faults::refuse_word;
@@ -22,6 +24,7 @@ use cli_options::options::with_option;
 use cli_options::options::with_waiting;
 use cli_words::names::Name;
 use cli_words::names::is_needed;
+use cli_words::names::is_number;
 use cli_words::names::is_of_layout;
 use cli_words::names::is_taken;
 use cli_words::names::name_at;
@@ -66,12 +69,11 @@ fn take_value(options: Options, start: usize, word: &[u8]) -> Options {
     let mut o = options;
     o.start = start;
     let name = options.waiting;
+    if is_number(name) {
+        return take_number(o, word);
+    }
     match name {
         Name::Kinds => take_kinds(o, word),
-        Name::Base => take_number(o, word),
-        Name::Stereo => take_number(o, word),
-        Name::Total => take_number(o, word),
-        Name::FrameSize => take_number(o, word),
         _ => take_file(o, word),
     }
 }
@@ -174,9 +176,9 @@ fn without(options: Options, name: Name) -> Options {
 }
 
 // Everything that the command needs must be there.
-pub(crate) fn complete(options: Options) -> Options {
+fn complete(options: Options) -> Options {
     let mut k = 1;
-    while k < 13 {
+    while k < 24 {
         let name = name_at(k);
         if lacks(options, name) {
             return without(options, name);
@@ -184,4 +186,29 @@ pub(crate) fn complete(options: Options) -> Options {
         k += 1;
     }
     options
+}
+
+// Is one of the two given without the other?
+fn is_half(options: Options, name: Name, other: Name) -> bool {
+    is_given(options, name) && !is_given(options, other)
+}
+
+// A loop has both of its ends.
+fn paired(options: Options) -> Options {
+    if is_half(options, Name::LoopStart, Name::LoopEnd) {
+        return refuse_option(options, Name::LoopStart, WITHOUT_LOOP_END);
+    }
+    if is_half(options, Name::LoopEnd, Name::LoopStart) {
+        return refuse_option(options, Name::LoopEnd, WITHOUT_LOOP_START);
+    }
+    options
+}
+
+// All that is there must be whole.
+pub(crate) fn whole_words(options: Options) -> Options {
+    let o = complete(options);
+    if o.is_bad {
+        return o;
+    }
+    paired(o)
 }

@@ -2,8 +2,8 @@
 ghost use Prim.Native.Nat.{_≤_, _<_};
 ghost use lib.ListN.{length};
 use crate::parser::closed;
-use crate::parser::complete;
 use crate::parser::take_word;
+use crate::parser::whole_words;
 use cli_options::faults::NO_LAYOUT_FILE;
 use cli_options::faults::refuse_word;
 use cli_options::options::Options;
@@ -172,11 +172,11 @@ pub fn all_words(command: Command) -> Options {
         return o;
     }
     if option_value(o, Name::Layout) == 0 {
-        return complete(o);
+        return whole_words(o);
     }
     let all = from_layout(o);
     if all.is_bad {
         return all;
     }
-    complete(all)
+    whole_words(all)
 }

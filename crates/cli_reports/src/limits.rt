@@ -1,9 +1,9 @@
 // What is told of a layout that no call takes.
+use crate::reasons::say_call_refusal;
+use refusals::Refusal;
+use refusals::refused;
 use rules::Layout;
 use rules::legal;
-use text::forms::put_entry;
-use text::lines::put_text;
-use text::lines::say_line;
 use text::places::more;
 
 // The limit that is broken, with what it was broken by; line 0 is for any other.
@@ -14,14 +14,14 @@ const LIMITS: [u8; 207] = *b"\n\
     : --base and --stereo are # together, above --total, which is #\n\
     : --frame-size is #; it is 8 to 65535\n";
 
-// A broken limit, by its line, and the numbers of it.
-struct Broken {
-    line: usize,
-    value: usize,
-    beside: usize,
+// A broken limit, by its line in a table, and the numbers of it.
+pub struct Broken {
+    pub line: usize,
+    pub value: usize,
+    pub beside: usize,
 }
 
-fn broken_by(line: usize, value: usize, beside: usize) -> Broken {
+pub fn broken_by(line: usize, value: usize, beside: usize) -> Broken {
     Broken {
         line: line,
         value: value,
@@ -29,7 +29,7 @@ fn broken_by(line: usize, value: usize, beside: usize) -> Broken {
     }
 }
 
-fn is_outside(n: usize, least: usize, most: usize) -> bool {
+pub fn is_outside(n: usize, least: usize, most: usize) -> bool {
     n < least || most < n
 }
 
@@ -54,25 +54,16 @@ fn broken_limit(layout: Layout) -> Broken {
     broken_by(0, 0, 0)
 }
 
+// A refusal, with the limit that is broken.
+pub fn say_broken(told: Refusal, table: &[u8], limit: Broken) -> bool {
+    say_call_refusal(told, table, limit.line, &[limit.value, limit.beside])
+}
+
 // Is the layout within its limits? If not, that is said: refusal 1.
 pub fn is_possible(layout: Layout) -> bool {
     if legal(layout) {
         return true;
     }
-    let limit = broken_limit(layout);
-    let mut line = [0u8; 256];
-    let at = put_text(
-        &mut line,
-        0,
-        b"hcaframe: refusal 1: the layout is outside its limits",
-    );
-    let end = put_entry(
-        &mut line,
-        at,
-        &LIMITS,
-        limit.line,
-        &[limit.value, limit.beside],
-    );
-    say_line(2, &mut line, end);
+    say_broken(refused(1, 0), &LIMITS, broken_limit(layout));
     false
 }

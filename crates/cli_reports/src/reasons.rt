@@ -2,10 +2,11 @@
 use refusals::Refusal;
 use text::forms::put_entry;
 use text::forms::put_form;
+use text::lines::put_text;
 use text::lines::say_line;
 
 // The line of each refusal, with its number and, where document 01 has one, the number beside it; line 0 is for any other.
-const FORMS: [u8; 712] = *b"refusal #: unknown\n\
+const FORMS: [u8; 756] = *b"refusal #: unknown\n\
     refusal #: the layout is outside its limits\n\
     refusal #: a lent buffer is too short\n\
     refusal # at #: a secondary's intensity is above 15\n\
@@ -18,7 +19,8 @@ const FORMS: [u8; 712] = *b"refusal #: unknown\n\
     refusal # at bit #: an escape is needless, or a factor is outside 0 to 63\n\
     refusal # at bit #: a field passes the end of the fields\n\
     refusal # at bit #: the fill holds a 1\n\
-    refusal #: the record is not legal\n";
+    refusal #: the record is not legal\n\
+    refusal #: a number does not fit the header\n";
 
 // Each number has its own line, so that a number that is withdrawn moves no other.
 fn line_for(number: usize) -> usize {
@@ -36,20 +38,30 @@ fn line_for(number: usize) -> usize {
         13 => 11,
         14 => 12,
         15 => 13,
+        16 => 14,
         _ => 0,
     }
 }
 
-// Puts the refusal from a place on, and writes the line.
-fn say_told(fd: i32, line: &mut [u8], at: usize, told: Refusal) -> bool {
+// Puts the refusal from a place on.
+fn put_told(line: &mut [u8], at: usize, told: Refusal) -> usize {
     let numbers = [told.number, told.beside];
-    let end = put_entry(line, at, &FORMS, line_for(told.number), &numbers);
-    say_line(fd, line, end)
+    put_entry(line, at, &FORMS, line_for(told.number), &numbers)
 }
 
 // A frame's refusal, on the descriptor.
 pub fn say_refusal(fd: i32, frame: usize, told: Refusal) -> bool {
     let mut line = [0u8; 256];
     let at = put_form(&mut line, 0, b"frame #: ", &[frame]);
-    say_told(fd, &mut line, at, told)
+    let end = put_told(&mut line, at, told);
+    say_line(fd, &mut line, end)
+}
+
+// The refusal of a whole call, with what broke it: line k of a table, and its numbers.
+pub fn say_call_refusal(told: Refusal, table: &[u8], k: usize, numbers: &[usize]) -> bool {
+    let mut line = [0u8; 256];
+    let a = put_text(&mut line, 0, b"hcaframe: ");
+    let b = put_told(&mut line, a, told);
+    let end = put_entry(&mut line, b, table, k, numbers);
+    say_line(2, &mut line, end)
 }

@@ -36,7 +36,7 @@ pub fn at_start() -> Run {
     }
 }
 
-fn stopped(run: Run, status: i32) -> Run {
+pub fn stopped(run: Run, status: i32) -> Run {
     let mut r = run;
     r.status = status;
     r.is_going = false;

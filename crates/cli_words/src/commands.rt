@@ -7,6 +7,7 @@ pub enum Command {
     Read,
     Write,
     Check,
+    Header,
 }
 
 // A command's line in a table that has one for each of them, and its first for none.
@@ -17,6 +18,7 @@ pub(crate) fn line_of(command: Command) -> usize {
         Command::Read => 2,
         Command::Write => 3,
         Command::Check => 4,
+        Command::Header => 5,
     }
 }
 
@@ -26,12 +28,13 @@ fn command_on(line: usize) -> Command {
         2 => Command::Read,
         3 => Command::Write,
         4 => Command::Check,
+        5 => Command::Header,
         _ => Command::Nothing,
     }
 }
 
 pub fn command_of(word: &[u8]) -> Command {
-    command_on(entry_of(b"\nencode\nread\nwrite\ncheck\n", word))
+    command_on(entry_of(b"\nencode\nread\nwrite\ncheck\nheader\n", word))
 }
 
 pub fn is_encode(command: Command) -> bool {

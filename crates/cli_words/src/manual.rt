@@ -5,22 +5,25 @@ use text::lines::say;
 use text::tables::say_entry;
 
 // How a command is called, on a line each; the first is for none.
-const USAGES: [u8; 341] = *b"usage: hcaframe encode | read | write | check .. ; hcaframe --help\n\
+const USAGES: [u8; 478] =
+    *b"usage: hcaframe encode | read | write | check | header .. ; hcaframe --help\n\
     usage: hcaframe encode LAYOUT --spectra FILE [--intensities FILE] --out FILE [--quiet]\n\
     usage: hcaframe read LAYOUT --frames FILE [--records FILE] [--quiet]\n\
     usage: hcaframe write LAYOUT --records FILE --out FILE [--quiet]\n\
-    usage: hcaframe check LAYOUT --frames FILE [--quiet]\n";
+    usage: hcaframe check LAYOUT --frames FILE [--quiet]\n\
+    usage: hcaframe header LAYOUT --rate N --count N --padding N [--loop-start N --loop-end N] [--frames FILE] --out FILE [--quiet]\n";
 
 pub fn say_usage(fd: i32, command: Command) -> bool {
     say_entry(fd, &USAGES, line_of(command)) && say(fd, b"\n")
 }
 
-// How each of the four is called.
+// How each of them is called.
 fn say_usages() -> bool {
     say_usage(1, Command::Encode)
         && say_usage(1, Command::Read)
         && say_usage(1, Command::Write)
         && say_usage(1, Command::Check)
+        && say_usage(1, Command::Header)
 }
 
 fn say_layout() -> bool {
@@ -71,6 +74,19 @@ fn say_check() -> bool {
     )
 }
 
+fn say_header() -> bool {
+    say(
+        1,
+        b"Makes the header of an HCA file, 96 bytes; with --frames the whole file. A header has at most 8 channels.\n\
+          \x20 --rate        samples a second, 1 to 8388607\n\
+          \x20 --count       frames, at most 4294967295\n\
+          \x20 --padding     samples that fill the last frame, at most 65535\n\
+          \x20 --loop-start, --loop-end   the loop in samples, at most 4294967167; both or none\n\
+          \x20 --frames      the frames behind the header, one after the other, as many as --count says\n\
+          \x20 --out         the header, or header and frames as one file\n",
+    )
+}
+
 // Of the files of every command.
 fn say_files() -> bool {
     say(
@@ -88,7 +104,8 @@ fn say_all() -> bool {
     say(
         1,
         b"encode makes frames from spectra, read tells what frames hold, write makes frames from records,\n\
-          check tells which frames are good. More: hcaframe COMMAND --help; hcaframe --version\n",
+          check tells which frames are good, header makes the header of an HCA file or the whole file.\n\
+          More: hcaframe COMMAND --help; hcaframe --version\n",
     )
 }
 
@@ -116,6 +133,7 @@ fn say_command(command: Command) -> bool {
         Command::Read => say_usage(1, command) && say_read(),
         Command::Write => say_usage(1, command) && say_write(),
         Command::Check => say_usage(1, command) && say_check(),
+        Command::Header => say_usage(1, command) && say_header(),
     }
 }
 

@@ -1,5 +1,6 @@
 // The options.
 use crate::commands::Command;
+use crate::commands::line_of;
 use text::tables::entry_of;
 use text::tables::say_entry;
 
@@ -17,10 +18,15 @@ pub enum Name {
     Frames,
     Records,
     Quiet,
+    Rate,
+    Count,
+    Padding,
+    LoopStart,
+    LoopEnd,
 }
 
 // An option's place is its line here.
-const NAMES: [u8; 112] = *b"\n\
+const NAMES: [u8; 161] = *b"\n\
     --kinds\n\
     --base\n\
     --stereo\n\
@@ -32,7 +38,12 @@ const NAMES: [u8; 112] = *b"\n\
     --out\n\
     --frames\n\
     --records\n\
-    --quiet\n";
+    --quiet\n\
+    --rate\n\
+    --count\n\
+    --padding\n\
+    --loop-start\n\
+    --loop-end\n";
 
 // Its place where something is kept for each option; 0 is for none.
 pub fn place_of(name: Name) -> usize {
@@ -50,6 +61,11 @@ pub fn place_of(name: Name) -> usize {
         Name::Frames => 10,
         Name::Records => 11,
         Name::Quiet => 12,
+        Name::Rate => 13,
+        Name::Count => 14,
+        Name::Padding => 15,
+        Name::LoopStart => 16,
+        Name::LoopEnd => 17,
     }
 }
 
@@ -68,6 +84,11 @@ pub fn name_at(place: usize) -> Name {
         10 => Name::Frames,
         11 => Name::Records,
         12 => Name::Quiet,
+        13 => Name::Rate,
+        14 => Name::Count,
+        15 => Name::Padding,
+        16 => Name::LoopStart,
+        17 => Name::LoopEnd,
         _ => Name::Unknown,
     }
 }
@@ -92,6 +113,32 @@ pub fn is_of_layout(name: Name) -> bool {
     }
 }
 
+// Is its value a number?
+pub fn is_number(name: Name) -> bool {
+    match name {
+        Name::Base => true,
+        Name::Stereo => true,
+        Name::Total => true,
+        Name::FrameSize => true,
+        Name::Rate => true,
+        Name::Count => true,
+        Name::Padding => true,
+        Name::LoopStart => true,
+        Name::LoopEnd => true,
+        _ => false,
+    }
+}
+
+// Does its value name a file?
+pub fn is_file(name: Name) -> bool {
+    match name {
+        Name::Unknown => false,
+        Name::Kinds => false,
+        Name::Quiet => false,
+        _ => !is_number(name),
+    }
+}
+
 // The option that names a command's input.
 pub fn input_of(command: Command) -> Name {
     match command {
@@ -100,6 +147,7 @@ pub fn input_of(command: Command) -> Name {
         Command::Read => Name::Frames,
         Command::Write => Name::Records,
         Command::Check => Name::Frames,
+        Command::Header => Name::Frames,
     }
 }
 
@@ -111,41 +159,53 @@ pub fn output_of(command: Command) -> Name {
         Command::Read => Name::Records,
         Command::Write => Name::Out,
         Command::Check => Name::Unknown,
+        Command::Header => Name::Out,
     }
 }
 
-fn is_place(name: Name, place: usize) -> bool {
-    place_of(name) == place && place != 0
+// Who takes an option, a digit a command, the first command's on the right: 2 where it is needed, here or in a layout file, 1 where it may be given.
+// The intensities are asked for once the layout is known.
+fn takers(name: Name) -> usize {
+    match name {
+        Name::Unknown => 0,
+        Name::Kinds => 22222,
+        Name::Base => 22222,
+        Name::Stereo => 22222,
+        Name::Total => 22222,
+        Name::FrameSize => 22222,
+        Name::Layout => 11111,
+        Name::Spectra => 2,
+        Name::Intensities => 1,
+        Name::Out => 20202,
+        Name::Frames => 12020,
+        Name::Records => 210,
+        Name::Quiet => 11111,
+        Name::Rate => 20000,
+        Name::Count => 20000,
+        Name::Padding => 20000,
+        Name::LoopStart => 10000,
+        Name::LoopEnd => 10000,
+    }
 }
 
-// Is it a file of this command?
-pub fn is_file_of(command: Command, name: Name) -> bool {
-    let place = place_of(name);
-    match command {
-        Command::Encode => is_place(Name::Spectra, place)
-            || is_place(Name::Intensities, place)
-            || is_place(Name::Out, place),
-        _ => is_place(input_of(command), place) || is_place(output_of(command), place),
+// The digit of the command on this line.
+fn digit(n: usize, line: usize) -> usize {
+    match line {
+        1 => n % 10,
+        2 => n / 10 % 10,
+        3 => n / 100 % 10,
+        4 => n / 1000 % 10,
+        5 => n / 10000 % 10,
+        _ => 0,
     }
 }
 
 // Does the command take this option?
 pub fn is_taken(command: Command, name: Name) -> bool {
-    match name {
-        Name::Unknown => false,
-        Name::Layout => true,
-        Name::Quiet => true,
-        _ => is_of_layout(name) || is_file_of(command, name),
-    }
+    digit(takers(name), line_of(command)) != 0
 }
 
-// Must it be given, here or in a layout file? The intensities are asked for once the layout is known.
+// Must it be given?
 pub fn is_needed(command: Command, name: Name) -> bool {
-    match name {
-        Name::Layout => false,
-        Name::Quiet => false,
-        Name::Intensities => false,
-        Name::Records => is_place(input_of(command), 11),
-        _ => is_taken(command, name),
-    }
+    digit(takers(name), line_of(command)) == 2
 }

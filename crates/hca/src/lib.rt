@@ -6,7 +6,9 @@ ghost use Rattle.rules.specs.Reader.{readerLent};
 ghost use Rattle.hca_encode.specs.Encoded.{encodedAs, encoded};
 ghost use Rattle.hca_read.specs.Returned.{returnedAs, returned};
 ghost use Rattle.hca_write.specs.Wrote.{wroteAs, wrote};
+ghost use Rattle.hca_header.specs.HeaderWrote.{headerAs, headerWrote};
 use hca_encode::encode_frame;
+use hca_header::write_header;
 use hca_read::read_frame;
 use hca_write::write_record;
 
@@ -78,6 +80,21 @@ pub extern "C" fn hca_read_frame(
         (readerLent (now (frame .entry)) (now (factors .entry)) (now (side .entry)) (now (codes .entry))) (now (answer .entry)) ⌝ }
 {
     read_frame(layout, kinds, frame, factors, side, codes, answer)
+}
+
+// The file header. stream: rate, count, padding; points: none, or start and end.
+#[no_mangle]
+pub extern "C" fn hca_write_header(
+    layout: &[u32],
+    kinds: &[u8],
+    stream: &[u64],
+    points: &[u64],
+    header: &mut [u8],
+) -> u32
+    ensures { λ r. ⌜ headerAs r (now (header .exit)) ≡ headerWrote (now (layout .entry)) (now (kinds .entry)) (now (stream .entry))
+        (now (points .entry)) (now (header .entry)) ⌝ }
+{
+    write_header(layout, kinds, stream, points, header)
 }
 
 // The check of a frame's bytes.

@@ -1,10 +1,12 @@
-// Document 01's refusals: the number, and the number beside it.
+// The refusals of document 01 and of the requests: the number, and the number beside it.
 ghost use mathlib.Core.Path.{_≡_};
 ghost use Rattle.rules.specs.Refusals.{refused, stageOutcome, writerOutcome, readerOutcome};
 ghost use Rattle.refusals.specs.Refusals.{refusalOf};
 use rules::ReadAnswer;
 use rules::StageAnswer;
 use rules::WriteAnswer;
+
+pub mod header;
 
 // A number of 0 stands for no refusal.
 pub struct Refusal {

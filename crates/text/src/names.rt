@@ -2,7 +2,7 @@
 ghost use Prim.Native.Nat.{_≤_};
 use crate::words::byte_value;
 
-// The number that a word spells in decimal digits, up to nine of them.
+// The number that a word spells in decimal digits, up to eighteen of them.
 pub enum Spelt {
     Number(usize),
     Other,
@@ -47,7 +47,7 @@ pub fn spelt_number(word: &[u8]) -> Spelt {
         if d == 10 {
             return Spelt::Other;
         }
-        if 99999999 < n {
+        if 99999999999999999 < n {
             return Spelt::Other;
         }
         n = 10 * n + d;

@@ -50,13 +50,13 @@ fn is_entry(table: &[u8], k: usize, word: &[u8]) -> bool {
     is_same(&table[a..e], word)
 }
 
-// The line that is this word, from 1 to 15; 0 if there is none. An empty word is none: past the table's end every line is empty.
+// The line that is this word, from 1 to 31; 0 if there is none. An empty word is none: past the table's end every line is empty.
 pub fn entry_of(table: &[u8], word: &[u8]) -> usize {
     if word.len() == 0 {
         return 0;
     }
     let mut k = 1;
-    while k < 16 {
+    while k < 32 {
         if is_entry(table, k, word) {
             return k;
         }

@@ -1,4 +1,7 @@
 //! Replays the fixed vectors of VECTORS.md on the library: `replay-vectors FILE..`.
+#[path = "replay-vectors/header.rs"]
+mod header;
+
 use hca_frame::raw;
 
 struct Input<'a>(&'a [u8]);
@@ -18,6 +21,10 @@ impl<'a> Input<'a> {
     fn bytes(&mut self) -> Vec<u8> {
         let n = self.word() as usize;
         self.take(n).to_vec()
+    }
+    fn longs(&mut self) -> Vec<u64> {
+        let n = self.word() as usize;
+        self.take(8 * n).chunks_exact(8).map(|b| u64::from_le_bytes(b.try_into().expect("eight bytes"))).collect()
     }
     fn runs(&mut self) -> Vec<u32> {
         let mut all = vec![0; self.word() as usize];
@@ -100,6 +107,7 @@ fn replay(file: &[u8]) -> (u32, Vec<u32>) {
             2 => read(&mut b),
             3 => write(&mut b),
             4 => u32::from(raw::checksum(&b.bytes())) == b.word(),
+            5 => header::replay(&mut b),
             _ => panic!("case {k} is of no kind"),
         };
         good && b.0.is_empty()

@@ -8,16 +8,10 @@ abbrev Inv-loop : tie.InvT-loop
 Inv-loop options c₀ c = Unit {0}
 
 abbrev μ-loop : tie.MeasureT-loop
-μ-loop options c₀ c = 36 - c
+μ-loop options c₀ c = 576 - c
 
 loop-holds : tie.Need-loop-holds Inv-loop μ-loop
 loop-holds c = tt
-
-add-differ : tie.Need-add-differ Inv-loop μ-loop
-add-differ c = omega arith
-
-add-differ-2 : tie.Need-add-differ-2 Inv-loop μ-loop
-add-differ-2 c = omega arith
 
 differ-requires : tie.Need-differ-requires Inv-loop μ-loop
 differ-requires c κs = tt
@@ -44,8 +38,6 @@ have-own-names-spec =
     Inv-loop
     μ-loop
     loop-holds
-    add-differ
-    add-differ-2
     differ-requires
     returns
     add-c

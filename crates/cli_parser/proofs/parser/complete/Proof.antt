@@ -8,7 +8,7 @@ abbrev Inv-loop : tie.InvT-loop
 Inv-loop options k₀ k = Unit {0}
 
 abbrev μ-loop : tie.MeasureT-loop
-μ-loop options k₀ k = 13 - k
+μ-loop options k₀ k = 24 - k
 
 loop-holds : tie.Need-loop-holds Inv-loop μ-loop
 loop-holds c = tt

@@ -8,7 +8,7 @@ abbrev Inv-loop : tie.InvT-loop
 Inv-loop table word k₀ k = Unit {0}
 
 abbrev μ-loop : tie.MeasureT-loop
-μ-loop table word k₀ k = 16 - k
+μ-loop table word k₀ k = 32 - k
 
 returns : tie.Need-returns Inv-loop μ-loop
 returns c = tt

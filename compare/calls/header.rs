@@ -1,0 +1,41 @@
+// A safe call over a C function of the header writer's shape, by the name that it is exported under.
+macro_rules! header_call {
+    ($write_header:ident) => {
+        mod header_c {
+            extern "C" {
+                pub fn $write_header(
+                    layout: *const u32,
+                    layout_len: usize,
+                    kinds: *const u8,
+                    kinds_len: usize,
+                    stream: *const u64,
+                    stream_len: usize,
+                    points: *const u64,
+                    points_len: usize,
+                    header: *mut u8,
+                    header_len: usize,
+                ) -> u32;
+            }
+        }
+
+        /// The header writer; `stream` is rate, count, padding, `points` empty or start and end.
+        pub fn write_header(layout: &[u32], kinds: &[u8], stream: &[u64], points: &[u64], header: &mut [u8]) -> u32 {
+            // SAFETY: each pointer goes with its slice's length, and the borrows keep
+            // the written slice apart from all others for the length of the call.
+            unsafe {
+                header_c::$write_header(
+                    layout.as_ptr(),
+                    layout.len(),
+                    kinds.as_ptr(),
+                    kinds.len(),
+                    stream.as_ptr(),
+                    stream.len(),
+                    points.as_ptr(),
+                    points.len(),
+                    header.as_mut_ptr(),
+                    header.len(),
+                )
+            }
+        }
+    };
+}

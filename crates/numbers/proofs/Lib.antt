@@ -1,0 +1,3 @@
+pub mod HighFirst
+pub mod Replaced
+mod Loops

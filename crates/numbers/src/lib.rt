@@ -1,0 +1,2 @@
+// Numbers in bytes: the high byte first in `high`.
+pub mod high;

@@ -1,0 +1,4 @@
+pub mod HeaderExamples
+pub mod Pieces
+pub mod HeaderFitting
+pub mod HeaderTheorems
