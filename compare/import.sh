@@ -24,3 +24,32 @@ for f in encoder bitreader decoder tables; do
     cmp -s "$work/$f.rs" "$to/$f.rs" || cp "$work/$f.rs" "$to/$f.rs"
     echo "$f.rs: equal up to \"pub \", $(diff "$from/$f.rs" "$work/$f.rs" | grep -c '^>') lines made visible"
 done
+
+# The second copy: encode_wav_to_hca hands out no samples, so its body up to where all are read (`let cfg`) makes a function
+# that does. Head and end are new; every line between them has to be the original's.
+between() { # the lines of $1 between the first that begins with $2 and ends a head, and the next that begins with $3
+    awk -v from="$2" -v to="$3" 'index($0, from) == 1 { head = 1 } inside && index($0, to) == 1 { exit } inside { print }
+        head && /\{$/ { inside = 1; head = 0 }' "$1"
+}
+between "$from/encoder.rs" 'pub fn encode_wav_to_hca' '    let cfg = ' > "$work/original"
+{
+    echo '//! The lines of encode_wav_to_hca that read the samples, word for word; made by import.sh.'
+    echo 'use super::encoder::HcaEncoderError;'
+    echo
+    echo '/// Samples, channels, rate, depth.'
+    echo 'pub fn wav_samples(wav_data: &[u8]) -> Result<(Vec<f32>, u32, u32, u32), HcaEncoderError> {'
+    cat "$work/original"
+    echo '    Ok((samples, channels, sample_rate, bits_per_sample))'
+    echo '}'
+} > "$work/wav_samples.rs"
+between "$work/wav_samples.rs" 'pub fn wav_samples' '    Ok((samples' > "$work/copy"
+cmp "$work/original" "$work/copy"
+lines=$(wc -l < "$work/copy")
+first=$(grep -n -F -x '    if wav_data.len() < 44 || &wav_data[0..4] != b"RIFF" || &wav_data[8..12] != b"WAVE" {' "$from/encoder.rs" | cut -d: -f1)
+cut=$(grep -n '^    let cfg = ' "$from/encoder.rs" | cut -d: -f1)
+if [ "$lines" -ne $((cut - first)) ]; then
+    echo "wav_samples.rs: $lines lines, not those from $first to $cut of encoder.rs" >&2
+    exit 1
+fi
+cmp -s "$work/wav_samples.rs" "$to/wav_samples.rs" || cp "$work/wav_samples.rs" "$to/wav_samples.rs"
+echo "wav_samples.rs: $lines lines of encode_wav_to_hca, equal"

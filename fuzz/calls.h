@@ -10,6 +10,7 @@ enum function {
     READ,
     CHECKSUM,
     HEADER,
+    WAV,
     FUNCTIONS
 };
 

@@ -26,6 +26,7 @@ const uint32_t can_give[FUNCTIONS] = {
     [READ] = 0x7B07,
     [CHECKSUM] = 1,
     [HEADER] = 0x10007,
+    [WAV] = 0x43C00005,
 };
 static const size_t delivered_places[3] = {4, 3, 3};
 

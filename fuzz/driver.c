@@ -79,6 +79,7 @@ static int report(void)
         [READ] = "read_frame",
         [CHECKSUM] = "checksum",
         [HEADER] = "write_header",
+        [WAV] = "read_wav",
     };
     int missing = 0;
     uint32_t some = 0;

@@ -143,3 +143,28 @@ uint32_t __wrap_hca_write_header(const uint32_t *layout, size_t layout_len, cons
         number = 0;
     return number;
 }
+
+/* ---- the WAV reader */
+
+extern __typeof__(hca_read_wav) __real_hca_read_wav;
+
+uint32_t __wrap_hca_read_wav(const uint8_t *wav, size_t wav_len, float *samples, size_t samples_len, float *note, size_t note_len,
+                             uint32_t *answer, size_t answer_len)
+{
+    uint32_t number = __real_hca_read_wav(wav, wav_len, samples, samples_len, note, note_len, answer, answer_len);
+    if (is_fault("wav-reads-past-the-file") && number == 23)
+        sink = wav[wav_len];
+    if (is_fault("wav-peak-is-signed") && number == 0 && answer[3] > 0 && samples[0] < 0)
+        note[0] = samples[0];
+    if (is_fault("wav-mean-of-one-more") && number == 0 && answer[3] > 0)
+        note[1] = note[1] * (float)answer[3] / (float)(answer[3] + 1);
+    if (is_fault("wav-last-sample-missing") && number == 0 && answer[3] > 0)
+        samples[answer[3] - 1] = 0.0f;
+    if (is_fault("refusal-25-writes") && number == 25)
+        samples[0] = 1.0f;
+    if (is_fault("refusal-30-for-2") && number == 30)
+        number = 2;
+    if (is_fault("wav-note-of-a-refusal") && number == 24)
+        note[0] = 0.0f;
+    return number;
+}

@@ -9,6 +9,11 @@
 enum {
     SHORT_SLICE = 2,
     BAD_FILE_HEADER = 16,
+    NOT_WAVE = 22,
+    NO_DATA = 23,
+    BAD_DEPTH = 24,
+    NOT_FINITE = 25,
+    TOO_MANY = 30,
 };
 
 /* A buffer of such a call, and how many of its elements a delivery writes; 0 where it is only read. */
@@ -31,5 +36,6 @@ void put_number(uint8_t *to, uint64_t value, unsigned width);
 uint64_t number_near(struct source *s, uint64_t limit, uint32_t past);
 
 void hostile_header(struct source *s);
+void hostile_wav(struct source *s);
 
 #endif

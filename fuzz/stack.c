@@ -21,6 +21,7 @@ static void say(void)
     printf("bytes of stack: hca_encode_frame %zu, hca_write_record %zu, hca_read_frame %zu, hca_checksum %zu%s", most[ENCODE],
            most[WRITE], most[READ], most[CHECKSUM], most[ENCODE] >= PAINTED ? " or more" : "");
     printf(", hca_write_header %zu", most[HEADER]);
+    printf(", hca_read_wav %zu", most[WAV]);
     printf("\n");
 }
 
@@ -116,5 +117,18 @@ uint32_t __wrap_hca_write_header(const uint32_t *layout, size_t layout_len, cons
     uint32_t number = __real_hca_write_header(layout, layout_len, kinds, kinds_len, stream, stream_len, points, points_len, header,
                                               header_len);
     look(here, HEADER);
+    return number;
+}
+
+extern __typeof__(hca_read_wav) __real_hca_read_wav;
+
+uint32_t __wrap_hca_read_wav(const uint8_t *wav, size_t wav_len, float *samples, size_t samples_len, float *note, size_t note_len,
+                             uint32_t *answer, size_t answer_len)
+{
+    uint8_t *here;
+    STACK_POINTER(here);
+    paint(here);
+    uint32_t number = __real_hca_read_wav(wav, wav_len, samples, samples_len, note, note_len, answer, answer_len);
+    look(here, WAV);
     return number;
 }

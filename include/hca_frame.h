@@ -5,6 +5,7 @@
    hca_write_record   a record                            -> its frame
    hca_checksum       bytes                               -> their check
    hca_write_header   layout, rate, count, padding, loop  -> the 96 bytes in front of a file's frames
+   hca_read_wav       a WAV file                          -> its samples, exact, and their level note
 
    Arguments. Every buffer is a pointer and a number of ELEMENTS (not bytes). What is const is only read. No call has
    a precondition on numbers: any layout, kinds, lengths and contents may be passed, and what cannot be used is refused.
@@ -97,6 +98,20 @@ enum hca_record {
     HCA_RECORD_COUNT = 3        /* how many numbers they deliver */
 };
 
+/* What hca_read_wav delivers, and its note. */
+enum hca_take {
+    HCA_TAKE_CHANNELS = 0,      /* as the file has them, 0 too */
+    HCA_TAKE_RATE = 1,          /* samples a second and channel, as the file has them, 0 too */
+    HCA_TAKE_DEPTH = 2,         /* bits of a sample in the file: 16, 24 or 32 */
+    HCA_TAKE_COUNT = 3,         /* samples of all channels together, 0 to 16,777,216 */
+    HCA_TAKE_NUMBERS = 4        /* how many numbers it delivers */
+};
+enum hca_note {
+    HCA_NOTE_PEAK = 0,          /* the largest magnitude */
+    HCA_NOTE_MEAN = 1,          /* the mean magnitude; infinite where the sum is */
+    HCA_NOTE_COUNT = 2          /* places that a note needs */
+};
+
 /* Refusals. "Beside" is what answer[0] then holds. Bits are counted from the frame's first bit, which is 0.
    After 1 to 4, 15 and 16 every buffer but answer is as it was. After 5 to 14 the written buffers are zero over the
    elements that the layout asks for (the stage's five, the reader's factors, side and codes, the writer's frame),
@@ -121,8 +136,13 @@ enum hca_refusal {
     HCA_PAST_END = 13,      /* a field would pass bit 8(F - 2); beside: the field's first bit */
     HCA_FILL_NOT_ZERO = 14, /* the fill before the check holds a 1; beside: its bit */
     HCA_NOT_LEGAL = 15,     /* the record has a value out of range, or not 0 where nothing is written; beside: 0 */
-    HCA_BAD_HEADER = 16     /* more than eight channels, or a rate, count, padding or loop point that the file header has no
+    HCA_BAD_HEADER = 16,    /* more than eight channels, or a rate, count, padding or loop point that the file header has no
                                room for */
+    HCA_NOT_WAVE = 22,      /* under 44 bytes, or no RIFF at 0 or no WAVE at 8; beside: 0 */
+    HCA_NO_DATA = 23,       /* no data chunk found, or one whose size is 0; beside: 0 */
+    HCA_BAD_DEPTH = 24,     /* samples of other than 16, 24 or 32 bits; beside: 0 */
+    HCA_NOT_FINITE = 25,    /* a 32-bit float sample is NaN or infinite; beside: 0 */
+    HCA_TOO_MANY = 30       /* more than 16,777,216 whole samples; beside: 0 */
 };
 
 /* A short English text for a call's result, never null: of a number that this header does not know, that. */
@@ -144,6 +164,11 @@ static inline const char *hca_refusal_text(uint32_t refusal)
     case HCA_FILL_NOT_ZERO: return "the fill holds a 1";
     case HCA_NOT_LEGAL: return "the record is not legal";
     case HCA_BAD_HEADER: return "more than eight channels, or a rate, count, padding or loop point that does not fit the file header";
+    case HCA_NOT_WAVE: return "the file is no RIFF/WAVE file, or shorter than 44 bytes";
+    case HCA_NO_DATA: return "the file has no data chunk, or an empty one";
+    case HCA_BAD_DEPTH: return "samples have neither 16, 24 nor 32 bits";
+    case HCA_NOT_FINITE: return "a float sample is NaN or infinite";
+    case HCA_TOO_MANY: return "the file has more than 16,777,216 samples";
     default: return "a refusal that this header does not know";
     }
 }
@@ -206,6 +231,18 @@ uint32_t hca_write_header(
                                                            to 4,294,967,167; later ones are not looked at. Exactly one is
                                                            refusal 2 */
     uint8_t *header, size_t header_len);                /* written: 96 bytes, HCA_HEADER_SIZE */
+
+/* The WAV reader: a take's samples, exact, and their level note. Refuses with 2, 22, 23, 24, 30, 2 or 25 in this order: a
+   note or an answer with too few places comes first. At a refusal samples and note stay as they were.
+   Samples of 16 bits are divided by 32,768, those of 24 by 8,388,608; 32 bits are floats, bit by bit. A file without a fmt
+   chunk before its data has 2 channels, 44,100 Hz, 16 bits. Neither the RIFF size nor the format tag nor the block align is
+   looked at, so 32-bit integers are read as floats. Samples that the file's end cuts are dropped: a count of 0 is delivered,
+   with a note of 0 and 0. wav_len / 2 places in samples always suffice. */
+uint32_t hca_read_wav(
+    const uint8_t *wav, size_t wav_len,                 /* read: the whole file */
+    float *samples, size_t samples_len,                 /* written: the count's samples, channels interleaved as in the file */
+    float *note, size_t note_len,                       /* written: 2 places, see enum hca_note */
+    uint32_t *answer, size_t answer_len);               /* written: 4 places or more, see enum hca_take */
 
 /* The check of any run of bytes: CRC16, polynomial 8005, start 0, high bit first. Over a frame's first F - 2 bytes it
    is what stands in the last two, high byte first; over a whole good frame it is 0. Never refuses; of no bytes it is 0. */

@@ -65,13 +65,13 @@ absent() {
 # -- help
 for word in --help -h help; do
     status 0 "help by $word" $word
-    for command in encode read write check header; do says out "usage: hcaframe $command"; done
+    for command in encode read write check header wav; do says out "usage: hcaframe $command"; done
     says out 'Status: 0 all is well'
     says out 'FILE.tmp-NUMBER'
     [ $form = status ] || says out 'The exit status of this form is always 0'
     good
 done
-for command in encode read write check header; do
+for command in encode read write check header wav; do
     status 0 "help of $command" "$command" --help
     says out "usage: hcaframe $command"
     good
@@ -568,6 +568,96 @@ good
 status 2 'a rate for another command' check $layout --frames frames.hca --rate 48000
 says err '--rate is not for this command'
 absent x.hca
+good
+
+# -- WAV files
+# unhex HEX..: these bytes
+unhex() {
+    printf "$(printf %s "$@" | awk -v d=0123456789abcdef '{ for (i = 1; i < length($0); i += 2)
+        printf "\\%03o", 16 * (index(d, substr($0, i, 1)) - 1) + index(d, substr($0, i + 1, 1)) - 1 }')"
+}
+# told TEXT: standard output has these lines, with a space in place of each line end
+told() {
+    [ "$(tr '\n' ' ' <out)" = "$1 " ] || fail "$name: it says other numbers"
+}
+riff=524946460000000057415645
+mono8=666d74201000000001000100401f0000000000000000 # one channel at 8,000 Hz; the depth follows
+unhex 524946462800000057415645666d74201000000001000100401f0000803e00000200100064617461040000000080ff7f >take.wav
+status 0 'wav of 16 bits' wav --in take.wav --samples take.f32
+told 'channels 1 rate 8000 depth 16 samples 2 peak 1.000000 (3f800000) mean 0.999985 (3f7fff00)'
+holds take.f32 000080bf 00fe7f3f
+good
+status 0 'wav, quiet' wav --in take.wav --quiet
+[ ! -s out ] || fail "$name: something is said"
+good
+want=0 name='wav by streams'
+cat take.wav | "$program" wav --in - --samples - >piped.f32 2>err
+ended $?
+says err 'samples 2'
+same take.f32 piped.f32
+good
+unhex $riff 4c4953540300000061626300 666d74201000000001000100 80bb0000000000000000 1800 646174610a000000 000080ffff7f010000ff >deep.wav
+status 0 'wav of 24 bits, and an odd chunk' wav --in=deep.wav --samples=deep.f32
+told 'channels 1 rate 48000 depth 24 samples 3 peak 1.000000 (3f800000) mean 0.666667 (3f2aaaab)'
+holds deep.f32 000080bf feff7f3f 00000034
+good
+unhex $riff $mono8 2000 646174610c000000 0000804b 0000803f 0000803f >float.wav
+status 0 'wav of floats' wav --in float.wav
+told 'channels 1 rate 8000 depth 32 samples 3 peak 16777216.000000 (4b800000) mean 5592405.500000 (4aaaaaab)'
+good
+unhex $riff $mono8 2000 6461746108000000 ffff7f7f ffff7fff >loud.wav
+status 0 'wav of the largest floats' wav --in loud.wav
+told 'channels 1 rate 8000 depth 32 samples 2 peak at least 2^63 (7f7fffff) mean infinite (7f800000)'
+good
+unhex $riff $mono8 1000 6461746104000000 01000000 >low.wav
+status 0 'wav of a low sample' wav --in low.wav
+told 'channels 1 rate 8000 depth 16 samples 2 peak 0.000031 (38000000) mean 0.000015 (37800000)'
+good
+unhex $riff 6461746118000000 000000000000000000000000000000000000000000000000 >bare.wav
+status 0 'wav without a format' wav --in bare.wav
+told 'channels 2 rate 44100 depth 16 samples 12 peak 0.000000 (00000000) mean 0.000000 (00000000)'
+good
+# no_wav NUMBER TEXT HEX..: the file is refused
+no_wav() {
+    number=$1 text=$2
+    shift 2
+    unhex "$@" >bad.wav
+    status 1 "wav refused: $text" wav --in bad.wav --samples x.f32
+    says err "hcaframe: refusal $number: $text"
+    [ ! -s out ] || fail "$name: something is said"
+    absent x.f32
+    good
+}
+no_wav 22 'it is no WAV file' $riff $mono8 1000 64617461020000
+no_wav 23 'it has no data chunk' $riff $mono8 1000 6461746100000000
+no_wav 24 'its samples are not of 16, 24 or 32 bits' $riff $mono8 0800 6461746104000000 00000000
+no_wav 25 'a sample is NaN or infinite' $riff $mono8 2000 6461746104000000 0000807f
+status 1 'wav of an empty file' wav --in empty
+says err 'hcaframe: refusal 22: '
+good
+{ unhex $riff $mono8 1000 64617461ffffffff; head -c 2097108 /dev/zero; } >full.wav
+status 0 'the largest WAV file' wav --in full.wav --samples full.f32
+says out 'samples 1048554'
+[ "$(wc -c <full.f32)" -eq 4194216 ] || fail "$name: length"
+good
+printf 0 >>full.wav
+status 2 'a WAV file that is too long' wav --in full.wav --samples x.f32
+says err 'hcaframe: the WAV file has more than 2097152 bytes, the most that hcaframe takes'
+absent x.f32
+rm full.wav full.f32
+good
+status 2 'a WAV file that is missing' wav --in none.wav
+says err 'hcaframe: none.wav: No such file or directory'
+good
+status 2 'samples in the place of their WAV file' wav --in take.wav --samples ./take.wav
+says err '--in and --samples are the same file'
+good
+status 2 'wav without its file' wav --samples x.f32
+says err 'hcaframe: --in is missing'
+good
+status 2 'a layout for a WAV file' wav --in take.wav --layout layout.txt
+says err '--layout is not for this command'
+absent x.f32
 good
 
 # -- words

@@ -3,6 +3,7 @@
 //! An [`Encoder`] turns the spectra of one frame into the frame's bytes, and
 //! [`read_frame`] and [`write_record`] go from a frame to its record and back.
 //! [`write_header`] makes the 96 bytes in front of a file's frames.
+//! [`read_wav`] takes a WAV file's samples with their level note.
 //! The library refuses what it cannot do by number; see [`Refusal`].
 //!
 //! ```
@@ -45,7 +46,8 @@
 //! them the stage still keeps to its buffers, but what it delivers may differ from
 //! what is proved (seen for small scaled values). Call from a thread without them,
 //! or clear them around the call.
-//! The reader, the record writer and the checksum use no floats.
+//! The reader, the record writer and the checksum use no floats. [`read_wav`]'s mean
+//! counts on the same modes.
 //!
 //! # Allocation
 //!
@@ -61,10 +63,12 @@ mod layout;
 #[allow(unsafe_code)]
 pub mod raw;
 mod refusal;
+mod wav;
 
 pub use file_header::{write_header, Stream, HEADER_SIZE};
 pub use layout::{Kind, Layout, LayoutBuilder, LayoutError};
 pub use refusal::{Refusal, RefusalKind};
+pub use wav::{read_wav, LevelNote, Take};
 
 /// What the stage answers beside its buffers.
 #[derive(Clone, Copy, Debug, PartialEq, Eq)]

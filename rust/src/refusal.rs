@@ -41,6 +41,16 @@ impl Refusal {
     pub const NOT_LEGAL: u32 = 15;
     /// More channels than a file header has, or a number that does not fit its field; `place` is 0.
     pub const BAD_HEADER: u32 = 16;
+    /// No RIFF/WAVE file, or under 44 bytes; `place` is 0, as in all that follow.
+    pub const NOT_WAVE: u32 = 22;
+    /// The file has no data chunk, or an empty one.
+    pub const NO_DATA: u32 = 23;
+    /// Samples have neither 16, 24 nor 32 bits.
+    pub const BAD_DEPTH: u32 = 24;
+    /// A float sample is NaN or infinite.
+    pub const NOT_FINITE: u32 = 25;
+    /// The file has more than 16,777,216 whole samples.
+    pub const TOO_MANY: u32 = 30;
 }
 
 /// What a refusal is about: its number by a name that a `match` can use.
@@ -87,6 +97,16 @@ pub enum RefusalKind {
     NotLegal,
     /// [`Refusal::BAD_HEADER`].
     BadHeader,
+    /// [`Refusal::NOT_WAVE`].
+    NotWave,
+    /// [`Refusal::NO_DATA`].
+    NoData,
+    /// [`Refusal::BAD_DEPTH`].
+    BadDepth,
+    /// [`Refusal::NOT_FINITE`].
+    NotFinite,
+    /// [`Refusal::TOO_MANY`].
+    TooMany,
     /// A number that this crate has no name for. A later version may have one: match it by `_`.
     Unknown,
 }
@@ -110,6 +130,11 @@ impl Refusal {
             Self::FILL_NOT_ZERO => RefusalKind::FillNotZero,
             Self::NOT_LEGAL => RefusalKind::NotLegal,
             Self::BAD_HEADER => RefusalKind::BadHeader,
+            Self::NOT_WAVE => RefusalKind::NotWave,
+            Self::NO_DATA => RefusalKind::NoData,
+            Self::BAD_DEPTH => RefusalKind::BadDepth,
+            Self::NOT_FINITE => RefusalKind::NotFinite,
+            Self::TOO_MANY => RefusalKind::TooMany,
             _ => RefusalKind::Unknown,
         }
     }
@@ -136,6 +161,11 @@ impl fmt::Display for Refusal {
             Self::BAD_HEADER => {
                 write!(f, "more than eight channels, or a rate, count, padding or loop point that does not fit the file header")
             }
+            Self::NOT_WAVE => write!(f, "the file is no RIFF/WAVE file, or shorter than 44 bytes"),
+            Self::NO_DATA => write!(f, "the file has no data chunk, or an empty one"),
+            Self::BAD_DEPTH => write!(f, "samples have neither 16, 24 nor 32 bits"),
+            Self::NOT_FINITE => write!(f, "a float sample is NaN or infinite"),
+            Self::TOO_MANY => write!(f, "the file has more than 16,777,216 samples"),
             _ => write!(f, "unknown to this crate, with {at} beside it"),
         }
     }

@@ -7,6 +7,7 @@ pub mod records;
 pub mod rng;
 pub mod speech;
 pub mod stage;
+pub mod wav;
 
 /// The kind of a case and its number among its kind. The shares, which add up to
 /// 100, are spread, so that a few cases show every kind.

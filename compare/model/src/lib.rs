@@ -8,6 +8,10 @@ include!("../../calls/header.rs");
 
 header_call!(model_write_header);
 
+include!("../../calls/wav.rs");
+
+wav_call!(model_read_wav);
+
 type Over<'a> = &'a mut dyn FnMut(u32) -> bool;
 
 extern "C" {

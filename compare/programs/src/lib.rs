@@ -1,6 +1,7 @@
 //! What the comparing programs share: options, threads, counts, differences; and speech from a file.
 pub mod front;
 pub mod header;
+pub mod wav;
 
 use std::collections::BTreeMap;
 use std::sync::atomic::{AtomicU64, Ordering};

@@ -2,3 +2,4 @@
 pub mod driver;
 pub mod hca;
 pub mod header;
+pub mod wav;

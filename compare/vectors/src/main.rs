@@ -1,6 +1,7 @@
 //! Writes the fixed vectors of VECTORS.md: `vectors FOLDER`. With `--check FOLDER`
 //! it writes nothing and says whether the files there are these.
 mod header;
+mod wav;
 
 use gen::records::{calls, kind_of, Call, ReadCall, WriteCall, KINDS};
 use gen::speech;
@@ -277,6 +278,7 @@ fn main() {
         ("stage", stage_file()),
         ("records", record_file()),
         ("header", header::file()),
+        ("wav", wav::file()),
     ];
     for (name, file) in files {
         let bytes = file.finish();

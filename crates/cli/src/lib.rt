@@ -9,6 +9,7 @@ use cli_options::options::Options;
 use cli_options::options::none_yet;
 use cli_parser::sources::all_words;
 use cli_runs::progress::last_status;
+use cli_wav::do_wav;
 use cli_words::commands::Command;
 use cli_words::commands::command_of;
 use cli_words::commands::is_known;
@@ -57,6 +58,7 @@ fn do_command(options: Options) -> i32 {
     let command = options.command;
     match command {
         Command::Header => do_header(options),
+        Command::Wav => do_wav(options),
         _ => do_run(options),
     }
 }

@@ -3,8 +3,11 @@ use crate::headers::begins_with_header;
 use cli_options::said::FileName;
 use cli_options::said::put_path;
 use cli_words::manual::complain;
+use text::blocks::Block;
 use text::blocks::Length;
+use text::blocks::is_at_end;
 use text::blocks::length_of;
+use text::blocks::next_block;
 use text::forms::say_form;
 use text::lines::say;
 use whole_files::standard::close_file;
@@ -91,5 +94,33 @@ pub fn blocks_in(fd: i32, size: usize) -> usize {
         Length::Bytes(n) => n / size,
         Length::Unknown => usize::MAX,
         Length::Failed => usize::MAX,
+    }
+}
+
+// What a whole file came to: bytes that have room, more than that, or a failure that errno tells.
+pub enum Content {
+    Bytes(usize),
+    TooLong,
+    Failed,
+}
+
+// A file that fills its room may go on.
+fn filled(fd: i32, n: usize) -> Content {
+    if is_at_end(fd) {
+        Content::Bytes(n)
+    } else {
+        Content::TooLong
+    }
+}
+
+// Reads a whole file into the lent room.
+pub fn content_of(fd: i32, room: &mut [u8]) -> Content {
+    let n = room.len();
+    let got = next_block(fd, n, room);
+    match got {
+        Block::Whole => filled(fd, n),
+        Block::End => Content::Bytes(0),
+        Block::Short(k) => Content::Bytes(k),
+        Block::Failed => Content::Failed,
     }
 }

@@ -23,16 +23,18 @@ use cli_words::layouts::spectra_size;
 use cli_words::names::Name;
 use cli_words::names::input_of;
 use cli_words::names::output_of;
+use cli_words::names::takes_layout;
 use rules::Layout;
 use text::lines::say;
 use whole_files::standard::close_file;
 
-// The bytes of a frame in its input. Those behind a header are taken as they stand.
+// The bytes of a frame in its input. Those behind a header and a WAV file are taken as they stand.
 fn block_size(command: Command, layout: Layout) -> usize {
     match command {
         Command::Encode => spectra_size(layout),
         Command::Write => record_size(layout),
         Command::Header => 1,
+        Command::Wav => 1,
         _ => layout.frame_size,
     }
 }
@@ -47,12 +49,17 @@ fn takes_frames(command: Command) -> bool {
     }
 }
 
+// Is the layout within its limits, where one is taken?
+fn has_layout(command: Command, layout: Layout) -> bool {
+    !takes_layout(command) || is_possible(layout)
+}
+
 // Can the command be done with these words and this layout? If not, that is said.
 fn is_sound(options: Options, layout: Layout) -> bool {
-    if options.is_bad || !is_possible(layout) || !have_own_names(options) {
+    let command = options.command;
+    if options.is_bad || !has_layout(command, layout) || !have_own_names(options) {
         return false;
     }
-    let command = options.command;
     if is_encode(command) && has_secondary(layout) && !is_given(options, Name::Intensities) {
         refuse_option(options, Name::Intensities, MISSING_FOR_S);
         return false;

@@ -6,7 +6,7 @@ use text::lines::put_text;
 use text::lines::say_line;
 
 // The line of each refusal, with its number and, where document 01 has one, the number beside it; line 0 is for any other.
-const FORMS: [u8; 756] = *b"refusal #: unknown\n\
+const FORMS: [u8; 1023] = *b"refusal #: unknown\n\
     refusal #: the layout is outside its limits\n\
     refusal #: a lent buffer is too short\n\
     refusal # at #: a secondary's intensity is above 15\n\
@@ -20,7 +20,12 @@ const FORMS: [u8; 756] = *b"refusal #: unknown\n\
     refusal # at bit #: a field passes the end of the fields\n\
     refusal # at bit #: the fill holds a 1\n\
     refusal #: the record is not legal\n\
-    refusal #: a number does not fit the header\n";
+    refusal #: a number does not fit the header\n\
+    refusal #: it is no WAV file: under 44 bytes, or RIFF or WAVE is not in its place\n\
+    refusal #: it has no data chunk, or an empty one\n\
+    refusal #: its samples are not of 16, 24 or 32 bits\n\
+    refusal #: a sample is NaN or infinite\n\
+    refusal #: it has more than 16777216 samples\n";
 
 // Each number has its own line, so that a number that is withdrawn moves no other.
 fn line_for(number: usize) -> usize {
@@ -39,6 +44,11 @@ fn line_for(number: usize) -> usize {
         14 => 12,
         15 => 13,
         16 => 14,
+        22 => 15,
+        23 => 16,
+        24 => 17,
+        25 => 18,
+        30 => 19,
         _ => 0,
     }
 }

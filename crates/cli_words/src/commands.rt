@@ -8,6 +8,7 @@ pub enum Command {
     Write,
     Check,
     Header,
+    Wav,
 }
 
 // A command's line in a table that has one for each of them, and its first for none.
@@ -19,6 +20,7 @@ pub(crate) fn line_of(command: Command) -> usize {
         Command::Write => 3,
         Command::Check => 4,
         Command::Header => 5,
+        Command::Wav => 6,
     }
 }
 
@@ -29,12 +31,13 @@ fn command_on(line: usize) -> Command {
         3 => Command::Write,
         4 => Command::Check,
         5 => Command::Header,
+        6 => Command::Wav,
         _ => Command::Nothing,
     }
 }
 
 pub fn command_of(word: &[u8]) -> Command {
-    command_on(entry_of(b"\nencode\nread\nwrite\ncheck\nheader\n", word))
+    command_on(entry_of(b"\nencode\nread\nwrite\ncheck\nheader\nwav\n", word))
 }
 
 pub fn is_encode(command: Command) -> bool {

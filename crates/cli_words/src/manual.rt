@@ -1,17 +1,20 @@
 // What each command takes, and what is said when it is called otherwise.
 use crate::commands::Command;
+use crate::commands::is_known;
 use crate::commands::line_of;
+use crate::names::takes_layout;
 use text::lines::say;
 use text::tables::say_entry;
 
 // How a command is called, on a line each; the first is for none.
-const USAGES: [u8; 478] =
-    *b"usage: hcaframe encode | read | write | check | header .. ; hcaframe --help\n\
+const USAGES: [u8; 541] =
+    *b"usage: hcaframe encode | read | write | check | header | wav .. ; hcaframe --help\n\
     usage: hcaframe encode LAYOUT --spectra FILE [--intensities FILE] --out FILE [--quiet]\n\
     usage: hcaframe read LAYOUT --frames FILE [--records FILE] [--quiet]\n\
     usage: hcaframe write LAYOUT --records FILE --out FILE [--quiet]\n\
     usage: hcaframe check LAYOUT --frames FILE [--quiet]\n\
-    usage: hcaframe header LAYOUT --rate N --count N --padding N [--loop-start N --loop-end N] [--frames FILE] --out FILE [--quiet]\n";
+    usage: hcaframe header LAYOUT --rate N --count N --padding N [--loop-start N --loop-end N] [--frames FILE] --out FILE [--quiet]\n\
+    usage: hcaframe wav --in FILE [--samples FILE] [--quiet]\n";
 
 pub fn say_usage(fd: i32, command: Command) -> bool {
     say_entry(fd, &USAGES, line_of(command)) && say(fd, b"\n")
@@ -24,9 +27,14 @@ fn say_usages() -> bool {
         && say_usage(1, Command::Write)
         && say_usage(1, Command::Check)
         && say_usage(1, Command::Header)
+        && say_usage(1, Command::Wav)
 }
 
-fn say_layout() -> bool {
+// For a command that takes one, and where all are told of.
+fn say_layout(command: Command) -> bool {
+    if is_known(command) && !takes_layout(command) {
+        return true;
+    }
     say(
         1,
         b"LAYOUT is --kinds PS --base 40 --stereo 60 --total 117 --frame-size 512:\n\
@@ -87,6 +95,16 @@ fn say_header() -> bool {
     )
 }
 
+fn say_wav() -> bool {
+    say(
+        1,
+        b"Reads a WAV file of up to 2097152 bytes and tells its channels, rate, depth and samples, and the peak and the mean of the\n\
+          magnitudes of all samples: six decimals, rounded, and the float's pattern in hex.\n\
+          \x20 --in          a WAV file with samples of 16, 24 or 32 bits; those of 32 bits are floats\n\
+          \x20 --samples     the samples in the file's order: f32, low byte first\n",
+    )
+}
+
 // Of the files of every command.
 fn say_files() -> bool {
     say(
@@ -104,8 +122,8 @@ fn say_all() -> bool {
     say(
         1,
         b"encode makes frames from spectra, read tells what frames hold, write makes frames from records,\n\
-          check tells which frames are good, header makes the header of an HCA file or the whole file.\n\
-          More: hcaframe COMMAND --help; hcaframe --version\n",
+          check tells which frames are good, header makes the header of an HCA file or the whole file,\n\
+          wav reads a WAV file. More: hcaframe COMMAND --help; hcaframe --version\n",
     )
 }
 
@@ -113,7 +131,7 @@ fn say_all() -> bool {
 fn say_status(has_status: bool) -> bool {
     let is_said = say(
         1,
-        b"Status: 0 all is well, 1 a frame or a record was refused, 2 the words or a file were wrong.\n",
+        b"Status: 0 all is well, 1 a frame, a record or a WAV file was refused, 2 the words or a file were wrong.\n",
     );
     if has_status {
         return is_said && say(1, b"A closed pipe ends the text, not the work.\n");
@@ -134,12 +152,13 @@ fn say_command(command: Command) -> bool {
         Command::Write => say_usage(1, command) && say_write(),
         Command::Check => say_usage(1, command) && say_check(),
         Command::Header => say_usage(1, command) && say_header(),
+        Command::Wav => say_usage(1, command) && say_wav(),
     }
 }
 
 // On standard output; the answer is the status.
 pub fn help(command: Command, has_status: bool) -> i32 {
-    if say_command(command) && say_layout() && say_files() && say_status(has_status) {
+    if say_command(command) && say_layout(command) && say_files() && say_status(has_status) {
         return 0;
     }
     complain(b"standard output");

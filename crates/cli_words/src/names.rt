@@ -23,10 +23,12 @@ pub enum Name {
     Padding,
     LoopStart,
     LoopEnd,
+    In,
+    Samples,
 }
 
 // An option's place is its line here.
-const NAMES: [u8; 161] = *b"\n\
+const NAMES: [u8; 176] = *b"\n\
     --kinds\n\
     --base\n\
     --stereo\n\
@@ -43,7 +45,9 @@ const NAMES: [u8; 161] = *b"\n\
     --count\n\
     --padding\n\
     --loop-start\n\
-    --loop-end\n";
+    --loop-end\n\
+    --in\n\
+    --samples\n";
 
 // Its place where something is kept for each option; 0 is for none.
 pub fn place_of(name: Name) -> usize {
@@ -66,6 +70,8 @@ pub fn place_of(name: Name) -> usize {
         Name::Padding => 15,
         Name::LoopStart => 16,
         Name::LoopEnd => 17,
+        Name::In => 18,
+        Name::Samples => 19,
     }
 }
 
@@ -89,6 +95,8 @@ pub fn name_at(place: usize) -> Name {
         15 => Name::Padding,
         16 => Name::LoopStart,
         17 => Name::LoopEnd,
+        18 => Name::In,
+        19 => Name::Samples,
         _ => Name::Unknown,
     }
 }
@@ -148,6 +156,7 @@ pub fn input_of(command: Command) -> Name {
         Command::Write => Name::Records,
         Command::Check => Name::Frames,
         Command::Header => Name::Frames,
+        Command::Wav => Name::In,
     }
 }
 
@@ -160,6 +169,7 @@ pub fn output_of(command: Command) -> Name {
         Command::Write => Name::Out,
         Command::Check => Name::Unknown,
         Command::Header => Name::Out,
+        Command::Wav => Name::Samples,
     }
 }
 
@@ -179,12 +189,14 @@ fn takers(name: Name) -> usize {
         Name::Out => 20202,
         Name::Frames => 12020,
         Name::Records => 210,
-        Name::Quiet => 11111,
+        Name::Quiet => 111111,
         Name::Rate => 20000,
         Name::Count => 20000,
         Name::Padding => 20000,
         Name::LoopStart => 10000,
         Name::LoopEnd => 10000,
+        Name::In => 200000,
+        Name::Samples => 100000,
     }
 }
 
@@ -196,6 +208,7 @@ fn digit(n: usize, line: usize) -> usize {
         3 => n / 100 % 10,
         4 => n / 1000 % 10,
         5 => n / 10000 % 10,
+        6 => n / 100000 % 10,
         _ => 0,
     }
 }
@@ -203,6 +216,11 @@ fn digit(n: usize, line: usize) -> usize {
 // Does the command take this option?
 pub fn is_taken(command: Command, name: Name) -> bool {
     digit(takers(name), line_of(command)) != 0
+}
+
+// Does it take a layout?
+pub fn takes_layout(command: Command) -> bool {
+    is_taken(command, Name::Layout)
 }
 
 // Must it be given?

@@ -54,9 +54,12 @@ maxAbs s x = maxF s (absF x)
 unfoldable pub meanF : (s : Float) (n : ℕ) → Float
 meanF s n = cond (eqb n 0) zeroF (div binary32 s (ofInt binary32 (pos n)))
 
--- a running average: of no values, with the magnitudes of eight more, and its value
+-- a running average: of no values, with the magnitude of one more, with those of eight more, and its value
 unfoldable pub noAverage : Average
 noAverage = record { sum = zeroF; count = 0 }
+
+unfoldable pub withOne : (a : Average) (x : Float) → Average
+withOne a x = record { sum = addAbs (a .sum) x; count = a .count + 1 }
 
 unfoldable pub withEight : (xs : List Float) (start stride : ℕ) (a : Average) → Average
 withEight xs at stride a = record { sum = folded addAbs xs at stride 8 (a .sum); count = a .count + 8 }

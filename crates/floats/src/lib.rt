@@ -5,7 +5,7 @@ ghost use lib.ListN.{length};
 ghost use lib.Ieee as Ieee;
 ghost use lib.Ieee.{binary32};
 ghost use lib.Ieee.Scale.{finite as isFinite};
-ghost use Rattle.floats.specs.Single.{absF, heldF, cutTo, maxF, minF, folded, maxAbs, zeroF, noAverage, withEight, mean};
+ghost use Rattle.floats.specs.Single.{absF, heldF, cutTo, maxF, minF, folded, maxAbs, zeroF, noAverage, withOne, withEight, mean};
 
 // |x|, from the bits: the sign's bit is taken off. A NaN, which has no pattern of its own, is left.
 pub fn magnitude(x: f32) -> f32
@@ -117,6 +117,18 @@ impl Average {
         ensures { λ r. ⌜ r ≡ noAverage ⌝ }
     {
         Average { sum: 0.0, count: 0 }
+    }
+
+    // With the magnitude of one value more.
+    pub fn with_one(self, x: f32) -> Average
+        requires { ⌜ self .count < 0x100_0000 ⌝ }
+        ensures { λ r. ⌜ r ≡ withOne self x ⌝ }
+    {
+        let m = magnitude(x);
+        Average {
+            sum: self.sum + m,
+            count: self.count + 1,
+        }
     }
 
     // With the magnitudes of eight values more, `stride` apart, the first at `at`, added in order.

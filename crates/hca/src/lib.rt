@@ -7,9 +7,11 @@ ghost use Rattle.hca_encode.specs.Encoded.{encodedAs, encoded};
 ghost use Rattle.hca_read.specs.Returned.{returnedAs, returned};
 ghost use Rattle.hca_write.specs.Wrote.{wroteAs, wrote};
 ghost use Rattle.hca_header.specs.HeaderWrote.{headerAs, headerWrote};
+ghost use Rattle.hca_wav.specs.Takes.{takeAs, takeRead};
 use hca_encode::encode_frame;
 use hca_header::write_header;
 use hca_read::read_frame;
+use hca_wav::read_wav;
 use hca_write::write_record;
 
 // The frame stage. answer: level, boundary, pairs, bits.
@@ -95,6 +97,20 @@ pub extern "C" fn hca_write_header(
         (now (points .entry)) (now (header .entry)) ⌝ }
 {
     write_header(layout, kinds, stream, points, header)
+}
+
+// The WAV reader. note: peak, mean; answer: channels, rate, depth, count.
+#[no_mangle]
+pub extern "C" fn hca_read_wav(
+    wav: &[u8],
+    samples: &mut [f32],
+    note: &mut [f32],
+    answer: &mut [u32],
+) -> u32
+    ensures { λ r. ⌜ takeAs r (now (samples .exit)) (now (note .exit)) (now (answer .exit))
+        ≡ takeRead (now (wav .entry)) (now (samples .entry)) (now (note .entry)) (now (answer .entry)) ⌝ }
+{
+    read_wav(wav, samples, note, answer)
 }
 
 // The check of a frame's bytes.

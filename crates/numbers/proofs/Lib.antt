@@ -1,3 +1,4 @@
 pub mod HighFirst
 pub mod Replaced
 mod Loops
+mod LowFirst

@@ -1,4 +1,4 @@
-// The refusals of document 01 and of the requests: the number, and the number beside it.
+// The refusals of document 01: the number, and the number beside it. Those of calls that a request adds have a module each.
 ghost use mathlib.Core.Path.{_≡_};
 ghost use Rattle.rules.specs.Refusals.{refused, stageOutcome, writerOutcome, readerOutcome};
 ghost use Rattle.refusals.specs.Refusals.{refusalOf};
@@ -7,6 +7,7 @@ use rules::StageAnswer;
 use rules::WriteAnswer;
 
 pub mod header;
+pub mod wav;
 
 // A number of 0 stands for no refusal.
 pub struct Refusal {

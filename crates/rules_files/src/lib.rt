@@ -1,2 +1,3 @@
-// What stands around the frames in files, as types and definitions: the file header.
+// What stands around the frames in files, as types and definitions: the file header, WAV.
 pub mod header;
+pub mod wav;

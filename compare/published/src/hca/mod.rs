@@ -1,4 +1,5 @@
 //! bitreader, decoder, encoder, tables: the published files (see import.sh).
+//! wav_samples: the lines of encoder.rs that read a WAV file, by themselves (see import.sh).
 //! ath, cipher, imdct: stand-ins for what the published set leaves out.
 #![allow(dead_code, unused_imports)]
 pub mod ath;
@@ -8,3 +9,4 @@ pub mod decoder;
 pub mod encoder;
 pub mod imdct;
 pub mod tables;
+pub mod wav_samples;

@@ -1,0 +1,104 @@
+-- Files worked out by the definition: the request's examples and corners, floats by their patterns. Assumes nothing.
+use mathlib.Core.Path.{_≡_, refl}
+use mathlib.Core.List.{List, [], _∷_, _++_, map}
+use Prim.Native.Nat.{ℕ, _+_, _/_, _%_}
+use lib.Ieee.{binary32, lt, add, div, ofInt, ofBits, toBits}
+use lib.ListN.{length, replicate}
+use Rattle.buffers.specs.Walk.{build, every}
+use Rattle.floats.specs.Single.{zeroF, absF, maxF, meanF, mean, noAverage, withOne}
+use Rattle.numbers.specs.Numbers.{ofLow}
+use Rattle.rules.specs.Refusals.{Outcome, delivered, refused}
+use Rattle.rules_files.specs.Wav.{isWave, defaultFormat, tellsFormat, formatIn, formatAfter, walkChunks, isDepth, wholeSamples, overPower, signedSample, sampleOf, sampleAt, allFinite, noteOf, wavTaken, dataRead, walkRead, wavRead}
+
+-- ---- files from their chunks
+
+abbrev four : ℕ → List ℕ
+four n = n % 256 ∷ n / 256 % 256 ∷ n / 65536 % 256 ∷ n / 16777216 % 256 ∷ []
+
+abbrev file : List ℕ → List ℕ
+file chunks = (82 ∷ 73 ∷ 70 ∷ 70 ∷ four (4 + length chunks)) ++ (87 ∷ 65 ∷ 86 ∷ 69 ∷ chunks)
+
+abbrev fmt : (channels rate depth : ℕ) → List ℕ
+fmt channels rate depth = (102 ∷ 109 ∷ 116 ∷ 32 ∷ four 16) ++ ((1 ∷ 0 ∷ channels ∷ 0 ∷ four rate) ++ (four 0 ++ (0 ∷ 0 ∷ depth ∷ 0 ∷ [])))
+
+abbrev samples : (size : ℕ) → List ℕ → List ℕ
+samples size body = (100 ∷ 97 ∷ 116 ∷ 97 ∷ four size) ++ body
+
+-- a call on a file with a buffer of so many places, and what it answers and leaves there
+pub record Call : Type 0 where
+  pub wav : List ℕ
+  pub places : ℕ
+
+pub record Seen : Type 0 where
+  pub outcome : Outcome
+  pub note : List ℕ
+  pub left : List ℕ
+
+abbrev call : (wav : List ℕ) (places : ℕ) → Call
+call wav places = record { wav = wav; places = places }
+
+abbrev saw : (outcome : Outcome) (note left : List ℕ) → Seen
+saw outcome note left = record { outcome = outcome; note = note; left = left }
+
+abbrev seen : Call → Seen
+seen c =
+    let x = wavRead (c .wav) (replicate (c .places) zeroF) in
+    saw (x .outcome) (map (toBits binary32) (x .note)) (map (toBits binary32) (x .samples))
+
+-- ---- the files
+
+abbrev firstFile : List ℕ
+firstFile =
+    82 ∷ 73 ∷ 70 ∷ 70 ∷ 40 ∷ 0 ∷ 0 ∷ 0 ∷ 87 ∷ 65 ∷ 86 ∷ 69 ∷
+    102 ∷ 109 ∷ 116 ∷ 32 ∷ 16 ∷ 0 ∷ 0 ∷ 0 ∷ 1 ∷ 0 ∷ 1 ∷ 0 ∷ 64 ∷ 31 ∷ 0 ∷ 0 ∷ 128 ∷ 62 ∷ 0 ∷ 0 ∷ 2 ∷ 0 ∷ 16 ∷ 0 ∷
+    100 ∷ 97 ∷ 116 ∷ 97 ∷ 4 ∷ 0 ∷ 0 ∷ 0 ∷ 0 ∷ 128 ∷ 255 ∷ 127 ∷ []
+
+abbrev pub calls : List Call
+calls =
+    -- two 16-bit samples
+    call firstFile 2 ∷
+    -- a chunk of 3 bytes with its odd byte; 24 bits; the last byte is dropped; a longer buffer's rest stays
+    call (file ((76 ∷ 73 ∷ 83 ∷ 84 ∷ four 3) ++ (1 ∷ 2 ∷ 3 ∷ 0 ∷ fmt 1 48000 24) ++ samples 10 (0 ∷ 0 ∷ 128 ∷ 255 ∷ 255 ∷ 127 ∷ 1 ∷ 0 ∷ 0 ∷ 255 ∷ []))) 4 ∷
+    -- floats: a sum of doubles, or from the back, would give 4AAAAAAC
+    call (file (fmt 1 44 32 ++ samples 12 (0 ∷ 0 ∷ 128 ∷ 75 ∷ 0 ∷ 0 ∷ 128 ∷ 63 ∷ 0 ∷ 0 ∷ 128 ∷ 63 ∷ []))) 3 ∷
+    -- a sum may pass to infinity
+    call (file (fmt 2 44 32 ++ samples 8 (255 ∷ 255 ∷ 127 ∷ 127 ∷ 255 ∷ 255 ∷ 127 ∷ 255 ∷ []))) 2 ∷
+    -- no fmt: 44 bytes with data of 24
+    call (file (samples 24 (replicate 24 0))) 12 ∷
+    -- 43 bytes
+    call (file (samples 23 (replicate 23 0))) 12 ∷
+    -- data of size 0, with a second data chunk behind it
+    call (file (samples 0 [] ++ samples 16 (replicate 16 0))) 1 ∷
+    -- one byte at 16 bits
+    call (file (fmt 1 44 16 ++ samples 1 (9 ∷ []))) 1 ∷
+    -- size 4 with no byte left
+    call (file (fmt 1 44 16 ++ samples 4 [])) 1 ∷
+    -- size FFFFFFFF: samples to the file's end
+    call (file (fmt 1 44 16 ++ samples 0xFFFFFFFF (0 ∷ 64 ∷ 0 ∷ 128 ∷ 7 ∷ []))) 2 ∷
+    -- depth 0 with an empty buffer
+    call (file (fmt 1 44 0 ++ samples 4 (0 ∷ 0 ∷ 0 ∷ 0 ∷ []))) 0 ∷
+    -- an infinity with a short buffer, and with room
+    call (file (fmt 1 44 32 ++ samples 4 (0 ∷ 0 ∷ 128 ∷ 127 ∷ []))) 0 ∷
+    call (file (fmt 1 44 32 ++ samples 4 (0 ∷ 0 ∷ 128 ∷ 127 ∷ []))) 1 ∷
+    []
+
+pub worked : map seen calls
+    ≡
+    saw (delivered (1 ∷ 8000 ∷ 16 ∷ 2 ∷ [])) (0x3F800000 ∷ 0x3F7FFF00 ∷ []) (0xBF800000 ∷ 0x3F7FFE00 ∷ []) ∷
+    saw (delivered (1 ∷ 48000 ∷ 24 ∷ 3 ∷ [])) (0x3F800000 ∷ 0x3F2AAAAB ∷ []) (0xBF800000 ∷ 0x3F7FFFFE ∷ 0x34000000 ∷ 0 ∷ []) ∷
+    saw (delivered (1 ∷ 44 ∷ 32 ∷ 3 ∷ [])) (0x4B800000 ∷ 0x4AAAAAAB ∷ []) (0x4B800000 ∷ 0x3F800000 ∷ 0x3F800000 ∷ []) ∷
+    saw (delivered (2 ∷ 44 ∷ 32 ∷ 2 ∷ [])) (0x7F7FFFFF ∷ 0x7F800000 ∷ []) (0x7F7FFFFF ∷ 0xFF7FFFFF ∷ []) ∷
+    saw (delivered (2 ∷ 44100 ∷ 16 ∷ 12 ∷ [])) (0 ∷ 0 ∷ []) (replicate 12 0) ∷
+    saw (refused 22 0) [] (replicate 12 0) ∷
+    saw (refused 23 0) [] (0 ∷ []) ∷
+    saw (delivered (1 ∷ 44 ∷ 16 ∷ 0 ∷ [])) (0 ∷ 0 ∷ []) (0 ∷ []) ∷
+    saw (delivered (1 ∷ 44 ∷ 16 ∷ 0 ∷ [])) (0 ∷ 0 ∷ []) (0 ∷ []) ∷
+    saw (delivered (1 ∷ 44 ∷ 16 ∷ 2 ∷ [])) (0x3F800000 ∷ 0x3F400000 ∷ []) (0x3F000000 ∷ 0xBF800000 ∷ []) ∷
+    saw (refused 24 0) [] [] ∷
+    saw (refused 2 0) [] [] ∷
+    saw (refused 25 0) [] (0 ∷ []) ∷
+    []
+unfolding ofLow build every absF maxF meanF mean noAverage withOne ofBits toBits lt add div ofInt
+    isWave defaultFormat tellsFormat formatIn formatAfter walkChunks isDepth wholeSamples overPower signedSample sampleOf sampleAt allFinite
+    noteOf wavTaken dataRead walkRead wavRead
+worked = refl
