@@ -9,8 +9,10 @@ cargo test --quiet --release --offline -p compare --lib
 target/release/vectors --check vec
 target/release/replay-vectors vec/stage.vec vec/records.vec
 target/release/replay-vectors vec/header.vec
+target/release/replay-vectors vec/list.vec
 target/release/replay-vectors vec/wav.vec
 target/release/compare-stage --small
 target/release/compare-records --small
 target/release/compare-header --small
+target/release/compare-list --small
 target/release/compare-wav --small

@@ -253,6 +253,10 @@ void one_call(struct source *s)
         return;
     }
     if (one_in(s, 8)) {
+        hostile_list(s);
+        return;
+    }
+    if (one_in(s, 8)) {
         hostile_wav(s);
         return;
     }

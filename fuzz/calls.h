@@ -10,6 +10,10 @@ enum function {
     READ,
     CHECKSUM,
     HEADER,
+    LIST_WRITE,
+    LIST_READ,
+    LIST_LOOKUP,
+    LIST_SUMMARY,
     WAV,
     FUNCTIONS
 };

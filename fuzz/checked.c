@@ -26,6 +26,10 @@ const uint32_t can_give[FUNCTIONS] = {
     [READ] = 0x7B07,
     [CHECKSUM] = 1,
     [HEADER] = 0x10007,
+    [LIST_WRITE] = 0x200005,
+    [LIST_READ] = 0x380005,
+    [LIST_LOOKUP] = 0x80380005,
+    [LIST_SUMMARY] = 0x380005,
     [WAV] = 0x43C00005,
 };
 static const size_t delivered_places[3] = {4, 3, 3};

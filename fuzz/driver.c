@@ -79,6 +79,10 @@ static int report(void)
         [READ] = "read_frame",
         [CHECKSUM] = "checksum",
         [HEADER] = "write_header",
+        [LIST_WRITE] = "list_write",
+        [LIST_READ] = "list_read",
+        [LIST_LOOKUP] = "list_lookup",
+        [LIST_SUMMARY] = "list_summary",
         [WAV] = "read_wav",
     };
     int missing = 0;

@@ -144,6 +144,62 @@ uint32_t __wrap_hca_write_header(const uint32_t *layout, size_t layout_len, cons
     return number;
 }
 
+/* ---- the list */
+
+extern __typeof__(hca_list_write) __real_hca_list_write;
+extern __typeof__(hca_list_read) __real_hca_list_read;
+extern __typeof__(hca_list_lookup) __real_hca_list_lookup;
+extern __typeof__(hca_list_summary) __real_hca_list_summary;
+
+uint32_t __wrap_hca_list_write(uint32_t frames, const uint32_t *entries, size_t entries_len, uint8_t *list, size_t list_len)
+{
+    uint32_t number = __real_hca_list_write(frames, entries, entries_len, list, list_len);
+    if (is_fault("list-level-low-byte-first") && number == 0 && frames > 0) {
+        uint8_t high = list[9];
+        list[9] = list[10];
+        list[10] = high;
+    }
+    if (is_fault("refusal-21-writes-the-mark") && number == 21)
+        list[0] = 'V';
+    return number;
+}
+
+uint32_t __wrap_hca_list_read(const uint8_t *list, size_t list_len, uint32_t *entries, size_t entries_len, uint32_t *answer,
+                              size_t answer_len)
+{
+    uint32_t number = __real_hca_list_read(list, list_len, entries, entries_len, answer, answer_len);
+    if (is_fault("list-reads-past-the-list") && number == 20)
+        sink = list[list_len];
+    if (is_fault("list-takes-a-longer-one") && number == 20 && list_len > 9)
+        number = 0;
+    if (is_fault("list-pairs-and-boundary") && number == 0 && answer[0] > 0) {
+        uint32_t boundary = entries[1];
+        entries[1] = entries[2];
+        entries[2] = boundary;
+    }
+    return number;
+}
+
+uint32_t __wrap_hca_list_lookup(const uint8_t *list, size_t list_len, uint32_t frame, uint32_t *answer, size_t answer_len)
+{
+    uint32_t number = __real_hca_list_lookup(list, list_len, frame, answer, answer_len);
+    if (is_fault("lookup-before-the-entries") && number == 21)
+        number = 31;
+    if (is_fault("refusal-31-leaves-the-answer") && number == 31)
+        answer[0] = 7;
+    return number;
+}
+
+uint32_t __wrap_hca_list_summary(const uint8_t *list, size_t list_len, uint64_t *answer, size_t answer_len)
+{
+    uint32_t number = __real_hca_list_summary(list, list_len, answer, answer_len);
+    if (is_fault("summary-in-32-bits") && number == 0)
+        answer[2] &= 0xFFFFFFFF;
+    if (is_fault("summary-moves-the-rest") && number == 0 && answer_len > 3)
+        answer[3] = 0;
+    return number;
+}
+
 /* ---- the WAV reader */
 
 extern __typeof__(hca_read_wav) __real_hca_read_wav;

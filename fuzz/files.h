@@ -9,6 +9,10 @@
 enum {
     SHORT_SLICE = 2,
     BAD_FILE_HEADER = 16,
+    BAD_MARK = 19,
+    BAD_LENGTH = 20,
+    BAD_ENTRY = 21,
+    NO_FRAME = 31,
     NOT_WAVE = 22,
     NO_DATA = 23,
     BAD_DEPTH = 24,
@@ -36,6 +40,7 @@ void put_number(uint8_t *to, uint64_t value, unsigned width);
 uint64_t number_near(struct source *s, uint64_t limit, uint32_t past);
 
 void hostile_header(struct source *s);
+void hostile_list(struct source *s);
 void hostile_wav(struct source *s);
 
 #endif

@@ -11,6 +11,7 @@ lib=${HCA_LIB_DIR:-../target/staticlib}/libhca.a
 out=../target/fuzz
 shared="calls.c checked.c choices.c lend.c rules.c"
 shared="$shared files.c header.c"
+shared="$shared list.c"
 shared="$shared wav.c"
 if [ ! -f "$lib" ]; then
     echo "$lib is not there: run rt staticlib hca first" >&2
@@ -20,6 +21,7 @@ mkdir -p "$out"
 flags="-std=c99 -O2 -g -Wall -Wextra -Werror"
 wrap=-Wl,--wrap=hca_encode_frame,--wrap=hca_write_record,--wrap=hca_read_frame,--wrap=hca_checksum
 wrap=$wrap,--wrap=hca_write_header
+wrap=$wrap,--wrap=hca_list_write,--wrap=hca_list_read,--wrap=hca_list_lookup,--wrap=hca_list_summary
 wrap=$wrap,--wrap=hca_read_wav
 sanitizers="-fsanitize=address,undefined -fno-sanitize-recover=undefined"
 

@@ -21,6 +21,8 @@ static void say(void)
     printf("bytes of stack: hca_encode_frame %zu, hca_write_record %zu, hca_read_frame %zu, hca_checksum %zu%s", most[ENCODE],
            most[WRITE], most[READ], most[CHECKSUM], most[ENCODE] >= PAINTED ? " or more" : "");
     printf(", hca_write_header %zu", most[HEADER]);
+    printf(", hca_list_write %zu, hca_list_read %zu, hca_list_lookup %zu, hca_list_summary %zu", most[LIST_WRITE], most[LIST_READ],
+           most[LIST_LOOKUP], most[LIST_SUMMARY]);
     printf(", hca_read_wav %zu", most[WAV]);
     printf("\n");
 }
@@ -117,6 +119,52 @@ uint32_t __wrap_hca_write_header(const uint32_t *layout, size_t layout_len, cons
     uint32_t number = __real_hca_write_header(layout, layout_len, kinds, kinds_len, stream, stream_len, points, points_len, header,
                                               header_len);
     look(here, HEADER);
+    return number;
+}
+
+extern __typeof__(hca_list_write) __real_hca_list_write;
+extern __typeof__(hca_list_read) __real_hca_list_read;
+extern __typeof__(hca_list_lookup) __real_hca_list_lookup;
+extern __typeof__(hca_list_summary) __real_hca_list_summary;
+
+uint32_t __wrap_hca_list_write(uint32_t frames, const uint32_t *entries, size_t entries_len, uint8_t *list, size_t list_len)
+{
+    uint8_t *here;
+    STACK_POINTER(here);
+    paint(here);
+    uint32_t number = __real_hca_list_write(frames, entries, entries_len, list, list_len);
+    look(here, LIST_WRITE);
+    return number;
+}
+
+uint32_t __wrap_hca_list_read(const uint8_t *list, size_t list_len, uint32_t *entries, size_t entries_len, uint32_t *answer,
+                              size_t answer_len)
+{
+    uint8_t *here;
+    STACK_POINTER(here);
+    paint(here);
+    uint32_t number = __real_hca_list_read(list, list_len, entries, entries_len, answer, answer_len);
+    look(here, LIST_READ);
+    return number;
+}
+
+uint32_t __wrap_hca_list_lookup(const uint8_t *list, size_t list_len, uint32_t frame, uint32_t *answer, size_t answer_len)
+{
+    uint8_t *here;
+    STACK_POINTER(here);
+    paint(here);
+    uint32_t number = __real_hca_list_lookup(list, list_len, frame, answer, answer_len);
+    look(here, LIST_LOOKUP);
+    return number;
+}
+
+uint32_t __wrap_hca_list_summary(const uint8_t *list, size_t list_len, uint64_t *answer, size_t answer_len)
+{
+    uint8_t *here;
+    STACK_POINTER(here);
+    paint(here);
+    uint32_t number = __real_hca_list_summary(list, list_len, answer, answer_len);
+    look(here, LIST_SUMMARY);
     return number;
 }
 

@@ -6,6 +6,8 @@
    hca_checksum       bytes                               -> their check
    hca_write_header   layout, rate, count, padding, loop  -> the 96 bytes in front of a file's frames
    hca_read_wav       a WAV file                          -> its samples, exact, and their level note
+   hca_list_write     the stage's answers of a line       -> the list beside its frames
+   hca_list_read      a list                              -> its entries; hca_list_lookup: one; hca_list_summary: the worst
 
    Arguments. Every buffer is a pointer and a number of ELEMENTS (not bytes). What is const is only read. No call has
    a precondition on numbers: any layout, kinds, lengths and contents may be passed, and what cannot be used is refused.
@@ -75,10 +77,10 @@ enum hca_stream {
 };
 enum { HCA_HEADER_SIZE = 96 };
 
-/* answer: at least HCA_ANSWER_COUNT places, for each of the three calls.
+/* answer: at least HCA_ANSWER_COUNT places, for each call that has one (hca_list_summary: HCA_SUMMARY_COUNT).
    Where a call delivered, the first places hold the numbers of its enum below, and the places after them stay as they were.
    Where it refused, answer[0] holds the number beside the refusal, and the other places stay as they were.
-   An answer of fewer places is refusal 2 (after 1) and stays as it was. */
+   An answer of fewer places is refusal 2 (after 1; before all others where there is no layout) and stays as it was. */
 enum { HCA_ANSWER_COUNT = 4 };
 
 /* What hca_encode_frame delivers. */
@@ -112,13 +114,28 @@ enum hca_note {
     HCA_NOTE_COUNT = 2          /* places that a note needs */
 };
 
+/* The list beside the bank: "VFI", version 1 in 2 bytes, the frame count n in 4; then for each frame its level in 2 bytes,
+   boundary in 1, pairs in 1, bits in 4; high byte first. In memory its entries are 4n numbers, frame after frame, in the order
+   of enum hca_encoded: those that hca_encode_frame answers. */
+#define HCA_LIST_SIZE(frames) ((size_t)9 + (size_t)8 * (frames))                    /* bytes of a list */
+#define HCA_LIST_ENTRIES_LENGTH(frames) ((size_t)HCA_ENCODED_COUNT * (frames))      /* numbers of its entries */
+
+/* What hca_list_summary delivers; each 0 for no frames. */
+enum hca_summary {
+    HCA_SUMMARY_LEVEL = 0,      /* the highest level, 0 to 511 */
+    HCA_SUMMARY_PAIRS = 1,      /* the most pairs removed in a frame, 0 to 63 */
+    HCA_SUMMARY_BITS = 2,       /* the total of bits */
+    HCA_SUMMARY_COUNT = 3       /* how many numbers it delivers */
+};
+
 /* Refusals. "Beside" is what answer[0] then holds. Bits are counted from the frame's first bit, which is 0.
-   After 1 to 4, 15 and 16 every buffer but answer is as it was. After 5 to 14 the written buffers are zero over the
+   After 1 to 4 and from 15 on every buffer but answer is as it was. After 5 to 14 the written buffers are zero over the
    elements that the layout asks for (the stage's five, the reader's factors, side and codes, the writer's frame),
    so no half of a frame can be taken for a whole one.
    The stage refuses in the order 1, 2, 3, 4, 5, 7, the writer 1, 2, 15, 7, the reader 1, 2, 8, 9, then the first fault in bit
-   order, 14 last, the file header's writer 1, 2, 16. 6 and 10 are withdrawn and come from no call. A later version may add
-   further numbers. */
+   order, 14 last, the file header's writer 1, 2, 16. The list's writer refuses in the order 2, 21, its reader 19, 20, 2, 21, the
+   lookup 19, 20, 21, 31, the summary 19, 20, 21. 6 and 10 are withdrawn and come from no call. A later version may add further
+   numbers. */
 enum hca_refusal {
     HCA_OK = 0,             /* delivered */
     HCA_BAD_LAYOUT = 1,     /* layout outside its limits, under five numbers, or a kind missing or above 2; beside: 0 */
@@ -138,11 +155,15 @@ enum hca_refusal {
     HCA_NOT_LEGAL = 15,     /* the record has a value out of range, or not 0 where nothing is written; beside: 0 */
     HCA_BAD_HEADER = 16,    /* more than eight channels, or a rate, count, padding or loop point that the file header has no
                                room for */
+    HCA_BAD_LIST_MARK = 19, /* a list under 9 bytes, or with another mark or version; beside: 0 */
+    HCA_BAD_LIST_LENGTH = 20, /* a list's length is not 9 + 8 x its count, in 64 bits; a longer slice too; beside: 0 */
+    HCA_BAD_ENTRY = 21,     /* in any entry a level above 511, a boundary above 127 or more than 63 pairs; beside: 0 */
     HCA_NOT_WAVE = 22,      /* under 44 bytes, or no RIFF at 0 or no WAVE at 8; beside: 0 */
     HCA_NO_DATA = 23,       /* no data chunk found, or one whose size is 0; beside: 0 */
     HCA_BAD_DEPTH = 24,     /* samples of other than 16, 24 or 32 bits; beside: 0 */
     HCA_NOT_FINITE = 25,    /* a 32-bit float sample is NaN or infinite; beside: 0 */
-    HCA_TOO_MANY = 30       /* more than 16,777,216 whole samples; beside: 0 */
+    HCA_TOO_MANY = 30,      /* more than 16,777,216 whole samples; beside: 0 */
+    HCA_NO_FRAME = 31       /* a lookup not below the count, of a good list; beside: 0 */
 };
 
 /* A short English text for a call's result, never null: of a number that this header does not know, that. */
@@ -169,6 +190,10 @@ static inline const char *hca_refusal_text(uint32_t refusal)
     case HCA_BAD_DEPTH: return "samples have neither 16, 24 nor 32 bits";
     case HCA_NOT_FINITE: return "a float sample is NaN or infinite";
     case HCA_TOO_MANY: return "the file has more than 16,777,216 samples";
+    case HCA_BAD_LIST_MARK: return "no list: under 9 bytes, or another mark or version";
+    case HCA_BAD_LIST_LENGTH: return "the list's length does not match its frame count";
+    case HCA_BAD_ENTRY: return "an entry of the list has a level above 511, a boundary above 127 or more than 63 pairs";
+    case HCA_NO_FRAME: return "the list has no frame of this number";
     default: return "a refusal that this header does not know";
     }
 }
@@ -243,6 +268,32 @@ uint32_t hca_read_wav(
     float *samples, size_t samples_len,                 /* written: the count's samples, channels interleaved as in the file */
     float *note, size_t note_len,                       /* written: 2 places, see enum hca_note */
     uint32_t *answer, size_t answer_len);               /* written: 4 places or more, see enum hca_take */
+
+/* The list's writer. Refuses with 2 or 21; there is no answer, since nothing is delivered beside the bytes and 0 stands beside
+   each refusal. What hca_encode_frame answers is never refused with 21. */
+uint32_t hca_list_write(
+    uint32_t frames,                                    /* n, any; 0 is a list of nine bytes */
+    const uint32_t *entries, size_t entries_len,        /* read: 4n numbers, see enum hca_encoded; those behind them are not
+                                                           looked at. Levels up to 511, boundaries to 127, pairs to 63 */
+    uint8_t *list, size_t list_len);                    /* written: 9 + 8n bytes, HCA_LIST_SIZE(n) */
+
+/* The list's reader: accepts exactly the lists that hca_list_write writes. Refuses with 2 (a short answer), 19, 20, 2 or 21. */
+uint32_t hca_list_read(
+    const uint8_t *list, size_t list_len,               /* read: the whole list, and no byte more */
+    uint32_t *entries, size_t entries_len,              /* written: 4n numbers; n is at most (list_len - 9) / 8 */
+    uint32_t *answer, size_t answer_len);               /* written: 4 places or more; answer[0] is n */
+
+/* One entry of a list, by the frame's number; the first is 0. The whole list is judged first: an entry past a limit, wherever it
+   stands, is 21. Refuses with 2, 19, 20, 21 or 31. */
+uint32_t hca_list_lookup(
+    const uint8_t *list, size_t list_len,               /* read: the whole list, and no byte more */
+    uint32_t frame,                                     /* below the list's count */
+    uint32_t *answer, size_t answer_len);               /* written: 4 places or more, see enum hca_encoded */
+
+/* A list's summary. Refuses with 2, 19, 20 or 21. */
+uint32_t hca_list_summary(
+    const uint8_t *list, size_t list_len,               /* read: the whole list, and no byte more */
+    uint64_t *answer, size_t answer_len);               /* written: 3 places or more, of 64 bits, see enum hca_summary */
 
 /* The check of any run of bytes: CRC16, polynomial 8005, start 0, high bit first. Over a frame's first F - 2 bytes it
    is what stands in the last two, high byte first; over a whole good frame it is 0. Never refuses; of no bytes it is 0. */

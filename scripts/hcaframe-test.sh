@@ -65,13 +65,13 @@ absent() {
 # -- help
 for word in --help -h help; do
     status 0 "help by $word" $word
-    for command in encode read write check header wav; do says out "usage: hcaframe $command"; done
+    for command in encode read write check header wav list; do says out "usage: hcaframe $command"; done
     says out 'Status: 0 all is well'
     says out 'FILE.tmp-NUMBER'
     [ $form = status ] || says out 'The exit status of this form is always 0'
     good
 done
-for command in encode read write check header wav; do
+for command in encode read write check header wav list; do
     status 0 "help of $command" "$command" --help
     says out "usage: hcaframe $command"
     good
@@ -658,6 +658,178 @@ good
 status 2 'a layout for a WAV file' wav --in take.wav --layout layout.txt
 says err '--layout is not for this command'
 absent x.f32
+good
+
+# -- the list beside the frames
+status 0 'encode with a list' encode $layout --spectra spectra.f32 --out x.hca --list frames.list
+says out '3 frames, 600 bytes'
+same frames.hca x.hca
+sed -n '2,4p' out | while read -r frame level boundary pairs bits; do
+    printf '%04x%02x%02x%08x' "$level" "$boundary" "$pairs" "$bits"
+done >entries
+holds frames.list 564649000100000003 "$(cat entries)"
+rm x.hca
+good
+status 0 'a list of no frames' encode $layout --spectra empty --out x.hca --list empty.list
+holds empty.list 564649000100000000
+rm x.hca
+good
+want=0 name='a list on standard output'
+"$program" encode $layout --spectra - --out x.hca --list - <spectra.f32 >piped.list 2>err
+ended $?
+says err '3 frames, 600 bytes'
+same frames.list piped.list
+same frames.hca x.hca
+rm x.hca
+good
+name='frames on standard output, and a list'
+"$program" encode $layout --spectra spectra.f32 --out - --list y.list >x.hca 2>err </dev/null
+ended $?
+same frames.hca x.hca
+same frames.list y.list
+rm x.hca y.list
+good
+echo kept >kept.list
+cp kept.list kept.copy
+status 1 'a refused frame leaves no list' encode $layout --spectra nan.f32 --out x.hca --list kept.list
+says err 'frame 1: refusal 4 '
+same kept.list kept.copy
+absent x.hca
+status 1 'a refused frame leaves no new list' encode $layout --spectra nan.f32 --out x.hca --list y.list
+absent x.hca
+absent y.list
+good
+# a list that is another file of the call is refused as any such two, and leaves no frames
+two() {
+    twin "$@"
+    absent x.hca
+}
+two 'the frames as the list' encode $layout --spectra spectra.f32 --out x.hca --list x.hca
+two 'the frames as the list, by another name' encode $layout --spectra spectra.f32 --out x.hca --list ./x.hca
+two 'the frames as the list, through a link' encode $layout --spectra spectra.f32 --out here/x.hca --list inner/there/x.hca
+two 'the frames as the list, both there' encode $layout --spectra spectra.f32 --out here/frames.hca --list inner/there/frames.hca
+two 'the spectra as the list' encode $layout --spectra here/spectra.f32 --out x.hca --list ./here/spectra.f32
+two 'the layout as the list' encode --layout here/layout.txt --spectra spectra.f32 --out x.hca --list inner/there/layout.txt
+two 'standard output twice' encode $layout --spectra spectra.f32 --out - --list -
+want=2 name='frames on standard output, which is the list'
+"$program" encode $layout --quiet --spectra spectra.f32 --out - --list y.list >>y.list 2>err </dev/null
+ended $?
+says err '--out and --list are the same file'
+[ ! -s y.list ] || fail "$name: something was encoded"
+name='a list on standard output, which is the frames'
+"$program" encode $layout --quiet --spectra spectra.f32 --out y.list --list - >>y.list 2>err </dev/null
+ended $?
+says err '--out and --list are the same file'
+[ ! -s y.list ] || fail "$name: something was encoded"
+rm y.list
+good
+status 2 'a list that is a link' encode $layout --spectra spectra.f32 --out x.hca --list link.hca
+says err 'hcaframe: --list: link.hca is a symbolic link'
+absent x.hca
+good
+status 2 'a list in a folder that is missing' encode $layout --spectra spectra.f32 --out x.hca --list none/y.list
+says err 'No such file or directory'
+absent x.hca
+good
+one='--kinds D --base 1 --stereo 0 --total 1 --frame-size 8'
+# a silent channel of 65,536 frames; the file takes no room on the disk
+dd if=/dev/zero of=silent.f32 bs=4096 count=0 seek=65536 2>/dev/null
+status 2 'a list of too many frames' encode $one --spectra silent.f32 --out x.hca --list y.list
+says err 'hcaframe: a list has at most 65535 frames, and the spectra have 65536'
+absent x.hca
+absent y.list
+good
+if [ $form = status ]; then
+    want=2 name='a list of too many frames, by a stream'
+    "$program" encode $one --quiet --spectra - --out x.hca --list y.list <silent.f32 >out 2>err
+    ended $?
+    says err 'hcaframe: a list has at most 65535 frames, and the spectra have more'
+    absent x.hca
+    absent y.list
+    want=0 name='a list of 65,535 frames'
+    head -c 268431360 silent.f32 | "$program" encode $one --quiet --spectra - --out x.hca --list y.list >out 2>err
+    ended $?
+    [ "$(wc -c <y.list)" -eq 524289 ] || fail "$name: length"
+    rm x.hca y.list
+    good
+fi
+rm silent.f32
+status 2 'a list for another command' check $layout --frames frames.hca --list y.list
+says err '--list is not for this command'
+good
+
+# -- what a list holds
+unhex 564649000100000003 000c280000000522 00fe7f3fffffffff 01ff000700000000 >three.list
+status 0 'list' list --list three.list
+says out '       1    254       127     63 4294967295'
+says out '3 frames: highest level 511, most pairs removed 63, bits 4294968609'
+good
+want=0 name='list from standard input'
+"$program" list --list - <three.list >piped 2>err
+ended $?
+same out piped
+good
+status 0 'list, quiet' list --list three.list --quiet
+[ ! -s out ] || fail "$name: something is said"
+good
+status 0 'a frame of a list' list --list three.list --frame 2
+says out '       2    511         0      7          0'
+[ "$(wc -l <out)" -eq 2 ] || fail "$name: more than a frame"
+good
+for frame in 3 4294967296 999999999999999999; do
+    status 1 "a frame that a list does not have: $frame" list --list three.list --frame $frame --svg x.svg
+    says err 'hcaframe: refusal 31: it has no such frame'
+    absent x.svg
+    good
+done
+status 0 'a list of no frames, told' list --list empty.list
+says out '0 frames: highest level 0, most pairs removed 0, bits 0'
+good
+status 0 'the list of the frames' list --list frames.list --svg frames.svg --frame-size 200
+says out '3 frames: '
+says frames.svg '<svg '
+[ "$(tail -n 1 frames.svg)" = '</svg>' ] || fail "$name: the picture does not end"
+if command -v python3 >/dev/null; then
+    python3 -c 'import sys, xml.dom.minidom; xml.dom.minidom.parse(sys.argv[1])' frames.svg >out 2>err || fail "$name: the picture is not well-formed"
+fi
+good
+name='a picture on standard output'
+"$program" list --list frames.list --svg - --frame-size=200 >piped.svg 2>err </dev/null
+ended $?
+says err '3 frames: '
+same frames.svg piped.svg
+good
+# no_list NUMBER TEXT HEX..: the list is refused
+no_list() {
+    number=$1 text=$2
+    shift 2
+    unhex "$@" >bad.list
+    status 1 "list refused: $text" list --list bad.list --svg x.svg
+    says err "hcaframe: refusal $number: $text"
+    absent x.svg
+    good
+}
+no_list 19 'it is no list' 5646490002000000
+no_list 19 'it is no list' 564649000200000001
+no_list 20 'its length is not 9 bytes and 8 for each of its frames' 564649000100000001
+no_list 20 'its length is not 9 bytes and 8 for each of its frames' 564649000120000001 000c280000000522
+no_list 21 "a frame's level is above 511" 564649000100000002 000c280000000522 0200000000000000
+{ unhex 564649000100010000; head -c 524288 /dev/zero; } >long.list
+status 2 'a list that is too long' list --list long.list
+says err 'hcaframe: the list has more than 65535 frames, the most that hcaframe takes'
+good
+status 2 'the picture in the place of its list' list --list three.list --svg ./three.list
+says err '--list and --svg are the same file'
+good
+status 2 'a frame size without a picture' list --list three.list --frame-size 200
+says err 'hcaframe: --frame-size is given without --svg'
+good
+status 2 'a frame size that no frame has' list --list three.list --svg x.svg --frame-size 7
+says err 'hcaframe: --frame-size is 7; it is 8 to 65535'
+absent x.svg
+good
+status 2 'a layout for a list' list --list three.list --total 60
+says err '--total is not for this command'
 good
 
 # -- words

@@ -6,6 +6,7 @@ use std::process::Command;
 const SOURCES: &[&str] = &[
     "model.cpp",
     "header.cpp",
+    "list.cpp",
     "wav.cpp",
 ];
 

@@ -4,6 +4,7 @@
 //! [`read_frame`] and [`write_record`] go from a frame to its record and back.
 //! [`write_header`] makes the 96 bytes in front of a file's frames.
 //! [`read_wav`] takes a WAV file's samples with their level note.
+//! [`write_list`] makes the list beside a line's frames, which says where it was starved.
 //! The library refuses what it cannot do by number; see [`Refusal`].
 //!
 //! ```
@@ -60,6 +61,7 @@
 
 mod file_header;
 mod layout;
+mod list;
 #[allow(unsafe_code)]
 pub mod raw;
 mod refusal;
@@ -67,6 +69,7 @@ mod wav;
 
 pub use file_header::{write_header, Stream, HEADER_SIZE};
 pub use layout::{Kind, Layout, LayoutBuilder, LayoutError};
+pub use list::{list_entry, list_summary, read_list, write_list, Summary};
 pub use refusal::{Refusal, RefusalKind};
 pub use wav::{read_wav, LevelNote, Take};
 

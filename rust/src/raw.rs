@@ -16,3 +16,6 @@ pub use file_header::write_header;
 
 mod wav;
 pub use wav::read_wav;
+
+mod list;
+pub use list::{list_lookup, list_read, list_summary, list_write};

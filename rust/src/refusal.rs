@@ -51,6 +51,14 @@ impl Refusal {
     pub const NOT_FINITE: u32 = 25;
     /// The file has more than 16,777,216 whole samples.
     pub const TOO_MANY: u32 = 30;
+    /// Under 9 bytes, or no list's mark and version; `place` is 0, as in all of a list's.
+    pub const BAD_LIST_MARK: u32 = 19;
+    /// A list's length does not match its count.
+    pub const BAD_LIST_LENGTH: u32 = 20;
+    /// An entry of a list has a level above 511, a boundary above 127 or more than 63 pairs.
+    pub const BAD_ENTRY: u32 = 21;
+    /// A lookup of a frame that the list does not have.
+    pub const NO_FRAME: u32 = 31;
 }
 
 /// What a refusal is about: its number by a name that a `match` can use.
@@ -107,6 +115,14 @@ pub enum RefusalKind {
     NotFinite,
     /// [`Refusal::TOO_MANY`].
     TooMany,
+    /// [`Refusal::BAD_LIST_MARK`].
+    BadListMark,
+    /// [`Refusal::BAD_LIST_LENGTH`].
+    BadListLength,
+    /// [`Refusal::BAD_ENTRY`].
+    BadEntry,
+    /// [`Refusal::NO_FRAME`].
+    NoFrame,
     /// A number that this crate has no name for. A later version may have one: match it by `_`.
     Unknown,
 }
@@ -135,6 +151,10 @@ impl Refusal {
             Self::BAD_DEPTH => RefusalKind::BadDepth,
             Self::NOT_FINITE => RefusalKind::NotFinite,
             Self::TOO_MANY => RefusalKind::TooMany,
+            Self::BAD_LIST_MARK => RefusalKind::BadListMark,
+            Self::BAD_LIST_LENGTH => RefusalKind::BadListLength,
+            Self::BAD_ENTRY => RefusalKind::BadEntry,
+            Self::NO_FRAME => RefusalKind::NoFrame,
             _ => RefusalKind::Unknown,
         }
     }
@@ -166,6 +186,12 @@ impl fmt::Display for Refusal {
             Self::BAD_DEPTH => write!(f, "samples have neither 16, 24 nor 32 bits"),
             Self::NOT_FINITE => write!(f, "a float sample is NaN or infinite"),
             Self::TOO_MANY => write!(f, "the file has more than 16,777,216 samples"),
+            Self::BAD_LIST_MARK => write!(f, "no list: under 9 bytes, or another mark or version"),
+            Self::BAD_LIST_LENGTH => write!(f, "the list's length does not match its frame count"),
+            Self::BAD_ENTRY => {
+                write!(f, "an entry of the list has a level above 511, a boundary above 127 or more than 63 pairs")
+            }
+            Self::NO_FRAME => write!(f, "the list has no frame of this number"),
             _ => write!(f, "unknown to this crate, with {at} beside it"),
         }
     }

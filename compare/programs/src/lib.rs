@@ -1,6 +1,7 @@
 //! What the comparing programs share: options, threads, counts, differences; and speech from a file.
 pub mod front;
 pub mod header;
+pub mod list;
 pub mod wav;
 
 use std::collections::BTreeMap;
@@ -160,6 +161,14 @@ impl Shown for u8 {
 impl Shown for u32 {
     fn bits(self) -> u64 {
         self.into()
+    }
+    fn show(self) -> String {
+        format!("{self}")
+    }
+}
+impl Shown for u64 {
+    fn bits(self) -> u64 {
+        self
     }
     fn show(self) -> String {
         format!("{self}")

@@ -1,6 +1,7 @@
 //! Writes the fixed vectors of VECTORS.md: `vectors FOLDER`. With `--check FOLDER`
 //! it writes nothing and says whether the files there are these.
 mod header;
+mod list;
 mod wav;
 
 use gen::records::{calls, kind_of, Call, ReadCall, WriteCall, KINDS};
@@ -278,6 +279,7 @@ fn main() {
         ("stage", stage_file()),
         ("records", record_file()),
         ("header", header::file()),
+        ("list", list::file()),
         ("wav", wav::file()),
     ];
     for (name, file) in files {

@@ -1,4 +1,5 @@
 // One frame of each command of hcaframe, by the public calls.
+use crate::listing::is_list_full;
 use cli_files::headers::is_whole_hca;
 use cli_files::job::Job;
 use cli_runs::outcomes::after_encode;
@@ -6,6 +7,7 @@ use cli_runs::outcomes::after_read;
 use cli_runs::outcomes::after_write;
 use cli_runs::progress::Run;
 use cli_runs::progress::is_whole_block;
+use cli_runs::progress::stopped;
 use cli_runs::progress::take_intensities;
 use cli_runs::progress::without_frames;
 use cli_runs::progress::without_intensities;
@@ -50,6 +52,9 @@ fn encode_block(job: Job, run: Run, block: &[u8], intensities: &[u8]) -> Run {
 
 // Spectra to frames.
 pub(crate) fn encode_next(job: Job, run: Run, block: &[u8]) -> Run {
+    if is_list_full(job, run) {
+        return stopped(run, 2);
+    }
     let mut intensities = [0u8; 128];
     let taken = take_intensities(job, &mut intensities);
     if is_whole_block(taken) {

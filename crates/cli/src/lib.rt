@@ -3,6 +3,7 @@ use self::frames::do_frames;
 use cli_header::do_header;
 use cli_jobs::setting::ended;
 use cli_jobs::setting::opened;
+use cli_list::do_list;
 use cli_options::faults::UNKNOWN_COMMAND;
 use cli_options::faults::refuse_word;
 use cli_options::options::Options;
@@ -22,6 +23,7 @@ use whole_files::standard::take_standard;
 
 mod calls;
 mod frames;
+mod listing;
 
 // Does the argument ask for help?
 fn is_help(i: usize) -> bool {
@@ -59,6 +61,7 @@ fn do_command(options: Options) -> i32 {
     match command {
         Command::Header => do_header(options),
         Command::Wav => do_wav(options),
+        Command::List => do_list(options),
         _ => do_run(options),
     }
 }

@@ -2,6 +2,8 @@
 use crate::job::Job;
 use cli_options::options::Options;
 use cli_options::said::is_same_name;
+use cli_options::said::put_path;
+use cli_words::commands::Command;
 use cli_words::names::Name;
 use cli_words::names::input_of;
 use cli_words::names::is_file;
@@ -9,8 +11,10 @@ use cli_words::names::name_at;
 use cli_words::names::output_of;
 use cli_words::names::place_of;
 use cli_words::names::say_name;
+use cli_words::names::second_output_of;
 use text::lines::say;
 use whole_files::same::is_one_file;
+use whole_files::standard::close_file;
 
 fn say_same(a: Name, b: Name) {
     say(2, b"hcaframe: ");
@@ -25,11 +29,23 @@ fn are_files(j: usize, k: usize) -> bool {
     is_file(name_at(j)) && is_file(name_at(k))
 }
 
+// Does this place name an output?
+fn is_output_place(command: Command, place: usize) -> bool {
+    place == place_of(output_of(command)) || place == place_of(second_output_of(command))
+}
+
+// Does one of these places name an output, and the other an input?
+fn is_one_output(command: Command, j: usize, k: usize) -> bool {
+    if is_output_place(command, j) {
+        return !is_output_place(command, k);
+    }
+    is_output_place(command, k)
+}
+
 // Are the options of these places two names that differ, as far as they are given?
 fn differ(options: Options, j: usize, k: usize) -> bool {
     let command = options.command;
-    let output = place_of(output_of(command));
-    let is_output = j == output || k == output;
+    let is_output = is_one_output(command, j, k);
     if j < k && are_files(j, k) && is_same_name(options, name_at(j), name_at(k), is_output) {
         say_same(name_at(j), name_at(k));
         return false;
@@ -72,23 +88,46 @@ pub fn are_inputs_apart(job: Job) -> bool {
         )
 }
 
-// Is the file that the output is, or takes the place of, none of the inputs?
-pub fn is_output_apart(job: Job, fd: i32) -> bool {
+// Is the file that an output is, or takes the place of, none of the inputs?
+fn is_input_apart(job: Job, name: Name, fd: i32) -> bool {
     let command = job.command;
-    let output = output_of(command);
-    are_two(job.input, input_of(command), fd, output)
-        && are_two(job.intensities, Name::Intensities, fd, output)
-        && are_two(job.layout_file, Name::Layout, fd, output)
+    are_two(job.input, input_of(command), fd, name)
+        && are_two(job.intensities, Name::Intensities, fd, name)
+        && are_two(job.layout_file, Name::Layout, fd, name)
+}
+
+// Is it not the first output, where that is begun already?
+pub(crate) fn is_first_apart(job: Job, name: Name, fd: i32) -> bool {
+    let command = job.command;
+    are_two(job.output, output_of(command), fd, name)
+}
+
+// Nor what stands under the first output's name?
+fn is_old_apart(job: Job, name: Name, fd: i32) -> bool {
+    if job.output < 3 {
+        return true;
+    }
+    let mut path = io::buffer();
+    let n = put_path(job.output_file, &mut path);
+    let old = os::open_read(&path[..n]);
+    let command = job.command;
+    let is_other = are_two(old, output_of(command), fd, name);
+    close_file(old);
+    is_other
+}
+
+// Is it none of the call's other files?
+pub(crate) fn is_output_apart(job: Job, name: Name, fd: i32) -> bool {
+    is_input_apart(job, name, fd) && is_first_apart(job, name, fd) && is_old_apart(job, name, fd)
 }
 
 // Is it not where the text goes?
-pub fn is_text_apart(job: Job, fd: i32) -> bool {
+pub(crate) fn is_text_apart(job: Job, name: Name, fd: i32) -> bool {
     if job.text < 0 || !is_one_file(1, fd) {
         return true;
     }
-    let command = job.command;
     say(2, b"hcaframe: ");
-    say_name(2, output_of(command));
+    say_name(2, name);
     say(2, b" and standard output are the same file\n");
     false
 }

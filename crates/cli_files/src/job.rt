@@ -3,8 +3,9 @@ use cli_options::said::FileName;
 use cli_words::commands::Command;
 use rules::Layout;
 
-// The input's block of a frame, in bytes; the files by their descriptors, -1 for none, and the output's name; where the text goes, -1 for nowhere;
-// whether all of them could be opened; whether a person watches.
+// The input's block of a frame, in bytes; the files by their descriptors, -1 for none, and the outputs' names; where the text goes, -1 for nowhere;
+// The input's block of a frame, in bytes; the files by their descriptors, -1 for none, the input's option and the outputs' names; where the text goes,
+// -1 for nowhere; whether all of them could be opened; whether a person watches.
 pub struct Job {
     pub command: Command,
     pub layout: Layout,
@@ -14,6 +15,8 @@ pub struct Job {
     pub intensities: i32,
     pub output: i32,
     pub output_file: FileName,
+    pub list: i32,
+    pub list_file: FileName,
     pub text: i32,
     pub is_ready: bool,
     pub is_watched: bool,

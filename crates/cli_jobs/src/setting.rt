@@ -20,21 +20,26 @@ use cli_words::layouts::has_secondary;
 use cli_words::layouts::record_size;
 use cli_words::layouts::side_value_count;
 use cli_words::layouts::spectra_size;
+use cli_words::manual::complain;
 use cli_words::names::Name;
 use cli_words::names::input_of;
 use cli_words::names::output_of;
+use cli_words::names::second_output_of;
 use cli_words::names::takes_layout;
 use rules::Layout;
+use text::forms::say_form;
 use text::lines::say;
+use whole_files::same::is_on_disk;
 use whole_files::standard::close_file;
 
-// The bytes of a frame in its input. Those behind a header and a WAV file are taken as they stand.
+// The bytes of a frame in its input. Those behind a header and a WAV file or a list are taken as they stand.
 fn block_size(command: Command, layout: Layout) -> usize {
     match command {
         Command::Encode => spectra_size(layout),
         Command::Write => record_size(layout),
         Command::Header => 1,
         Command::Wav => 1,
+        Command::List => 1,
         _ => layout.frame_size,
     }
 }
@@ -76,6 +81,13 @@ fn text_of(options: Options) -> i32 {
     }
 }
 
+fn no_file() -> FileName {
+    FileName {
+        argument: 0,
+        start: 0,
+    }
+}
+
 fn unopened(options: Options, layout: Layout) -> Job {
     let command = options.command;
     Job {
@@ -86,10 +98,9 @@ fn unopened(options: Options, layout: Layout) -> Job {
         input: -1,
         intensities: -1,
         output: -1,
-        output_file: FileName {
-            argument: 0,
-            start: 0,
-        },
+        output_file: no_file(),
+        list: -1,
+        list_file: no_file(),
         text: text_of(options),
         is_ready: false,
         is_watched: libc::isatty(2) == 1,
@@ -136,10 +147,10 @@ fn with_intensities(options: Options, job: Job) -> Job {
     j
 }
 
-// The text gives way where the output is standard output.
+// The text gives way where an output is standard output.
 fn with_text(job: Job) -> Job {
     let mut j = job;
-    if job.output == 1 {
+    if job.output == 1 || job.list == 1 {
         j.is_watched = false;
         if 0 < job.text {
             j.text = 2;
@@ -158,9 +169,41 @@ fn with_output(options: Options, job: Job) -> Job {
         return j;
     }
     let file = file_of(options, name);
-    j.output = begin_output(job, file);
+    j.output = begin_output(job, name, file);
     j.output_file = file;
     j.is_ready = 0 <= j.output;
+    with_text(j)
+}
+
+// Can a list have as many frames, as far as that is known? If not, that is said.
+fn is_listable(job: Job) -> bool {
+    let n = blocks_in(job.input, job.size);
+    if n == usize::MAX || n <= 65535 {
+        return true;
+    }
+    say_form(
+        2,
+        b"hcaframe: a list has at most 65535 frames, and the spectra have #\n",
+        &[n],
+    );
+    false
+}
+
+// With the list beside the frames, if there is one.
+fn with_second(options: Options, job: Job) -> Job {
+    let command = job.command;
+    let name = second_output_of(command);
+    if !job.is_ready || !is_given(options, name) {
+        return job;
+    }
+    let mut j = job;
+    j.is_ready = is_listable(job);
+    if j.is_ready {
+        let file = file_of(options, name);
+        j.list = begin_output(job, name, file);
+        j.list_file = file;
+        j.is_ready = 0 <= j.list;
+    }
     with_text(j)
 }
 
@@ -171,16 +214,31 @@ pub fn opened(options: Options) -> Job {
     if !is_sound(options, layout) {
         return job;
     }
-    with_output(options, with_intensities(options, with_input(options, job)))
+    let begun = with_output(options, with_intensities(options, with_input(options, job)));
+    with_second(options, begun)
 }
 
-// Ends the output, which is whole or not there unless it is standard output, and closes the inputs. Answers the status.
+// Ends an output, which is whole or not there unless it is standard output. Answers the status.
+fn ended_output(file: FileName, fd: i32, status: i32) -> i32 {
+    if fd < 3 {
+        return status;
+    }
+    end_output(file, fd, status)
+}
+
+// The list has to be on the disk before the frames take their name.
+fn listed(job: Job, status: i32) -> i32 {
+    if status != 0 || job.list < 3 || is_on_disk(job.list) {
+        return status;
+    }
+    complain(b"writing");
+    2
+}
+
+// Ends the outputs, and closes the inputs. Answers the status.
 pub fn ended(job: Job, status: i32) -> i32 {
-    let last = if job.output < 3 {
-        status
-    } else {
-        end_output(job.output_file, job.output, status)
-    };
+    let first = ended_output(job.output_file, job.output, listed(job, status));
+    let last = ended_output(job.list_file, job.list, first);
     close_file(job.intensities);
     close_file(job.input);
     close_file(job.layout_file);

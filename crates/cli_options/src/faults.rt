@@ -11,7 +11,7 @@ use text::lines::say;
 use text::tables::say_entry;
 
 // Line 0 is for nothing.
-const FAULTS: [u8; 491] = *b"\n\
+const FAULTS: [u8; 515] = *b"\n\
     \x20is an unknown command\n\
     \x20is an unknown word\n\
     \x20is not for this command or this file\n\
@@ -28,7 +28,8 @@ const FAULTS: [u8; 491] = *b"\n\
     \x20has no value\n\
     \x20names no file\n\
     \x20is given without --loop-end\n\
-    \x20is given without --loop-start\n";
+    \x20is given without --loop-start\n\
+    \x20is given without --svg\n";
 
 pub const UNKNOWN_COMMAND: usize = 1;
 
@@ -63,6 +64,8 @@ pub const EMPTY_NAME: usize = 15;
 pub const WITHOUT_LOOP_END: usize = 16;
 
 pub const WITHOUT_LOOP_START: usize = 17;
+
+pub const WITHOUT_SVG: usize = 18;
 
 // The file and the line of a word that comes from a layout file.
 fn say_origin(options: Options) {

@@ -14,6 +14,7 @@ use cli_options::faults::TAKES_NO_VALUE;
 use cli_options::faults::UNKNOWN_WORD;
 use cli_options::faults::WITHOUT_LOOP_END;
 use cli_options::faults::WITHOUT_LOOP_START;
+use cli_options::faults::WITHOUT_SVG;
 use cli_options::faults::refuse_option;
 use cli_options::faults::refuse_value;
 use cli_options::faults::refuse_word;
@@ -30,6 +31,7 @@ use cli_words::names::is_taken;
 use cli_words::names::name_at;
 use cli_words::names::name_of;
 use cli_words::names::place_of;
+use cli_words::names::takes_layout;
 use text::names::Spelt;
 use text::names::spelt_number;
 use text::places::more;
@@ -193,6 +195,15 @@ fn is_half(options: Options, name: Name, other: Name) -> bool {
     is_given(options, name) && !is_given(options, other)
 }
 
+// A size alone, of which no layout speaks, is for a picture.
+fn with_drawn_size(options: Options) -> Options {
+    let command = options.command;
+    if !takes_layout(command) && is_half(options, Name::FrameSize, Name::Svg) {
+        return refuse_option(options, Name::FrameSize, WITHOUT_SVG);
+    }
+    options
+}
+
 // A loop has both of its ends.
 fn paired(options: Options) -> Options {
     if is_half(options, Name::LoopStart, Name::LoopEnd) {
@@ -201,7 +212,7 @@ fn paired(options: Options) -> Options {
     if is_half(options, Name::LoopEnd, Name::LoopStart) {
         return refuse_option(options, Name::LoopEnd, WITHOUT_LOOP_START);
     }
-    options
+    with_drawn_size(options)
 }
 
 // All that is there must be whole.

@@ -1,6 +1,7 @@
 // What is told of a frame, and before the first and behind the last of them.
 use crate::progress::Run;
 use crate::progress::ended_by;
+use crate::progress::entry_of_frame;
 use crate::progress::frame_done;
 use crate::progress::text_to;
 use crate::progress::text_told;
@@ -35,11 +36,9 @@ pub fn after_encode(job: Job, run: Run, answer: StageAnswer, frame: &[u8]) -> Ru
         return ended_by(run, stage_refusal(answer));
     };
     let row = [run.done, level, boundary, pairs, bits];
-    with_bytes(
-        job,
-        text_told(run, say_stage_row(text_to(job, run), &row)),
-        frame,
-    )
+    let mut r = text_told(run, say_stage_row(text_to(job, run), &row));
+    r.last = entry_of_frame(level, boundary, pairs, bits);
+    with_bytes(job, r, frame)
 }
 
 pub fn after_write(job: Job, run: Run, answer: WriteAnswer, frame: &[u8]) -> Run {

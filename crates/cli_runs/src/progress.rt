@@ -5,6 +5,7 @@ use cli_reports::reasons::say_refusal;
 use cli_words::layouts::side_value_count;
 use cli_words::manual::complain;
 use refusals::Refusal;
+use rules_files::list::Entry;
 use text::blocks::Block;
 use text::blocks::is_at_end;
 use text::blocks::next_block;
@@ -12,16 +13,27 @@ use text::forms::say_form;
 use text::lines::say;
 use text::places::more;
 
-// Frames done, their bytes, and how many were refused; the status so far; whether there is more to do; whether the text has ended before the work,
-// and whether by a fault.
+// Frames done, their bytes, and how many were refused; the last frame's numbers as a list has them; the status so far; whether there is more to do;
+// whether the text has ended before the work, and whether by a fault.
 pub struct Run {
     pub done: usize,
     pub bytes: usize,
     pub refused: usize,
+    pub last: Entry,
     pub status: i32,
     pub is_going: bool,
     pub is_mute: bool,
     pub is_text_lost: bool,
+}
+
+// The numbers of a frame, each within its 32 bits.
+pub(crate) fn entry_of_frame(level: usize, boundary: usize, pairs: usize, bits: usize) -> Entry {
+    Entry {
+        level: (level % 4294967296) as u32,
+        boundary: (boundary % 4294967296) as u32,
+        pairs: (pairs % 4294967296) as u32,
+        bits: (bits % 4294967296) as u32,
+    }
 }
 
 pub fn at_start() -> Run {
@@ -29,6 +41,7 @@ pub fn at_start() -> Run {
         done: 0,
         bytes: 0,
         refused: 0,
+        last: entry_of_frame(0, 0, 0, 0),
         status: 0,
         is_going: true,
         is_mute: false,

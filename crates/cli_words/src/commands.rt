@@ -9,6 +9,7 @@ pub enum Command {
     Check,
     Header,
     Wav,
+    List,
 }
 
 // A command's line in a table that has one for each of them, and its first for none.
@@ -21,6 +22,7 @@ pub(crate) fn line_of(command: Command) -> usize {
         Command::Check => 4,
         Command::Header => 5,
         Command::Wav => 6,
+        Command::List => 7,
     }
 }
 
@@ -32,12 +34,13 @@ fn command_on(line: usize) -> Command {
         4 => Command::Check,
         5 => Command::Header,
         6 => Command::Wav,
+        7 => Command::List,
         _ => Command::Nothing,
     }
 }
 
 pub fn command_of(word: &[u8]) -> Command {
-    command_on(entry_of(b"\nencode\nread\nwrite\ncheck\nheader\nwav\n", word))
+    command_on(entry_of(b"\nencode\nread\nwrite\ncheck\nheader\nwav\nlist\n", word))
 }
 
 pub fn is_encode(command: Command) -> bool {

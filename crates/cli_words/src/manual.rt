@@ -7,14 +7,15 @@ use text::lines::say;
 use text::tables::say_entry;
 
 // How a command is called, on a line each; the first is for none.
-const USAGES: [u8; 541] =
-    *b"usage: hcaframe encode | read | write | check | header | wav .. ; hcaframe --help\n\
-    usage: hcaframe encode LAYOUT --spectra FILE [--intensities FILE] --out FILE [--quiet]\n\
+const USAGES: [u8; 647] =
+    *b"usage: hcaframe encode | read | write | check | header | wav | list .. ; hcaframe --help\n\
+    usage: hcaframe encode LAYOUT --spectra FILE [--intensities FILE] --out FILE [--list FILE] [--quiet]\n\
     usage: hcaframe read LAYOUT --frames FILE [--records FILE] [--quiet]\n\
     usage: hcaframe write LAYOUT --records FILE --out FILE [--quiet]\n\
     usage: hcaframe check LAYOUT --frames FILE [--quiet]\n\
     usage: hcaframe header LAYOUT --rate N --count N --padding N [--loop-start N --loop-end N] [--frames FILE] --out FILE [--quiet]\n\
-    usage: hcaframe wav --in FILE [--samples FILE] [--quiet]\n";
+    usage: hcaframe wav --in FILE [--samples FILE] [--quiet]\n\
+    usage: hcaframe list --list FILE [--frame N] [--svg FILE [--frame-size N]] [--quiet]\n";
 
 pub fn say_usage(fd: i32, command: Command) -> bool {
     say_entry(fd, &USAGES, line_of(command)) && say(fd, b"\n")
@@ -28,6 +29,7 @@ fn say_usages() -> bool {
         && say_usage(1, Command::Check)
         && say_usage(1, Command::Header)
         && say_usage(1, Command::Wav)
+        && say_usage(1, Command::List)
 }
 
 // For a command that takes one, and where all are told of.
@@ -51,7 +53,8 @@ fn say_encode() -> bool {
         b"Makes frames from spectra, and tells each frame's level, boundary, pairs of bands removed and bits.\n\
           \x20 --spectra     f32, low byte first, frame after frame: channel, subframe, band (channels x 8 x 128)\n\
           \x20 --intensities 8 bytes a channel, frame after frame; needed if a channel is S\n\
-          \x20 --out         the frames, one after the other; written only if every frame is made\n",
+          \x20 --out         the frames, one after the other; written only if every frame is made\n\
+          \x20 --list        a list with the numbers of each frame, for up to 65535 of them; written only if every frame is made\n",
     )
 }
 
@@ -105,6 +108,17 @@ fn say_wav() -> bool {
     )
 }
 
+fn say_list() -> bool {
+    say(
+        1,
+        b"Tells the numbers of each frame that a list holds, and the highest level, the most pairs removed and all bits.\n\
+          \x20 --list        a list as hcaframe encode writes it, of up to 65535 frames\n\
+          \x20 --frame       this frame alone; the first is 0\n\
+          \x20 --svg         a picture: the level of each frame, the pairs removed, and the bits where --frame-size is given\n\
+          \x20 --frame-size  bytes of a frame, 8 to 65535\n",
+    )
+}
+
 // Of the files of every command.
 fn say_files() -> bool {
     say(
@@ -123,7 +137,7 @@ fn say_all() -> bool {
         1,
         b"encode makes frames from spectra, read tells what frames hold, write makes frames from records,\n\
           check tells which frames are good, header makes the header of an HCA file or the whole file,\n\
-          wav reads a WAV file. More: hcaframe COMMAND --help; hcaframe --version\n",
+          wav reads a WAV file, list tells what a list of frames holds. More: hcaframe COMMAND --help; hcaframe --version\n",
     )
 }
 
@@ -131,7 +145,7 @@ fn say_all() -> bool {
 fn say_status(has_status: bool) -> bool {
     let is_said = say(
         1,
-        b"Status: 0 all is well, 1 a frame, a record or a WAV file was refused, 2 the words or a file were wrong.\n",
+        b"Status: 0 all is well, 1 a frame, a record, a WAV file or a list was refused, 2 the words or a file were wrong.\n",
     );
     if has_status {
         return is_said && say(1, b"A closed pipe ends the text, not the work.\n");
@@ -153,6 +167,7 @@ fn say_command(command: Command) -> bool {
         Command::Check => say_usage(1, command) && say_check(),
         Command::Header => say_usage(1, command) && say_header(),
         Command::Wav => say_usage(1, command) && say_wav(),
+        Command::List => say_usage(1, command) && say_list(),
     }
 }
 

@@ -25,10 +25,13 @@ pub enum Name {
     LoopEnd,
     In,
     Samples,
+    List,
+    Frame,
+    Svg,
 }
 
 // An option's place is its line here.
-const NAMES: [u8; 176] = *b"\n\
+const NAMES: [u8; 197] = *b"\n\
     --kinds\n\
     --base\n\
     --stereo\n\
@@ -47,7 +50,10 @@ const NAMES: [u8; 176] = *b"\n\
     --loop-start\n\
     --loop-end\n\
     --in\n\
-    --samples\n";
+    --samples\n\
+    --list\n\
+    --frame\n\
+    --svg\n";
 
 // Its place where something is kept for each option; 0 is for none.
 pub fn place_of(name: Name) -> usize {
@@ -72,6 +78,9 @@ pub fn place_of(name: Name) -> usize {
         Name::LoopEnd => 17,
         Name::In => 18,
         Name::Samples => 19,
+        Name::List => 20,
+        Name::Frame => 21,
+        Name::Svg => 22,
     }
 }
 
@@ -97,6 +106,9 @@ pub fn name_at(place: usize) -> Name {
         17 => Name::LoopEnd,
         18 => Name::In,
         19 => Name::Samples,
+        20 => Name::List,
+        21 => Name::Frame,
+        22 => Name::Svg,
         _ => Name::Unknown,
     }
 }
@@ -133,6 +145,7 @@ pub fn is_number(name: Name) -> bool {
         Name::Padding => true,
         Name::LoopStart => true,
         Name::LoopEnd => true,
+        Name::Frame => true,
         _ => false,
     }
 }
@@ -157,6 +170,7 @@ pub fn input_of(command: Command) -> Name {
         Command::Check => Name::Frames,
         Command::Header => Name::Frames,
         Command::Wav => Name::In,
+        Command::List => Name::List,
     }
 }
 
@@ -170,6 +184,15 @@ pub fn output_of(command: Command) -> Name {
         Command::Check => Name::Unknown,
         Command::Header => Name::Out,
         Command::Wav => Name::Samples,
+        Command::List => Name::Svg,
+    }
+}
+
+// The option that names a second output.
+pub fn second_output_of(command: Command) -> Name {
+    match command {
+        Command::Encode => Name::List,
+        _ => Name::Unknown,
     }
 }
 
@@ -182,14 +205,14 @@ fn takers(name: Name) -> usize {
         Name::Base => 22222,
         Name::Stereo => 22222,
         Name::Total => 22222,
-        Name::FrameSize => 22222,
+        Name::FrameSize => 1022222,
         Name::Layout => 11111,
         Name::Spectra => 2,
         Name::Intensities => 1,
         Name::Out => 20202,
         Name::Frames => 12020,
         Name::Records => 210,
-        Name::Quiet => 111111,
+        Name::Quiet => 1111111,
         Name::Rate => 20000,
         Name::Count => 20000,
         Name::Padding => 20000,
@@ -197,6 +220,9 @@ fn takers(name: Name) -> usize {
         Name::LoopEnd => 10000,
         Name::In => 200000,
         Name::Samples => 100000,
+        Name::List => 2000001,
+        Name::Frame => 1000000,
+        Name::Svg => 1000000,
     }
 }
 
@@ -209,6 +235,7 @@ fn digit(n: usize, line: usize) -> usize {
         4 => n / 1000 % 10,
         5 => n / 10000 % 10,
         6 => n / 100000 % 10,
+        7 => n / 1000000 % 10,
         _ => 0,
     }
 }

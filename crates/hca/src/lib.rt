@@ -8,8 +8,13 @@ ghost use Rattle.hca_read.specs.Returned.{returnedAs, returned};
 ghost use Rattle.hca_write.specs.Wrote.{wroteAs, wrote};
 ghost use Rattle.hca_header.specs.HeaderWrote.{headerAs, headerWrote};
 ghost use Rattle.hca_wav.specs.Takes.{takeAs, takeRead};
+ghost use Rattle.hca_list.specs.Listed.{listWroteAs, listWrote, listReturnedAs, listReturned, answeredAs, entryAnswered, summaryAnswered};
 use hca_encode::encode_frame;
 use hca_header::write_header;
+use hca_list::list_lookup;
+use hca_list::list_read;
+use hca_list::list_summary;
+use hca_list::list_write;
 use hca_read::read_frame;
 use hca_wav::read_wav;
 use hca_write::write_record;
@@ -111,6 +116,39 @@ pub extern "C" fn hca_read_wav(
         ≡ takeRead (now (wav .entry)) (now (samples .entry)) (now (note .entry)) (now (answer .entry)) ⌝ }
 {
     read_wav(wav, samples, note, answer)
+}
+
+// The writer of the list beside the bank.
+#[no_mangle]
+pub extern "C" fn hca_list_write(frames: u32, entries: &[u32], list: &mut [u8]) -> u32
+    ensures { λ r. ⌜ listWroteAs r (now (list .exit)) ≡ listWrote frames (now (entries .entry)) (now (list .entry)) ⌝ }
+{
+    list_write(frames, entries, list)
+}
+
+// The list's reader. answer: frames.
+#[no_mangle]
+pub extern "C" fn hca_list_read(list: &[u8], entries: &mut [u32], answer: &mut [u32]) -> u32
+    ensures { λ r. ⌜ listReturnedAs r (now (entries .exit)) (now (answer .exit))
+        ≡ listReturned (now (list .entry)) (now (entries .entry)) (now (answer .entry)) ⌝ }
+{
+    list_read(list, entries, answer)
+}
+
+// The list's lookup by frame number. answer: level, boundary, pairs, bits.
+#[no_mangle]
+pub extern "C" fn hca_list_lookup(list: &[u8], frame: u32, answer: &mut [u32]) -> u32
+    ensures { λ r. ⌜ answeredAs r (now (answer .exit)) ≡ entryAnswered (now (list .entry)) frame (now (answer .entry)) ⌝ }
+{
+    list_lookup(list, frame, answer)
+}
+
+// The list's summary. answer: highest level, most pairs, total of bits.
+#[no_mangle]
+pub extern "C" fn hca_list_summary(list: &[u8], answer: &mut [u64]) -> u32
+    ensures { λ r. ⌜ answeredAs r (now (answer .exit)) ≡ summaryAnswered (now (list .entry)) (now (answer .entry)) ⌝ }
+{
+    list_summary(list, answer)
 }
 
 // The check of a frame's bytes.

@@ -7,6 +7,7 @@ use rules::StageAnswer;
 use rules::WriteAnswer;
 
 pub mod header;
+pub mod list;
 pub mod wav;
 
 // A number of 0 stands for no refusal.

@@ -3,6 +3,13 @@ pub mod Pieces
 pub mod HeaderFitting
 pub mod HeaderTheorems
 pub mod HeaderExamples
+-- A7: entries and lists, worked examples, and the theorems of the list's calls
+pub mod Entries
+pub mod Lists
+pub mod ListExamples
+pub mod Summaries
+pub mod ListCalls
+pub mod ListOutcomes
 -- A13: laws that the code cites
 pub mod Samples
 pub mod Chunks

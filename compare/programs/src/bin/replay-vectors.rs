@@ -1,6 +1,8 @@
 //! Replays the fixed vectors of VECTORS.md on the library: `replay-vectors FILE..`.
 #[path = "replay-vectors/header.rs"]
 mod header;
+#[path = "replay-vectors/list.rs"]
+mod list;
 #[path = "replay-vectors/wav.rs"]
 mod wav;
 
@@ -110,6 +112,10 @@ fn replay(file: &[u8]) -> (u32, Vec<u32>) {
             3 => write(&mut b),
             4 => u32::from(raw::checksum(&b.bytes())) == b.word(),
             5 => header::replay(&mut b),
+            6 => list::write(&mut b),
+            7 => list::read(&mut b),
+            8 => list::lookup(&mut b),
+            9 => list::summary(&mut b),
             10 => wav::replay(&mut b),
             _ => panic!("case {k} is of no kind"),
         };

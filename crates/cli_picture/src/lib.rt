@@ -1,0 +1,5 @@
+// A list of a line's frames, drawn as a picture.
+mod bars;
+mod marks;
+pub mod picture;
+mod values;

@@ -1,0 +1,4 @@
+mod Refusing
+mod Storing
+mod Bounds
+mod Tellings

@@ -1,0 +1,2 @@
+mod Laying
+mod Answering

@@ -1,0 +1,3 @@
+pub mod StageEntries
+pub mod SameHead
+pub mod Agreement

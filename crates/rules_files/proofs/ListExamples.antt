@@ -1,0 +1,87 @@
+-- The list's definitions worked out on request A7's example and on its corners. Assumes nothing.
+use mathlib.Core.Path.{_≡_, refl, sym, ap}
+use mathlib.Core.List.{List, [], _∷_, _++_}
+use mathlib.Core.Bool.{true}
+use Prim.Native.Nat.{ℕ}
+use native.Mathlib.Omega.{arith}
+use lib.ListN.{length}
+use Rattle.buffers.specs.Walk.{sumTo, blocks, every}
+use Rattle.numbers.specs.Numbers.{highFirst, ofHigh}
+use Rattle.rules.specs.Refusals.{delivered, refused}
+use Rattle.rules_files.specs.List.{entryBytes, entryFrom, entryAt, legalEntry, legalEntries, listHead, listOf, framesIn, entriesOf, isMarked, judgedList, maxTo, summaryOf, readAs, listRead, lookedAs, looked, summedAs, summed}
+use Rattle.rules_files.specs.declared.list.Judgement.{Judgement}
+use Rattle.rules_files.proofs.Lists.{judged-length}
+
+-- (12, 40, 0, 1314), (254, 127, 63, 4294967295), (511, 0, 7, 0)
+pub threeEntries : List ℕ
+threeEntries = 12 ∷ 40 ∷ 0 ∷ 1314 ∷ 254 ∷ 127 ∷ 63 ∷ 4294967295 ∷ 511 ∷ 0 ∷ 7 ∷ 0 ∷ []
+
+pub threeBytes : List ℕ
+threeBytes =
+    (0x56 ∷ 0x46 ∷ 0x49 ∷ 0x00 ∷ 0x01 ∷ 0x00 ∷ 0x00 ∷ 0x00 ∷ 0x03 ∷ [])
+    ++ ((0x00 ∷ 0x0c ∷ 0x28 ∷ 0x00 ∷ 0x00 ∷ 0x00 ∷ 0x05 ∷ 0x22 ∷ [])
+    ++ ((0x00 ∷ 0xfe ∷ 0x7f ∷ 0x3f ∷ 0xff ∷ 0xff ∷ 0xff ∷ 0xff ∷ []) ++ (0x01 ∷ 0xff ∷ 0x00 ∷ 0x07 ∷ 0x00 ∷ 0x00 ∷ 0x00 ∷ 0x00 ∷ [])))
+
+pub three-written : listOf 3 threeEntries ≡ threeBytes
+unfolding threeEntries threeBytes listOf listHead blocks entryBytes entryAt highFirst
+three-written = refl
+
+-- its head, lookups of the second frame and past the last, and its summary
+pub three-found : (looked threeBytes 1 ≡ delivered (254 ∷ 127 ∷ 63 ∷ 4294967295 ∷ [])) × (looked threeBytes 3 ≡ refused 31 0)
+unfolding threeBytes looked lookedAs judgedList isMarked legalEntries legalEntry every entriesOf blocks entryAt entryFrom ofHigh
+three-found = (refl, refl)
+
+pub three-summed : summed threeBytes ≡ delivered (511 ∷ 63 ∷ 4294968609 ∷ [])
+unfolding threeBytes summed summedAs summaryOf maxTo sumTo judgedList isMarked legalEntries legalEntry every entriesOf blocks entryAt entryFrom ofHigh
+three-summed = refl
+
+-- no frames
+pub none-written : listOf 0 [] ≡ 0x56 ∷ 0x46 ∷ 0x49 ∷ 0x00 ∷ 0x01 ∷ 0x00 ∷ 0x00 ∷ 0x00 ∷ 0x00 ∷ []
+unfolding listOf listHead blocks highFirst
+none-written = refl
+
+pub none-summed : summed (0x56 ∷ 0x46 ∷ 0x49 ∷ 0x00 ∷ 0x01 ∷ 0x00 ∷ 0x00 ∷ 0x00 ∷ 0x00 ∷ []) ≡ delivered (0 ∷ 0 ∷ 0 ∷ [])
+unfolding summed summedAs summaryOf maxTo sumTo judgedList isMarked legalEntries every entriesOf blocks ofHigh
+none-summed = refl
+
+-- version 2, and a byte too many: 19 comes before 20
+pub version-first : summed (0x56 ∷ 0x46 ∷ 0x49 ∷ 0x00 ∷ 0x02 ∷ 0x00 ∷ 0x00 ∷ 0x00 ∷ 0x00 ∷ 0x00 ∷ []) ≡ refused 19 0
+unfolding summed summedAs judgedList isMarked legalEntries every entriesOf blocks ofHigh
+version-first = refl
+
+-- level 512 in the last of three, looked up is the first; and of a frame that is not there: 21 comes before 31
+pub badBytes : List ℕ
+badBytes =
+    (0x56 ∷ 0x46 ∷ 0x49 ∷ 0x00 ∷ 0x01 ∷ 0x00 ∷ 0x00 ∷ 0x00 ∷ 0x03 ∷ [])
+    ++ ((0x00 ∷ 0x0c ∷ 0x28 ∷ 0x00 ∷ 0x00 ∷ 0x00 ∷ 0x05 ∷ 0x22 ∷ [])
+    ++ ((0x00 ∷ 0xfe ∷ 0x7f ∷ 0x3f ∷ 0xff ∷ 0xff ∷ 0xff ∷ 0xff ∷ []) ++ (0x02 ∷ 0x00 ∷ 0x00 ∷ 0x07 ∷ 0x00 ∷ 0x00 ∷ 0x00 ∷ 0x00 ∷ [])))
+
+pub whole-list-first : (looked badBytes 0 ≡ refused 21 0) × (looked badBytes 3 ≡ refused 21 0)
+unfolding badBytes looked lookedAs judgedList isMarked legalEntries legalEntry every entriesOf blocks entryAt entryFrom ofHigh
+whole-list-first = (refl, refl)
+
+-- 2 stands between 20 and 21: for three frames eleven places are short, though an entry is bad
+pub short-first : listRead badBytes (0 ∷ 0 ∷ 0 ∷ 0 ∷ 0 ∷ 0 ∷ 0 ∷ 0 ∷ 0 ∷ 0 ∷ 0 ∷ []) .outcome ≡ refused 2 0
+unfolding badBytes listRead readAs judgedList isMarked legalEntries legalEntry every entriesOf blocks entryAt entryFrom ofHigh
+short-first = refl
+
+-- a count of 0x20000001 on seventeen bytes: in 32 bits eight times the count would wrap to 8
+pub wrapBytes : List ℕ
+wrapBytes = 0x56 ∷ 0x46 ∷ 0x49 ∷ 0x00 ∷ 0x01 ∷ 0x20 ∷ 0x00 ∷ 0x00 ∷ 0x01 ∷ 0 ∷ 0 ∷ 0 ∷ 0 ∷ 0 ∷ 0 ∷ 0 ∷ 0 ∷ []
+
+wrap-marked : isMarked wrapBytes ≡ true
+unfolding wrapBytes isMarked ofHigh
+wrap-marked = refl
+
+wrap-frames : framesIn wrapBytes ≡ 0x20000001
+unfolding wrapBytes ofHigh
+wrap-frames = refl
+
+wrap-long : length wrapBytes ≡ 17
+unfolding wrapBytes
+wrap-long = refl
+
+pub never-wraps : summed wrapBytes ≡ refused 20 0
+unfolding summed summedAs
+never-wraps =
+    ap (λ (j : Judgement). summedAs j wrapBytes) (sym (judged-length wrapBytes 0x20000001 wrap-marked (sym wrap-frames) (λ e. omega (arith, wrap-long))))
