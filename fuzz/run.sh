@@ -7,6 +7,7 @@
 # Needs target/staticlib/libhca.a (rt staticlib hca) or HCA_LIB_DIR, and a C compiler.
 set -eu
 cd "$(dirname "$0")"
+. ../scripts/x86-64.sh
 lib=${HCA_LIB_DIR:-../target/staticlib}/libhca.a
 out=../target/fuzz
 shared="calls.c checked.c choices.c lend.c rules.c"
@@ -29,7 +30,7 @@ build_driver() { # $1: the program, then flags
     program=$1
     shift
     # shellcheck disable=SC2086
-    ${CC:-cc} $flags "$@" driver.c $shared "$lib" -o "$out/$program"
+    ${CC:-$x86_cc} $flags "$@" driver.c $shared "$lib" -o "$out/$program"
 }
 
 case ${1:-1000000} in
@@ -45,10 +46,10 @@ libfuzzer)
     ;;
 faults)
     build_driver driver-faulty "$wrap" faults.c
-    "$out/driver-faulty" --calls 20000 >/dev/null || { echo "a fault where there is none"; exit 1; }
+    $x86_run "$out/driver-faulty" --calls 20000 >/dev/null || { echo "a fault where there is none"; exit 1; }
     missed=0
     for name in $(sed -n 's/.*is_fault("\([a-z0-9-]*\)").*/\1/p' faults.c); do
-        if HCA_FAULT=$name "$out/driver-faulty" --calls 20000 >"$out/log" 2>&1; then
+        if HCA_FAULT=$name $x86_run "$out/driver-faulty" --calls 20000 >"$out/log" 2>&1; then
             echo "MISSED  $name"
             missed=$((missed + 1))
         else
@@ -61,14 +62,14 @@ faults)
 stack)
     # bound before it runs: else the first call of memset would count the linker's own work
     build_driver driver-stack "$wrap" -Wl,-z,now stack.c
-    "$out/driver-stack" --calls "${2:-20000}" | tail -n 2
+    $x86_run "$out/driver-stack" --calls "${2:-20000}" | tail -n 2
     ;;
 *)
     # shellcheck disable=SC2086
-    if ! build_driver driver $sanitizers 2>/dev/null; then
-        echo "no sanitizers at hand: built without them"
+    if [ -n "$x86_run" ] || ! build_driver driver $sanitizers 2>/dev/null; then
+        echo "no sanitizers at hand, or an emulator, which they do not go with: built without them"
         build_driver driver
     fi
-    "$out/driver" --calls "${1:-1000000}" --seed "${2:-1}"
+    $x86_run "$out/driver" --calls "${1:-1000000}" --seed "${2:-1}"
     ;;
 esac

@@ -1,8 +1,10 @@
 #!/bin/sh
 # Builds hcaframe with an exit status, at target/hcaframe. A Rattle program cannot set its status or ignore a signal yet, so the proved commands are
-# taken as a library, and main is three lines of C: a closed pipe is a failed write and not the end, and the status is handed on. cc is needed.
+# taken as a library, and main is three lines of C: a closed pipe is a failed write and not the end, and the status is handed on. A C compiler is needed
+# (scripts/x86-64.sh).
 set -eu
 cd "$(dirname "$0")/.."
+. scripts/x86-64.sh
 log=$(mktemp)
 trap 'rm -rf "$log" "$log.c"' EXIT
 rt staticlib cli >"$log" 2>&1 || { cat "$log"; exit 1; }
@@ -12,5 +14,5 @@ cat >"$log.c" <<'C'
 int hcaframe_run(void);
 int main(void) { signal(SIGPIPE, SIG_IGN); return hcaframe_run(); }
 C
-cc -O2 -o target/hcaframe "$log.c" target/staticlib/libcli.a $beside
+"$x86_cc" -O2 -o target/hcaframe "$log.c" target/staticlib/libcli.a $beside
 echo "target/hcaframe"

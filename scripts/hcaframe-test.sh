@@ -6,9 +6,17 @@ set -u
 here=$(cd "$(dirname "$0")/.." && pwd)
 program=${1:-$here/target/hcaframe}
 case $program in /*) ;; *) program=$(pwd)/$program ;; esac
+# where the program is run by an emulator, that is a program of its own
+. "$here/scripts/x86-64.sh"
+if [ -n "$x86_run" ]; then
+    emulated=$(mktemp)
+    printf '#!/bin/sh\nexec %s "%s" "$@"\n' "$x86_run" "$program" >"$emulated"
+    chmod 755 "$emulated"
+    program=$emulated
+fi
 if "$program" --help | grep -q 'status of this form is always 0'; then form=plain; else form=status; fi
 folder=$(mktemp -d)
-trap 'rm -rf "$folder"' EXIT
+trap 'rm -rf "$folder" "${emulated:-$folder}"' EXIT
 cd "$folder" || exit 1
 cp "$here"/crates/hcaframe/data/* .
 

@@ -2,9 +2,11 @@
 # Every test of the repository: the layout of the sources, every proof, every must-fail edit and every program, and the command line on good and bad
 # words; where a C compiler is at hand the command line with an exit status, the C example, the installed library and hostile calls of it; where cargo and
 # g++ are, the comparisons with the Rust and with the model in their small form and the Rust crate's tests. The last line is that of `rt ci`: N passed,
-# M failed.
+# M failed. rt makes programs for x86-64: on a machine with another processor those of them that need an emulator or another compiler are run where
+# these are at hand (scripts/x86-64.sh), and the comparisons are not.
 set -eu
 cd "$(dirname "$0")/.."
+. scripts/x86-64.sh
 # rt waits for a whole batch before it starts the next: with twelve at a time two cores are seldom idle
 export RT_JOBS="${RT_JOBS:-12}"
 rt fmt --check
@@ -14,21 +16,29 @@ trap 'rm -f "$log" "$log.status"' EXIT
 if [ "$(cat "$log.status")" -ne 0 ]; then
     exit 1
 fi
-sh scripts/hcaframe-test.sh target/bin/hcaframe
-if command -v cc >/dev/null; then
+if can_run; then
+    sh scripts/hcaframe-test.sh target/bin/hcaframe
+else
+    echo "SKIPPED: the command line's tests (programs for x86-64 do not run here; qemu-x86_64 is needed)"
+fi
+if can_compile; then
     sh scripts/hcaframe-build.sh
     sh scripts/hcaframe-test.sh
     rt staticlib hca
-    cc -std=c99 -Wall -Wextra -Iinclude examples/encode.c target/staticlib/libhca.a -o target/encode-example
-    target/encode-example
-    cc -std=c99 -Wall -Wextra -Iinclude examples/header.c target/staticlib/libhca.a -o target/header-example
-    target/header-example
+    for example in examples/*.c; do
+        program=target/$(basename "$example" .c)-example
+        "$x86_cc" -std=c99 -Wall -Wextra -Iinclude "$example" target/staticlib/libhca.a -o "$program"
+        $x86_run "$program"
+    done
     sh scripts/install-test.sh
-    sh fuzz/run.sh 20000
+    # an emulator takes twenty times as long
+    if [ -z "$x86_run" ]; then sh fuzz/run.sh 20000; else sh fuzz/run.sh 2000; fi
 else
-    echo "SKIPPED: hcaframe with an exit status, the C example and the hostile calls (a C compiler is needed)"
+    echo "SKIPPED: hcaframe with an exit status, the C examples and the hostile calls (a C compiler for x86-64 is needed)"
 fi
-if command -v cargo >/dev/null && command -v g++ >/dev/null; then
+if [ -n "$x86_run" ]; then
+    echo "SKIPPED: the comparisons with the Rust and the model, and the Rust crate's tests (the library is for x86-64)"
+elif command -v cargo >/dev/null && command -v g++ >/dev/null; then
     sh compare/check.sh
     sh scripts/end-to-end-test.sh
     (cd rust && cargo test --quiet --offline)
