@@ -16,3 +16,5 @@ target/release/compare-records --small
 target/release/compare-header --small
 target/release/compare-list --small
 target/release/compare-wav --small
+target/release/replay-vectors vec/stereo.vec
+target/release/compare-stereo --small

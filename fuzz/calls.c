@@ -14,6 +14,29 @@ static void lend_wished(struct set *b, const struct wish *w, struct source *s)
 
 /* ---- the stage */
 
+void lend_stage(struct set *b, const struct wish *w, struct source *s)
+{
+    size_t n = need_channels(w);
+    lend_wished(b, w, s);
+    lend(&b->spectra, "spectra", 4, length_for(s, w, n * 1024), s);
+    if (b->spectra.count >= n * 1024)
+        fill_spectra(s, floats(&b->spectra), n * 1024); /* past them a pattern: NaN among it */
+    lend(&b->intensities, "intensities", 1, length_for(s, w, n * 8), s);
+    for (size_t i = 0; i < b->intensities.count; i++)
+        if (i / 8 < 16 && w->kinds[i / 8] == 2)
+            b->intensities.data[i] &= 15;
+    if (b->intensities.count > 0 && one_in(s, 12)) {
+        uint32_t i = pick(s, (uint32_t)b->intensities.count);
+        b->intensities.data[i] = take_byte(s);
+    }
+    lend(&b->scaled, "scaled", 4, length_for(s, w, n * 1024), s);
+    lend(&b->codes, "codes", 4, length_for(s, w, n * 1024), s);
+    lend(&b->factors, "factors", 1, length_for(s, w, n * 128), s);
+    lend(&b->side, "side", 1, length_for(s, w, n * 8), s);
+    lend(&b->frame, "frame", 1, length_for(s, w, need_frame(w)), s);
+    lend(&b->answer, "answer", 4, length_for(s, w, 4), s);
+}
+
 static void hostile_encode(struct source *s)
 {
     struct set *b = &sets[0];
@@ -22,25 +45,7 @@ static void hostile_encode(struct source *s)
     if (one_in(s, 16)) { /* small frames, where refusal 7 can come */
         w.layout[0] = 1, w.layout[1] = 1, w.layout[2] = 0, w.layout[3] = 1, w.layout[4] = 17 + pick(s, 5);
     }
-    size_t n = need_channels(&w);
-    lend_wished(b, &w, s);
-    lend(&b->spectra, "spectra", 4, length_for(s, &w, n * 1024), s);
-    if (b->spectra.count >= n * 1024)
-        fill_spectra(s, floats(&b->spectra), n * 1024); /* past them a pattern: NaN among it */
-    lend(&b->intensities, "intensities", 1, length_for(s, &w, n * 8), s);
-    for (size_t i = 0; i < b->intensities.count; i++)
-        if (i / 8 < 16 && w.kinds[i / 8] == 2)
-            b->intensities.data[i] &= 15;
-    if (b->intensities.count > 0 && one_in(s, 12)) {
-        uint32_t i = pick(s, (uint32_t)b->intensities.count);
-        b->intensities.data[i] = take_byte(s);
-    }
-    lend(&b->scaled, "scaled", 4, length_for(s, &w, n * 1024), s);
-    lend(&b->codes, "codes", 4, length_for(s, &w, n * 1024), s);
-    lend(&b->factors, "factors", 1, length_for(s, &w, n * 128), s);
-    lend(&b->side, "side", 1, length_for(s, &w, n * 8), s);
-    lend(&b->frame, "frame", 1, length_for(s, &w, need_frame(&w)), s);
-    lend(&b->answer, "answer", 4, length_for(s, &w, 4), s);
+    lend_stage(b, &w, s);
     call_encode(b, s);
 }
 
@@ -258,6 +263,10 @@ void one_call(struct source *s)
     }
     if (one_in(s, 8)) {
         hostile_wav(s);
+        return;
+    }
+    if (one_in(s, 8)) {
+        hostile_stereo(s);
         return;
     }
     switch (pick(s, 16)) {

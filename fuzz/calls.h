@@ -15,6 +15,7 @@ enum function {
     LIST_LOOKUP,
     LIST_SUMMARY,
     WAV,
+    STEREO,
     FUNCTIONS
 };
 
@@ -22,6 +23,14 @@ enum { NUMBERS = 32 }; /* every refusal number is below it */
 
 /* Makes one call by the choices of the source, and the calls that check it. */
 void one_call(struct source *s);
+
+struct set;
+struct wish;
+/* The buffers of a call of the stage, as wished for. */
+void lend_stage(struct set *b, const struct wish *w, struct source *s);
+
+/* One call of a request's function, as one_call makes it. */
+void hostile_stereo(struct source *s);
 
 /* The program above tells these: a call and its answer; first where it is not one that checks another. */
 void saw(enum function f, uint32_t number, uint32_t beside, int first);

@@ -7,17 +7,12 @@
 
 struct set sets[3];
 
-struct part {
-    struct lent *b;
-    size_t need;
-    int written;
-};
-
 static const char *const names[FUNCTIONS] = {
     [ENCODE] = "hca_encode_frame",
     [WRITE] = "hca_write_record",
     [READ] = "hca_read_frame",
     [CHECKSUM] = "hca_checksum",
+    [STEREO] = "hca_encode_stereo_frame",
 };
 /* which numbers a call can give, a bit each; there is no 6 and no 10 */
 const uint32_t can_give[FUNCTIONS] = {
@@ -31,10 +26,16 @@ const uint32_t can_give[FUNCTIONS] = {
     [LIST_LOOKUP] = 0x80380005,
     [LIST_SUMMARY] = 0x380005,
     [WAV] = 0x43C00005,
+    [STEREO] = 0x200BF,
 };
-static const size_t delivered_places[3] = {4, 3, 3};
+static const size_t delivered_places[FUNCTIONS] = {
+    [ENCODE] = 4,
+    [WRITE] = 3,
+    [READ] = 3,
+    [STEREO] = 4,
+};
 
-static struct expected before_the_work(const struct part *parts, int count, int legal, size_t answer_len)
+struct expected before_the_work(const struct part *parts, int count, int legal, size_t answer_len)
 {
     if (!legal)
         return just(HCA_BAD_LAYOUT, 0);
@@ -46,11 +47,11 @@ static struct expected before_the_work(const struct part *parts, int count, int 
 
 static void check_written(const struct part *p, uint32_t number)
 {
-    if ((number >= 1 && number <= 4) || number == 15) {
+    if ((number >= 1 && number <= 4) || number >= 15) {
         is_untouched(p->b);
         return;
     }
-    if (number != 0)
+    if (number != 0 && p->use == WRITTEN)
         is_zero(p->b, p->need);
     rest_is_untouched(p->b, p->need);
 }
@@ -63,8 +64,7 @@ static void check_answer(enum function f, const struct lent *answer, uint32_t nu
         rest_is_untouched(answer, number == 0 ? delivered_places[f] : 1);
 }
 
-/* All that holds after any call. */
-static void check_call(enum function f, const struct part *parts, int count, const struct lent *answer, uint32_t number,
+void check_call(enum function f, const struct part *parts, int count, const struct lent *answer, uint32_t number,
                        struct expected e, int first)
 {
     uint32_t beside = answer->count < 4 ? 0 : words(answer)[0];
@@ -79,29 +79,28 @@ static void check_call(enum function f, const struct part *parts, int count, con
     check_answer(f, answer, number);
     for (int i = 0; i < count; i++) {
         guards_hold(parts[i].b);
-        if (parts[i].written)
+        if (parts[i].use != READ_ONLY)
             check_written(&parts[i], number);
         else
             is_untouched(parts[i].b);
     }
 }
 
-static void seal_all(const struct part *parts, int count, struct lent *answer)
+void seal_all(const struct part *parts, int count, struct lent *answer)
 {
     for (int i = 0; i < count; i++)
         seal(parts[i].b);
     seal(answer);
 }
 
-static void give_back_all(const struct part *parts, int count, struct lent *answer)
+void give_back_all(const struct part *parts, int count, struct lent *answer)
 {
     for (int i = 0; i < count; i++)
         give_back(parts[i].b);
     give_back(answer);
 }
 
-/* The shape that the buffers name; 0 where they name none. */
-static int shape_in(struct shape *l, const struct set *b)
+int shape_in(struct shape *l, const struct set *b)
 {
     return shape_of(l, words(&b->layout), b->layout.count, b->kinds.data, b->kinds.count);
 }
@@ -207,7 +206,7 @@ static int finite(float value)
     return (bits & 0x7F800000) != 0x7F800000;
 }
 
-static struct expected before_the_stage(const struct shape *l, const struct set *b)
+struct expected before_the_stage(const struct shape *l, const struct set *b)
 {
     for (uint32_t i = 0; i < l->channels * 8; i++)
         if (l->kinds[i / 8] == 2 && b->intensities.data[i] > 15)
@@ -269,33 +268,85 @@ static void check_need(const struct shape *l, uint32_t bits)
         fault("refusal 7 beside %u in %u bytes", bits, l->frame);
 }
 
+void check_stage_outcome(const struct shape *l, const struct set *b, uint32_t number, struct source *s)
+{
+    if (number == HCA_NO_LEVEL && words(&b->answer)[0] != (l->start == 0 ? 0 : (l->start - 1) / 2))
+        fault("refusal 5 after %u pairs of %u bands", words(&b->answer)[0], l->start);
+    if (number == HCA_TOO_LONG)
+        check_need(l, words(&b->answer)[0]);
+    if (number == 0)
+        check_stage_frame(l, b, s);
+}
+
+static uint32_t encode_in(struct set *b)
+{
+    return hca_encode_frame(words(&b->layout), b->layout.count, b->kinds.data, b->kinds.count, floats(&b->spectra),
+                            b->spectra.count, b->intensities.data, b->intensities.count, floats(&b->scaled), b->scaled.count,
+                            codes_of(&b->codes), b->codes.count, b->factors.data, b->factors.count, b->side.data, b->side.count,
+                            b->frame.data, b->frame.count, words(&b->answer), b->answer.count);
+}
+
+void stage_parts(struct part *parts, struct set *b, size_t n, size_t f, enum use use)
+{
+    const struct part all[STAGE_PARTS] = {
+        {&b->layout, 0, READ_ONLY},       {&b->kinds, 0, READ_ONLY},      {&b->spectra, n * 1024, use},
+        {&b->intensities, n * 8, use},    {&b->scaled, n * 1024, WRITTEN}, {&b->codes, n * 1024, WRITTEN},
+        {&b->factors, n * 128, WRITTEN},  {&b->side, n * 8, WRITTEN},     {&b->frame, f, WRITTEN},
+    };
+    memcpy(parts, all, sizeof all);
+}
+
 uint32_t call_encode(struct set *b, struct source *s)
 {
     struct shape l = {0};
+    struct part parts[STAGE_PARTS];
     int legal = shape_in(&l, b);
-    size_t n = legal ? l.channels : 0, f = legal ? l.frame : 0;
-    struct part parts[9] = {{&b->layout, 0, 0},         {&b->kinds, 0, 0},           {&b->spectra, n * 1024, 0},
-                            {&b->intensities, n * 8, 0}, {&b->scaled, n * 1024, 1},   {&b->codes, n * 1024, 1},
-                            {&b->factors, n * 128, 1},   {&b->side, n * 8, 1},        {&b->frame, f, 1}};
-    struct expected e = before_the_work(parts, 9, legal, b->answer.count);
+    stage_parts(parts, b, legal ? l.channels : 0, legal ? l.frame : 0, READ_ONLY);
+    struct expected e = before_the_work(parts, STAGE_PARTS, legal, b->answer.count);
     if (!e.known)
         e = before_the_stage(&l, b);
     int works = !e.known;
-    seal_all(parts, 9, &b->answer);
-    uint32_t number = hca_encode_frame(
-        words(&b->layout), b->layout.count, b->kinds.data, b->kinds.count, floats(&b->spectra), b->spectra.count,
-        b->intensities.data, b->intensities.count, floats(&b->scaled), b->scaled.count, codes_of(&b->codes), b->codes.count,
-        b->factors.data, b->factors.count, b->side.data, b->side.count, b->frame.data, b->frame.count, words(&b->answer),
-        b->answer.count);
-    check_call(ENCODE, parts, 9, &b->answer, number, e, 1);
-    if (works && number == HCA_NO_LEVEL && words(&b->answer)[0] != (l.start == 0 ? 0 : (l.start - 1) / 2))
-        fault("refusal 5 after %u pairs of %u bands", words(&b->answer)[0], l.start);
-    if (works && number == HCA_TOO_LONG)
-        check_need(&l, words(&b->answer)[0]);
-    if (works && number == 0)
-        check_stage_frame(&l, b, s);
-    give_back_all(parts, 9, &b->answer);
+    seal_all(parts, STAGE_PARTS, &b->answer);
+    uint32_t number = encode_in(b);
+    check_call(ENCODE, parts, STAGE_PARTS, &b->answer, number, e, 1);
+    if (works)
+        check_stage_outcome(&l, b, number, s);
+    give_back_all(parts, STAGE_PARTS, &b->answer);
     return number;
+}
+
+uint32_t stage_again(struct set *b, const struct shape *l, const float *spectra, const uint8_t *intensities, struct source *s)
+{
+    struct part parts[STAGE_PARTS];
+    lend_shape(b, l, s);
+    lend(&b->spectra, "spectra", 4, l->channels * 1024, s);
+    memcpy(b->spectra.data, spectra, l->channels * 4096);
+    lend(&b->intensities, "intensities", 1, l->channels * 8, s);
+    memcpy(b->intensities.data, intensities, l->channels * 8);
+    lend(&b->scaled, "scaled", 4, l->channels * 1024, s);
+    lend(&b->codes, "codes", 4, l->channels * 1024, s);
+    lend(&b->factors, "factors", 1, l->channels * 128, s);
+    lend(&b->side, "side", 1, l->channels * 8, s);
+    lend(&b->frame, "frame", 1, l->frame, s);
+    lend(&b->answer, "answer", 4, 4, s);
+    stage_parts(parts, b, l->channels, l->frame, READ_ONLY);
+    seal_all(parts, STAGE_PARTS, &b->answer);
+    uint32_t number = encode_in(b);
+    check_call(ENCODE, parts, STAGE_PARTS, &b->answer, number, before_the_stage(l, b), 0);
+    return number;
+}
+
+void take_back_stage(struct set *b)
+{
+    struct part parts[STAGE_PARTS];
+    stage_parts(parts, b, 0, 0, READ_ONLY);
+    give_back_all(parts, STAGE_PARTS, &b->answer);
+}
+
+int same_stage(const struct shape *l, const struct set *a, const struct set *b)
+{
+    return same_record(l, a, b) && memcmp(a->scaled.data, b->scaled.data, l->channels * 4096) == 0 &&
+           memcmp(a->frame.data, b->frame.data, l->frame) == 0;
 }
 
 static void check_wrote(const struct shape *l, const struct set *b)
@@ -311,8 +362,9 @@ uint32_t call_write(struct set *b, int first)
     struct shape l = {0};
     int legal = shape_in(&l, b);
     size_t n = legal ? l.channels : 0, f = legal ? l.frame : 0;
-    struct part parts[7] = {{&b->layout, 0, 0}, {&b->kinds, 0, 0},         {&b->record, 2, 0}, {&b->factors, n * 128, 0},
-                            {&b->side, n * 8, 0}, {&b->codes, n * 1024, 0}, {&b->frame, f, 1}};
+    struct part parts[7] = {{&b->layout, 0, READ_ONLY},       {&b->kinds, 0, READ_ONLY},    {&b->record, 2, READ_ONLY},
+                            {&b->factors, n * 128, READ_ONLY}, {&b->side, n * 8, READ_ONLY}, {&b->codes, n * 1024, READ_ONLY},
+                            {&b->frame, f, WRITTEN}};
     struct expected e = before_the_work(parts, 7, legal, b->answer.count);
     if (!e.known && verdict_in(&l, words(&b->record)[0], words(&b->record)[1], b) != LEGAL)
         e = just(HCA_NOT_LEGAL, 0);
@@ -334,8 +386,9 @@ uint32_t call_write(struct set *b, int first)
 
 void take_back_write(struct set *b)
 {
-    struct part parts[7] = {{&b->layout, 0, 0}, {&b->kinds, 0, 0}, {&b->record, 0, 0}, {&b->factors, 0, 0},
-                            {&b->side, 0, 0},   {&b->codes, 0, 0}, {&b->frame, 0, 0}};
+    struct part parts[7] = {{&b->layout, 0, READ_ONLY}, {&b->kinds, 0, READ_ONLY}, {&b->record, 0, READ_ONLY},
+                            {&b->factors, 0, READ_ONLY}, {&b->side, 0, READ_ONLY},  {&b->codes, 0, READ_ONLY},
+                            {&b->frame, 0, READ_ONLY}};
     give_back_all(parts, 7, &b->answer);
 }
 
@@ -370,8 +423,8 @@ uint32_t call_read(struct set *b, int first, struct expected more)
     struct shape l = {0};
     int legal = shape_in(&l, b);
     size_t n = legal ? l.channels : 0, f = legal ? l.frame : 0;
-    struct part parts[6] = {{&b->layout, 0, 0},        {&b->kinds, 0, 0},   {&b->frame, f, 0},
-                            {&b->factors, n * 128, 1}, {&b->side, n * 8, 1}, {&b->codes, n * 1024, 1}};
+    struct part parts[6] = {{&b->layout, 0, READ_ONLY},      {&b->kinds, 0, READ_ONLY},  {&b->frame, f, READ_ONLY},
+                            {&b->factors, n * 128, WRITTEN}, {&b->side, n * 8, WRITTEN}, {&b->codes, n * 1024, WRITTEN}};
     struct expected e = before_the_work(parts, 6, legal, b->answer.count);
     if (!e.known)
         e = before_the_reader(&l, b->frame.data);
@@ -397,7 +450,7 @@ uint32_t call_read(struct set *b, int first, struct expected more)
 
 void take_back_read(struct set *b)
 {
-    struct part parts[6] = {{&b->layout, 0, 0},  {&b->kinds, 0, 0}, {&b->frame, 0, 0},
-                            {&b->factors, 0, 0}, {&b->side, 0, 0},  {&b->codes, 0, 0}};
+    struct part parts[6] = {{&b->layout, 0, READ_ONLY},  {&b->kinds, 0, READ_ONLY}, {&b->frame, 0, READ_ONLY},
+                            {&b->factors, 0, READ_ONLY}, {&b->side, 0, READ_ONLY},  {&b->codes, 0, READ_ONLY}};
     give_back_all(parts, 6, &b->answer);
 }

@@ -84,6 +84,7 @@ static int report(void)
         [LIST_LOOKUP] = "list_lookup",
         [LIST_SUMMARY] = "list_summary",
         [WAV] = "read_wav",
+        [STEREO] = "encode_stereo_frame",
     };
     int missing = 0;
     uint32_t some = 0;

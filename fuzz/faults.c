@@ -224,3 +224,52 @@ uint32_t __wrap_hca_read_wav(const uint8_t *wav, size_t wav_len, float *samples,
         note[0] = 0.0f;
     return number;
 }
+
+/* ---- the stereo stage */
+
+extern __typeof__(hca_encode_stereo_frame) __real_hca_encode_stereo_frame;
+
+uint32_t __wrap_hca_encode_stereo_frame(const uint32_t *layout, size_t layout_len, const uint8_t *kinds, size_t kinds_len,
+                                        float *spectra, size_t spectra_len, uint8_t *intensities, size_t intensities_len,
+                                        float *scaled, size_t scaled_len, int32_t *codes, size_t codes_len, uint8_t *factors,
+                                        size_t factors_len, uint8_t *side, size_t side_len, uint8_t *frame, size_t frame_len,
+                                        uint32_t *answer, size_t answer_len)
+{
+    uint32_t number = __real_hca_encode_stereo_frame(layout, layout_len, kinds, kinds_len, spectra, spectra_len, intensities,
+                                                     intensities_len, scaled, scaled_len, codes, codes_len, factors, factors_len,
+                                                     side, side_len, frame, frame_len, answer, answer_len);
+    int paired = number == 0 && layout[0] > 1 && layout[2] > 0 && kinds[0] == 1;
+    if (is_fault("intensity-of-the-left") && paired)
+        intensities[0] = intensities[8];
+    if (is_fault("intensity-one-more") && paired)
+        intensities[8] += 1;
+    if (is_fault("right-is-minus-zero") && paired && kinds[1] != 1)
+        spectra[1024 + layout[1]] = -0.0f;
+    if (is_fault("mixes-past-total") && paired && layout[3] < 128)
+        spectra[layout[3]] *= 0.75f;
+    if (is_fault("mixes-an-ulp-beside") && paired && spectra[layout[1]] != 0.0f)
+        ((uint32_t *)(void *)spectra)[layout[1]] ^= 1;
+    if (is_fault("mixes-without-stereo-bands") && number == 0 && layout[0] > 1 && layout[2] == 0)
+        intensities[8] ^= 1;
+    if (is_fault("refusal-17-mixes") && number == 17)
+        intensities[0] ^= 1;
+    if (is_fault("refusal-17-as-4") && number == 17)
+        number = 4;
+    if (is_fault("refusal-17-with-a-place") && number == 17)
+        answer[0] = 5;
+    if (is_fault("refusal-17-clears") && number == 17)
+        memset(frame, 0, layout[4]);
+    if (is_fault("refusal-5-takes-back-the-mixing") && number == 5 && layout[0] > 1 && layout[2] > 0 && kinds[0] == 1)
+        intensities[8] ^= 1;
+    if (is_fault("refusal-5-clears-the-spectra") && number == 5)
+        memset(spectra, 0, 4096 * layout[0]);
+    if (is_fault("stereo-refusal-7-leaves-a-byte") && number == 7)
+        frame[0] = 0xFF;
+    if (is_fault("stereo-writes-past-the-intensities") && number == 0)
+        intensities[intensities_len] ^= 1;
+    if (is_fault("stereo-writes-past-the-spectra") && number == 0 && spectra_len > 1024 * layout[0])
+        spectra[1024 * layout[0]] = 0.0f;
+    if (is_fault("stereo-other-code") && number == 0 && codes[0] != 0)
+        codes[0] = -codes[0];
+    return number;
+}

@@ -14,6 +14,7 @@ shared="calls.c checked.c choices.c lend.c rules.c"
 shared="$shared files.c header.c"
 shared="$shared list.c"
 shared="$shared wav.c"
+shared="$shared stereo.c"
 if [ ! -f "$lib" ]; then
     echo "$lib is not there: run rt staticlib hca first" >&2
     exit 2
@@ -24,6 +25,7 @@ wrap=-Wl,--wrap=hca_encode_frame,--wrap=hca_write_record,--wrap=hca_read_frame,-
 wrap=$wrap,--wrap=hca_write_header
 wrap=$wrap,--wrap=hca_list_write,--wrap=hca_list_read,--wrap=hca_list_lookup,--wrap=hca_list_summary
 wrap=$wrap,--wrap=hca_read_wav
+wrap=$wrap,--wrap=hca_encode_stereo_frame
 sanitizers="-fsanitize=address,undefined -fno-sanitize-recover=undefined"
 
 build_driver() { # $1: the program, then flags

@@ -24,6 +24,7 @@ static void say(void)
     printf(", hca_list_write %zu, hca_list_read %zu, hca_list_lookup %zu, hca_list_summary %zu", most[LIST_WRITE], most[LIST_READ],
            most[LIST_LOOKUP], most[LIST_SUMMARY]);
     printf(", hca_read_wav %zu", most[WAV]);
+    printf(", hca_encode_stereo_frame %zu", most[STEREO]);
     printf("\n");
 }
 
@@ -178,5 +179,23 @@ uint32_t __wrap_hca_read_wav(const uint8_t *wav, size_t wav_len, float *samples,
     paint(here);
     uint32_t number = __real_hca_read_wav(wav, wav_len, samples, samples_len, note, note_len, answer, answer_len);
     look(here, WAV);
+    return number;
+}
+
+extern __typeof__(hca_encode_stereo_frame) __real_hca_encode_stereo_frame;
+
+uint32_t __wrap_hca_encode_stereo_frame(const uint32_t *layout, size_t layout_len, const uint8_t *kinds, size_t kinds_len,
+                                        float *spectra, size_t spectra_len, uint8_t *intensities, size_t intensities_len,
+                                        float *scaled, size_t scaled_len, int32_t *codes, size_t codes_len, uint8_t *factors,
+                                        size_t factors_len, uint8_t *side, size_t side_len, uint8_t *frame, size_t frame_len,
+                                        uint32_t *answer, size_t answer_len)
+{
+    uint8_t *here;
+    STACK_POINTER(here);
+    paint(here);
+    uint32_t number = __real_hca_encode_stereo_frame(layout, layout_len, kinds, kinds_len, spectra, spectra_len, intensities,
+                                                     intensities_len, scaled, scaled_len, codes, codes_len, factors, factors_len,
+                                                     side, side_len, frame, frame_len, answer, answer_len);
+    look(here, STEREO);
     return number;
 }

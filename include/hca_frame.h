@@ -1,6 +1,7 @@
 /* The HCA frame stage, its record writer and its strict reader, as C sees them (libhca.a).
 
    hca_encode_frame   spectra of one frame                -> a frame, or a numbered refusal
+   hca_encode_stereo_frame  unmixed spectra of one frame  -> the same, its pairs mixed first
    hca_read_frame     a frame                             -> its record (level, boundary, factors, side, codes)
    hca_write_record   a record                            -> its frame
    hca_checksum       bytes                               -> their check
@@ -83,7 +84,7 @@ enum { HCA_HEADER_SIZE = 96 };
    An answer of fewer places is refusal 2 (after 1; before all others where there is no layout) and stays as it was. */
 enum { HCA_ANSWER_COUNT = 4 };
 
-/* What hca_encode_frame delivers. */
+/* What hca_encode_frame and hca_encode_stereo_frame deliver. */
 enum hca_encoded {
     HCA_ENCODED_LEVEL = 0,      /* noise level, 0 to 254 */
     HCA_ENCODED_BOUNDARY = 1,   /* bands below it are coded one level finer; 0 to 127, 0 at level 0 */
@@ -132,6 +133,7 @@ enum hca_summary {
    After 1 to 4 and from 15 on every buffer but answer is as it was. After 5 to 14 the written buffers are zero over the
    elements that the layout asks for (the stage's five, the reader's factors, side and codes, the writer's frame),
    so no half of a frame can be taken for a whole one.
+   The stereo stage refuses in the order 1, 2, 3, 4, 17, 5, 7 and leaves spectra and intensities as mixed after 5 and 7.
    The stage refuses in the order 1, 2, 3, 4, 5, 7, the writer 1, 2, 15, 7, the reader 1, 2, 8, 9, then the first fault in bit
    order, 14 last, the file header's writer 1, 2, 16. The list's writer refuses in the order 2, 21, its reader 19, 20, 2, 21, the
    lookup 19, 20, 21, 31, the summary 19, 20, 21. 6 and 10 are withdrawn and come from no call. A later version may add further
@@ -155,6 +157,7 @@ enum hca_refusal {
     HCA_NOT_LEGAL = 15,     /* the record has a value out of range, or not 0 where nothing is written; beside: 0 */
     HCA_BAD_HEADER = 16,    /* more than eight channels, or a rate, count, padding or loop point that the file header has no
                                room for */
+    HCA_TOO_LOUD = 17,      /* hca_encode_stereo_frame: a spectrum's magnitude is above 65,536, in any band; beside: 0 */
     HCA_BAD_LIST_MARK = 19, /* a list under 9 bytes, or with another mark or version; beside: 0 */
     HCA_BAD_LIST_LENGTH = 20, /* a list's length is not 9 + 8 x its count, in 64 bits; a longer slice too; beside: 0 */
     HCA_BAD_ENTRY = 21,     /* in any entry a level above 511, a boundary above 127 or more than 63 pairs; beside: 0 */
@@ -194,6 +197,7 @@ static inline const char *hca_refusal_text(uint32_t refusal)
     case HCA_BAD_LIST_LENGTH: return "the list's length does not match its frame count";
     case HCA_BAD_ENTRY: return "an entry of the list has a level above 511, a boundary above 127 or more than 63 pairs";
     case HCA_NO_FRAME: return "the list has no frame of this number";
+    case HCA_TOO_LOUD: return "a spectrum's magnitude is above 65,536";
     default: return "a refusal that this header does not know";
     }
 }
@@ -214,6 +218,28 @@ uint32_t hca_encode_frame(
     uint8_t *side, size_t side_len,                     /* written: C x 8; a secondary's intensities, else the scales of
                                                            the HFR groups (0 to 63), then zeros */
     uint8_t *frame, size_t frame_len,                   /* written: F bytes */
+    uint32_t *answer, size_t answer_len);               /* written: 4 places or more, see enum hca_encoded */
+
+/* The stereo stage: mixes the pairs of one frame's unmixed spectra as the published encoder does, then encodes it as
+   hca_encode_frame would what is mixed. Each primary that has a channel after it is mixed with that one, whatever its
+   kind, in the bands base to total - 1: the primary gets the mixed values, the other +0.0 and eight intensities. With no
+   stereo bands nothing is mixed. Mixed spectra go to hca_encode_frame: mixed again they would be another sound.
+   Refuses with 1, 2, 3, 4, 17, 5 or 7, in this order. 3 is judged on the intensities as lent, even where a pair would
+   write over them; 17 whatever the layout. After 1 to 4 and 17 every buffer but answer is as it was. After 5 and 7 the
+   five written buffers are zero over the elements that the layout asks for, and spectra and intensities stay as mixed. */
+uint32_t hca_encode_stereo_frame(
+    const uint32_t *layout, size_t layout_len,          /* read: 5 numbers, see enum hca_layout */
+    const uint8_t *kinds, size_t kinds_len,             /* read: C bytes, see enum hca_kind */
+    float *spectra, size_t spectra_len,                 /* read and written: C x 1,024 by channel, subframe, band; all
+                                                           finite, magnitudes up to 65,536; left as mixed */
+    uint8_t *intensities, size_t intensities_len,       /* read and written: C x 8 by channel, subframe; 0 to 15 for a
+                                                           secondary; those that a pair writes are 0 to 13, the others
+                                                           stay as lent */
+    float *scaled, size_t scaled_len,                   /* written: as of hca_encode_frame, and so are those that follow */
+    int32_t *codes, size_t codes_len,
+    uint8_t *factors, size_t factors_len,
+    uint8_t *side, size_t side_len,
+    uint8_t *frame, size_t frame_len,
     uint32_t *answer, size_t answer_len);               /* written: 4 places or more, see enum hca_encoded */
 
 /* The record writer: writes the one frame of a legal record. Refuses with 1, 2, 15 or 7.

@@ -840,6 +840,52 @@ status 2 'a layout for a list' list --list three.list --total 60
 says err '--total is not for this command'
 good
 
+# -- unmixed spectra: the pair of the sample, from before and behind the stereo step
+mixed="--layout $here/sample/pair.layout"
+status 0 'spectra of a pair' encode $mixed --spectra "$here/sample/pair.spectra" --intensities "$here/sample/pair.intensities" --out pair.hca --list pair.list
+status 0 'unmixed spectra of a pair' encode $mixed --unmixed "$here/sample/pair.unmixed" --out unmixed.hca --list unmixed.list
+same pair.hca unmixed.hca
+same pair.list unmixed.list
+good
+name='unmixed spectra and intensities, by a stream'
+"$program" encode $mixed --quiet --unmixed - --intensities "$here/sample/pair.intensities" --out unmixed.hca <"$here/sample/pair.unmixed" >out 2>err
+ended $?
+same pair.hca unmixed.hca
+good
+status 0 'unmixed spectra without a pair' encode $layout --unmixed spectra.f32 --out unmixed.hca
+same frames.hca unmixed.hca
+good
+# 65,536 and the next float as the second value
+{ head -c 4 spectra.f32; printf '\000\000\200\107'; tail -c 12280 spectra.f32; } >high.f32
+status 0 'an unmixed value of 65,536' encode $layout --unmixed high.f32 --out x.hca
+rm x.hca
+{ head -c 4 spectra.f32; printf '\001\000\200\107'; tail -c 12280 spectra.f32; } >high.f32
+status 0 'a value above 65,536' encode $layout --spectra high.f32 --out x.hca
+rm x.hca
+status 1 'an unmixed value above 65,536' encode $layout --unmixed high.f32 --out x.hca
+says err 'frame 0: refusal 17: the magnitude of an unmixed spectrum value is above 65536'
+absent x.hca
+good
+status 1 'an unmixed value that is NaN' encode $layout --unmixed nan.f32 --out x.hca
+says err 'frame 1: refusal 4 at 1023: '
+absent x.hca
+good
+status 2 'spectra and unmixed ones' encode $layout --spectra spectra.f32 --unmixed stereo.f32 --out x.hca
+says err 'hcaframe: --spectra is given, and --unmixed in its place too'
+absent x.hca
+good
+status 2 'neither spectra nor unmixed ones' encode $layout --out x.hca
+says err 'hcaframe: --spectra is missing, or --unmixed in its place'
+absent x.hca
+good
+status 2 'unmixed spectra as the output' encode $layout --unmixed spectra.f32 --out ./spectra.f32
+says err '--unmixed and --out are the same file'
+same spectra.f32 here/spectra.f32
+good
+status 2 'unmixed spectra for another command' check $layout --frames frames.hca --unmixed spectra.f32
+says err '--unmixed is not for this command'
+good
+
 # -- words
 status 2 'no command'
 says err 'usage: hcaframe'

@@ -8,6 +8,7 @@ const SOURCES: &[&str] = &[
     "header.cpp",
     "list.cpp",
     "wav.cpp",
+    "stereo.cpp",
 ];
 
 fn run(command: &mut Command) {

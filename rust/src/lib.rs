@@ -41,20 +41,20 @@
 //!
 //! # Floats
 //!
-//! [`Encoder::encode_frame`] counts on the thread's default float modes: results
-//! round to nearest, and small numbers are not flushed to zero. Audio engines
-//! often set FTZ and DAZ (bits 15 and 6 of x86's MXCSR) on their threads; under
-//! them the stage still keeps to its buffers, but what it delivers may differ from
-//! what is proved (seen for small scaled values). Call from a thread without them,
-//! or clear them around the call.
+//! [`Encoder::encode_frame`] and [`Encoder::encode_stereo_frame`] count on the
+//! thread's default float modes: results round to nearest, and small numbers are
+//! not flushed to zero. Audio engines often set FTZ and DAZ (bits 15 and 6 of x86's
+//! MXCSR) on their threads; under them the stage still keeps to its buffers, but
+//! what it delivers may differ from what is proved (seen for small scaled values).
+//! Call from a thread without them, or clear them around the call.
 //! The reader, the record writer and the checksum use no floats. [`read_wav`]'s mean
 //! counts on the same modes.
 //!
 //! # Allocation
 //!
 //! The library has no heap. [`Encoder::new`], [`read_frame`] and [`write_record`]
-//! make vectors; [`Encoder::encode_frame`], [`read_frame_into`] and
-//! [`write_record_into`] use what they are given.
+//! make vectors; [`Encoder::encode_frame`], [`Encoder::encode_stereo_frame`],
+//! [`read_frame_into`] and [`write_record_into`] use what they are given.
 
 #![warn(missing_docs)]
 #![deny(unsafe_code)]
@@ -119,6 +119,44 @@ impl Encoder {
     pub fn encode_frame(&mut self, spectra: &[f32], intensities: &[u8]) -> Result<Delivered, Refusal> {
         let mut answer = [0; 4];
         let number = raw::encode_frame(
+            self.layout.numbers(),
+            self.layout.kind_bytes(),
+            spectra,
+            intensities,
+            &mut self.scaled,
+            &mut self.codes,
+            &mut self.factors,
+            &mut self.side,
+            &mut self.frame,
+            &mut answer,
+        );
+        let [level, boundary, pairs, bits] = delivered(number, answer)?;
+        Ok(Delivered { level, boundary, pairs, bits })
+    }
+
+    /// Mixes the pairs of one frame's unmixed spectra, then encodes it. Each primary
+    /// that has a channel after it is mixed with that one in the bands base to
+    /// total - 1; `spectra` and `intensities` are left as mixed, also after refusals 5
+    /// and 7, which clear the encoder's buffers. Refusals 1 to 4 and 17, a magnitude
+    /// above 65,536, change nothing.
+    ///
+    /// ```
+    /// use hca_frame::{Encoder, Kind, Layout};
+    ///
+    /// let pair = [Kind::StereoPrimary, Kind::StereoSecondary];
+    /// let layout = Layout::builder().channels(&pair).bands(1, 1, 3).frame_size(300).build()?;
+    /// let (mut spectra, mut intensities) = ([0.0; 2048], [0; 16]);
+    /// (spectra[1], spectra[1025]) = (1.0, 0.5);
+    /// Encoder::new(layout.clone()).encode_stereo_frame(&mut spectra, &mut intensities)?;
+    /// assert_eq!((spectra[1], spectra[1025], intensities[8]), (0.75, 0.0, 5));
+    ///
+    /// // What is mixed already goes to encode_frame.
+    /// Encoder::new(layout).encode_frame(&spectra, &intensities)?;
+    /// # Ok::<(), Box<dyn std::error::Error>>(())
+    /// ```
+    pub fn encode_stereo_frame(&mut self, spectra: &mut [f32], intensities: &mut [u8]) -> Result<Delivered, Refusal> {
+        let mut answer = [0; 4];
+        let number = raw::encode_stereo_frame(
             self.layout.numbers(),
             self.layout.kind_bytes(),
             spectra,
@@ -274,5 +312,7 @@ fn delivered(number: u32, answer: [u32; 4]) -> Result<[u32; 4], Refusal> {
     }
 }
 
+#[cfg(test)]
+mod stereo_tests;
 #[cfg(test)]
 mod tests;

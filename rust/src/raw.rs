@@ -19,3 +19,7 @@ pub use wav::read_wav;
 
 mod list;
 pub use list::{list_lookup, list_read, list_summary, list_write};
+
+include!("stereo_call.rs");
+
+stereo_call!(hca_encode_stereo_frame);

@@ -59,6 +59,8 @@ impl Refusal {
     pub const BAD_ENTRY: u32 = 21;
     /// A lookup of a frame that the list does not have.
     pub const NO_FRAME: u32 = 31;
+    /// A magnitude of unmixed spectra is above 65,536; `place` is 0.
+    pub const TOO_LOUD: u32 = 17;
 }
 
 /// What a refusal is about: its number by a name that a `match` can use.
@@ -123,6 +125,8 @@ pub enum RefusalKind {
     BadEntry,
     /// [`Refusal::NO_FRAME`].
     NoFrame,
+    /// [`Refusal::TOO_LOUD`].
+    TooLoud,
     /// A number that this crate has no name for. A later version may have one: match it by `_`.
     Unknown,
 }
@@ -155,6 +159,7 @@ impl Refusal {
             Self::BAD_LIST_LENGTH => RefusalKind::BadListLength,
             Self::BAD_ENTRY => RefusalKind::BadEntry,
             Self::NO_FRAME => RefusalKind::NoFrame,
+            Self::TOO_LOUD => RefusalKind::TooLoud,
             _ => RefusalKind::Unknown,
         }
     }
@@ -192,6 +197,7 @@ impl fmt::Display for Refusal {
                 write!(f, "an entry of the list has a level above 511, a boundary above 127 or more than 63 pairs")
             }
             Self::NO_FRAME => write!(f, "the list has no frame of this number"),
+            Self::TOO_LOUD => write!(f, "a spectrum's magnitude is above 65,536"),
             _ => write!(f, "unknown to this crate, with {at} beside it"),
         }
     }

@@ -40,6 +40,7 @@ fn frame_calls_allocate_nothing() {
     let mut frame = [0; 170];
     assert!(allocations(|| drop(vec![1; 3])) > 0);
     let n = allocations(|| {
+        encoder.encode_stereo_frame(&mut spectra, &mut [0; 16]).unwrap();
         encoder.encode_frame(&spectra, &[0; 16]).unwrap();
         read_frame_into(&layout, encoder.frame(), &mut record).unwrap();
         write_record_into(&layout, &record, &mut frame).unwrap();

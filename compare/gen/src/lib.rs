@@ -8,6 +8,7 @@ pub mod records;
 pub mod rng;
 pub mod speech;
 pub mod stage;
+pub mod stereo;
 pub mod wav;
 
 /// The kind of a case and its number among its kind. The shares, which add up to

@@ -36,6 +36,15 @@ fn voice(r: &mut Rng, samples: usize) -> Vec<f32> {
 
 /// Calls of the stage at a bit rate, with the Rust's layout for it.
 pub fn frames(channels: usize, bitrate: u32, frames: usize) -> Vec<StageCall> {
+    calls(channels, bitrate, frames, |e| e.encode_intensity_stereo())
+}
+
+/// The same before the Rust's stereo step: calls of the stereo stage.
+pub fn unmixed_frames(channels: usize, bitrate: u32, frames: usize) -> Vec<StageCall> {
+    calls(channels, bitrate, frames, |_| {})
+}
+
+fn calls(channels: usize, bitrate: u32, frames: usize, stereo_step: fn(&mut HcaEncoder)) -> Vec<StageCall> {
     let mut r = Rng::of_case(48, channels as u64);
     let left = voice(&mut r, frames * 1024);
     let other = voice(&mut r, frames * 1024);
@@ -49,13 +58,13 @@ pub fn frames(channels: usize, bitrate: u32, frames: usize) -> Vec<StageCall> {
                 .collect();
             e.pcm_to_float(&samples);
             e.run_mdct();
-            e.encode_intensity_stereo();
+            stereo_step(&mut e);
             call_of(&e, channels)
         })
         .collect()
 }
 
-/// The call of the stage that the Rust's state makes after its stereo step.
+/// The call of the stage that the Rust's state makes, of the stereo stage before its stereo step.
 pub fn call_of(e: &HcaEncoder, channels: usize) -> StageCall {
     let kinds: Vec<u8> = e.channel[..channels]
         .iter()

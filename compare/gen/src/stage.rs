@@ -96,7 +96,7 @@ pub fn layout(r: &mut Rng, channels: usize) -> StageCall {
     StageCall::exact(&kinds, base as u32, (start - base) as u32, total as u32, 8)
 }
 
-fn channels(r: &mut Rng) -> usize {
+pub(crate) fn channels(r: &mut Rng) -> usize {
     match r.below(20) {
         0..=7 => 1,
         8..=12 => 2,
@@ -115,7 +115,7 @@ fn set_band(call: &mut StageCall, channel: usize, band: usize, values: &[f32; 8]
 }
 
 /// Fills all channels; `main` is the class of most bands, None for any.
-fn fill(r: &mut Rng, call: &mut StageCall, main: Option<Class>, strays: f64) {
+pub(crate) fn fill(r: &mut Rng, call: &mut StageCall, main: Option<Class>, strays: f64) {
     for c in 0..call.kinds.len() {
         let class = main.unwrap_or_else(|| r.pick(&ALL));
         let peak = 10f64.powf(-7.0 + 12.0 * r.unit());
@@ -135,18 +135,18 @@ fn fill(r: &mut Rng, call: &mut StageCall, main: Option<Class>, strays: f64) {
     }
 }
 
-fn set_frame(call: &mut StageCall, frame: i64) {
+pub(crate) fn set_frame(call: &mut StageCall, frame: i64) {
     call.layout[4] = frame.clamp(8, 65_535) as u32;
     call.set_lengths();
 }
 
 /// Just what some level needs, more or less a few bytes.
-fn fitting(r: &mut Rng, call: &StageCall, level: i64) -> i64 {
+pub(crate) fn fitting(r: &mut Rng, call: &StageCall, level: i64) -> i64 {
     let bytes = used_bits(call, level as i32, 0).div_ceil(8) as i64;
     bytes + if r.chance(0.8) { 0 } else { r.range(-2, 2) }
 }
 
-fn any_frame(r: &mut Rng, call: &StageCall) -> i64 {
+pub(crate) fn any_frame(r: &mut Rng, call: &StageCall) -> i64 {
     let n = call.kinds.len() as i64;
     match r.below(7) {
         0 => r.range(8, 40),
@@ -241,21 +241,24 @@ fn sixteen_case(r: &mut Rng) -> StageCall {
 
 /// The 3 + 9 + 27 + 81 arrangements of up to four channels, one after another.
 fn arrangement_case(r: &mut Rng, nth: u64) -> StageCall {
+    let kinds = arrangement(nth);
+    let mut call = layout(r, kinds.len());
+    let n = kinds.len() as i64;
+    call.kinds = kinds;
+    fill(r, &mut call, Some(Class::Noise), 0.1);
+    let frame = r.range(20, 300) * n;
+    set_frame(&mut call, frame);
+    call
+}
+
+pub(crate) fn arrangement(nth: u64) -> Vec<u8> {
     let mut at = nth % 120;
     let mut n = 1;
     while at >= 3u64.pow(n) {
         at -= 3u64.pow(n);
         n += 1;
     }
-    let mut call = layout(r, n as usize);
-    for k in call.kinds.iter_mut() {
-        *k = (at % 3) as u8;
-        at /= 3;
-    }
-    fill(r, &mut call, Some(Class::Noise), 0.1);
-    let frame = r.range(20, 300) * i64::from(n);
-    set_frame(&mut call, frame);
-    call
+    (0..n).map(|i| (at / 3u64.pow(i) % 3) as u8).collect()
 }
 
 /// Layouts at the limits: (base, stereo, total, frame).
@@ -371,7 +374,7 @@ fn hfr_case(r: &mut Rng) -> StageCall {
 
 // ---------------------------------------------------------------- buffers and refusals 1 to 4
 /// Longer buffers; what lies past the end of an input is not looked at.
-fn lengthen(r: &mut Rng, call: &mut StageCall) {
+pub(crate) fn lengthen(r: &mut Rng, call: &mut StageCall) {
     for l in &mut call.lengths {
         if r.chance(0.5) {
             *l += r.range(1, 70) as usize;
@@ -406,7 +409,7 @@ fn shorter(r: &mut Rng, length: usize) -> usize {
     }
 }
 
-fn short_case(r: &mut Rng, nth: u64) -> StageCall {
+pub(crate) fn short_case(r: &mut Rng, nth: u64) -> StageCall {
     let mut call = plain(r);
     if r.chance(0.3) {
         lengthen(r, &mut call);
@@ -437,7 +440,7 @@ fn short_case(r: &mut Rng, nth: u64) -> StageCall {
     call
 }
 
-fn nan_case(r: &mut Rng, nth: u64) -> StageCall {
+pub(crate) fn nan_case(r: &mut Rng, nth: u64) -> StageCall {
     // every place of one channel three times, then any place of more channels
     let (mut call, at) = if nth < 3 * 1024 {
         let mut call = StageCall::exact(&[r.below(3) as u8], 20, 10, 60, 150);
@@ -475,7 +478,7 @@ fn loud_case(r: &mut Rng) -> StageCall {
     call
 }
 
-fn outside_case(r: &mut Rng, nth: u64) -> StageCall {
+pub(crate) fn outside_case(r: &mut Rng, nth: u64) -> StageCall {
     let mut call = plain(r);
     let big = u32::MAX - r.below(3) as u32;
     let n = call.layout[0] as usize;

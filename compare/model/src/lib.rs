@@ -16,6 +16,10 @@ include!("../../calls/wav.rs");
 
 wav_call!(model_read_wav);
 
+include!("../../../rust/src/stereo_call.rs");
+
+stereo_call!(model_encode_stereo_frame);
+
 type Over<'a> = &'a mut dyn FnMut(u32) -> bool;
 
 extern "C" {

@@ -91,6 +91,11 @@ pub fn encoder_for(wav: &Wav, bitrate: u32) -> Result<HcaEncoder, String> {
 
 /// A call of the stage for each frame that the Rust's `encode` would write. Sets the padding, as that does.
 pub fn stage_calls(e: &mut HcaEncoder, wav: &Wav) -> Vec<StageCall> {
+    calls_and_unmixed(e, wav).into_iter().map(|(call, _)| call).collect()
+}
+
+/// The same, each with its spectra as they are before the Rust's stereo step.
+pub fn calls_and_unmixed(e: &mut HcaEncoder, wav: &Wav) -> Vec<(StageCall, Vec<f32>)> {
     let per_frame = FRAME * wav.channels;
     let length = wav.samples.len() / wav.channels;
     let frames = (length + e.encoder_delay as usize).div_ceil(FRAME);
@@ -102,8 +107,9 @@ pub fn stage_calls(e: &mut HcaEncoder, wav: &Wav) -> Vec<StageCall> {
         .map(|frame| {
             e.pcm_to_float(frame);
             e.run_mdct();
+            let unmixed = call_of(e, wav.channels).spectra;
             e.encode_intensity_stereo();
-            call_of(e, wav.channels)
+            (call_of(e, wav.channels), unmixed)
         })
         .collect()
 }

@@ -267,7 +267,11 @@ fn count_bits(e: &HcaEncoder, level: u32, boundary: u32) -> u32 {
 
 /// The state after the last step, the frame or the refusal, and the notes.
 pub fn run(call: &StageCall) -> (HcaEncoder, Result<Vec<u8>, (u32, u32)>, Notes) {
-    let mut e = setup(call);
+    run_on(setup(call))
+}
+
+/// The same from a state whose spectra and intensities are there.
+fn run_on(mut e: HcaEncoder) -> (HcaEncoder, Result<Vec<u8>, (u32, u32)>, Notes) {
     let mut notes = Notes::default();
     head_steps(&mut e);
     let (found, pairs, after) = count_pairs(copy_of(&e));
@@ -288,7 +292,7 @@ pub fn run(call: &StageCall) -> (HcaEncoder, Result<Vec<u8>, (u32, u32)>, Notes)
     e.quantize_spectra();
     notes.needed = count_bits(&e, level, boundary);
     note_codes(&e, &mut notes);
-    let room = 8 * (call.layout[4] - 2);
+    let room = 8 * (e.frame_size - 2);
     match e.pack_frame(level, boundary) {
         Ok(frame) => {
             assert!(notes.needed <= room);
@@ -356,13 +360,23 @@ fn clear(call: &StageCall, out: &mut Lent) {
 /// The whole call: the refusal number (0: delivered), with every buffer as the
 /// call leaves it in `out`, which holds the buffers as they are lent.
 pub fn stage(call: &StageCall, out: &mut Lent) -> (u32, Notes) {
-    if let Some((number, beside)) = refused_before(call) {
-        if let Some(first) = out.answer.first_mut() {
-            *first = beside;
-        }
-        return (number, Notes::default());
+    match refused_before(call) {
+        Some(refusal) => (refuse(refusal, out), Notes::default()),
+        None => finish(call, setup(call), out),
     }
-    let (e, done, notes) = run(call);
+}
+
+/// A refusal that changes nothing but the answer.
+pub(crate) fn refuse((number, beside): (u32, u32), out: &mut Lent) -> u32 {
+    if let Some(first) = out.answer.first_mut() {
+        *first = beside;
+    }
+    number
+}
+
+/// What the call gives from the Rust's state on, once nothing is refused before.
+pub(crate) fn finish(call: &StageCall, e: HcaEncoder, out: &mut Lent) -> (u32, Notes) {
+    let (e, done, notes) = run_on(e);
     clear(call, out);
     match done {
         Ok(frame) => {

@@ -2,4 +2,5 @@
 pub mod driver;
 pub mod hca;
 pub mod header;
+pub mod stereo;
 pub mod wav;

@@ -2,6 +2,7 @@
 //! it writes nothing and says whether the files there are these.
 mod header;
 mod list;
+mod stereo;
 mod wav;
 
 use gen::records::{calls, kind_of, Call, ReadCall, WriteCall, KINDS};
@@ -281,6 +282,7 @@ fn main() {
         ("header", header::file()),
         ("list", list::file()),
         ("wav", wav::file()),
+        ("stereo", stereo::file()),
     ];
     for (name, file) in files {
         let bytes = file.finish();

@@ -3,6 +3,7 @@ use crate::listing::is_list_full;
 use cli_files::headers::is_whole_hca;
 use cli_files::job::Job;
 use cli_runs::outcomes::after_encode;
+use cli_runs::outcomes::after_mixing;
 use cli_runs::outcomes::after_read;
 use cli_runs::outcomes::after_write;
 use cli_runs::progress::Run;
@@ -13,8 +14,10 @@ use cli_runs::progress::without_frames;
 use cli_runs::progress::without_intensities;
 use cli_runs::records::take_record;
 use cli_words::layouts::value_count;
+use cli_words::names::Name;
 use rules::Layout;
 use rules::StageAnswer;
+use rules_stereo::StereoAnswer;
 use text::numbers::take_floats;
 use text::words::word;
 
@@ -41,13 +44,53 @@ fn encode_spectra(
     )
 }
 
-fn encode_block(job: Job, run: Run, block: &[u8], intensities: &[u8]) -> Run {
+// The stage behind the stereo step, which mixes the spectra where they stand.
+fn encode_mixing(
+    layout: Layout,
+    spectra: &mut [f32],
+    intensities: &mut [u8],
+    frame: &mut [u8],
+) -> StereoAnswer {
+    let mut scaled = [0.0f32; 16384];
+    let mut codes = [0i32; 16384];
+    let mut factors = [0u8; 2048];
+    let mut side = [0u8; 128];
+    stereo::encode_stereo_frame(
+        layout,
+        spectra,
+        intensities,
+        &mut scaled,
+        &mut codes,
+        &mut factors,
+        &mut side,
+        frame,
+    )
+}
+
+fn encode_unmixed(job: Job, run: Run, block: &[u8], intensities: &mut [u8]) -> Run {
+    let layout = job.layout;
+    let mut spectra = [0.0f32; 16384];
+    let mut frame = [0u8; 65535];
+    take_floats(block, 0, value_count(layout), &mut spectra);
+    let answer = encode_mixing(layout, &mut spectra, intensities, &mut frame);
+    after_mixing(job, run, answer, &frame)
+}
+
+fn encode_mixed(job: Job, run: Run, block: &[u8], intensities: &[u8]) -> Run {
     let layout = job.layout;
     let mut spectra = [0.0f32; 16384];
     let mut frame = [0u8; 65535];
     take_floats(block, 0, value_count(layout), &mut spectra);
     let answer = encode_spectra(layout, &spectra, intensities, &mut frame);
     after_encode(job, run, answer, &frame)
+}
+
+fn encode_block(job: Job, run: Run, block: &[u8], intensities: &mut [u8]) -> Run {
+    let name = job.input_name;
+    match name {
+        Name::Unmixed => encode_unmixed(job, run, block, intensities),
+        _ => encode_mixed(job, run, block, intensities),
+    }
 }
 
 // Spectra to frames.
@@ -58,7 +101,7 @@ pub(crate) fn encode_next(job: Job, run: Run, block: &[u8]) -> Run {
     let mut intensities = [0u8; 128];
     let taken = take_intensities(job, &mut intensities);
     if is_whole_block(taken) {
-        return encode_block(job, run, block, &intensities);
+        return encode_block(job, run, block, &mut intensities);
     }
     without_intensities(job, run, taken)
 }

@@ -5,7 +5,6 @@ use cli_options::said::is_same_name;
 use cli_options::said::put_path;
 use cli_words::commands::Command;
 use cli_words::names::Name;
-use cli_words::names::input_of;
 use cli_words::names::is_file;
 use cli_words::names::name_at;
 use cli_words::names::output_of;
@@ -76,8 +75,7 @@ fn are_two(a: i32, a_name: Name, b: i32, b_name: Name) -> bool {
 
 // Are the inputs different files?
 pub fn are_inputs_apart(job: Job) -> bool {
-    let command = job.command;
-    let input = input_of(command);
+    let input = job.input_name;
     are_two(job.input, input, job.intensities, Name::Intensities)
         && are_two(job.layout_file, Name::Layout, job.input, input)
         && are_two(
@@ -90,8 +88,8 @@ pub fn are_inputs_apart(job: Job) -> bool {
 
 // Is the file that an output is, or takes the place of, none of the inputs?
 fn is_input_apart(job: Job, name: Name, fd: i32) -> bool {
-    let command = job.command;
-    are_two(job.input, input_of(command), fd, name)
+    let input = job.input_name;
+    are_two(job.input, input, fd, name)
         && are_two(job.intensities, Name::Intensities, fd, name)
         && are_two(job.layout_file, Name::Layout, fd, name)
 }

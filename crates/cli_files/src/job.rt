@@ -1,17 +1,19 @@
 // What a command works on.
 use cli_options::said::FileName;
 use cli_words::commands::Command;
+use cli_words::names::Name;
 use rules::Layout;
 
-// The input's block of a frame, in bytes; the files by their descriptors, -1 for none, and the outputs' names; where the text goes, -1 for nowhere;
 // The input's block of a frame, in bytes; the files by their descriptors, -1 for none, the input's option and the outputs' names; where the text goes,
 // -1 for nowhere; whether all of them could be opened; whether a person watches.
+// The input's block of a frame, in bytes; the files by their descriptors, -1 for none, the input's option and the outputs' names; where the text goes, -1 for nowhere;
 pub struct Job {
     pub command: Command,
     pub layout: Layout,
     pub size: usize,
     pub layout_file: i32,
     pub input: i32,
+    pub input_name: Name,
     pub intensities: i32,
     pub output: i32,
     pub output_file: FileName,

@@ -59,13 +59,29 @@ fn has_layout(command: Command, layout: Layout) -> bool {
     !takes_layout(command) || is_possible(layout)
 }
 
+// Are intensities needed, and not there? Mixing makes its own.
+fn lacks_intensities(options: Options, layout: Layout) -> bool {
+    has_secondary(layout)
+        && !is_given(options, Name::Intensities)
+        && !is_given(options, Name::Unmixed)
+}
+
+// The option of the input.
+fn input_name(options: Options) -> Name {
+    let command = options.command;
+    if is_given(options, Name::Unmixed) {
+        return Name::Unmixed;
+    }
+    input_of(command)
+}
+
 // Can the command be done with these words and this layout? If not, that is said.
 fn is_sound(options: Options, layout: Layout) -> bool {
     let command = options.command;
     if options.is_bad || !has_layout(command, layout) || !have_own_names(options) {
         return false;
     }
-    if is_encode(command) && has_secondary(layout) && !is_given(options, Name::Intensities) {
+    if is_encode(command) && lacks_intensities(options, layout) {
         refuse_option(options, Name::Intensities, MISSING_FOR_S);
         return false;
     }
@@ -96,6 +112,7 @@ fn unopened(options: Options, layout: Layout) -> Job {
         size: block_size(command, layout),
         layout_file: options.layout_file,
         input: -1,
+        input_name: input_name(options),
         intensities: -1,
         output: -1,
         output_file: no_file(),
@@ -111,7 +128,7 @@ fn unopened(options: Options, layout: Layout) -> Job {
 fn with_input(options: Options, job: Job) -> Job {
     let mut j = job;
     let command = job.command;
-    let file = file_of(options, input_of(command));
+    let file = file_of(options, input_name(options));
     if file.argument == 0 {
         j.is_ready = true;
         return j;

@@ -11,7 +11,7 @@ use text::lines::say;
 use text::tables::say_entry;
 
 // Line 0 is for nothing.
-const FAULTS: [u8; 515] = *b"\n\
+const FAULTS: [u8; 596] = *b"\n\
     \x20is an unknown command\n\
     \x20is an unknown word\n\
     \x20is not for this command or this file\n\
@@ -29,7 +29,9 @@ const FAULTS: [u8; 515] = *b"\n\
     \x20names no file\n\
     \x20is given without --loop-end\n\
     \x20is given without --loop-start\n\
-    \x20is given without --svg\n";
+    \x20is given without --svg\n\
+    \x20is missing, or --unmixed in its place\n\
+    \x20is given, and --unmixed in its place too\n";
 
 pub const UNKNOWN_COMMAND: usize = 1;
 
@@ -66,6 +68,10 @@ pub const WITHOUT_LOOP_END: usize = 16;
 pub const WITHOUT_LOOP_START: usize = 17;
 
 pub const WITHOUT_SVG: usize = 18;
+
+pub const NO_SPECTRA: usize = 19;
+
+pub const TWO_SPECTRA: usize = 20;
 
 // The file and the line of a word that comes from a layout file.
 fn say_origin(options: Options) {

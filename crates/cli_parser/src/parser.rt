@@ -8,9 +8,11 @@ use cli_options::faults::GIVEN_TWICE;
 use cli_options::faults::MISSING;
 use cli_options::faults::MISSING_FOR_LAYOUT;
 use cli_options::faults::NO_NUMBER;
+use cli_options::faults::NO_SPECTRA;
 use cli_options::faults::NO_VALUE;
 use cli_options::faults::NOT_WELCOME;
 use cli_options::faults::TAKES_NO_VALUE;
+use cli_options::faults::TWO_SPECTRA;
 use cli_options::faults::UNKNOWN_WORD;
 use cli_options::faults::WITHOUT_LOOP_END;
 use cli_options::faults::WITHOUT_LOOP_START;
@@ -23,6 +25,7 @@ use cli_options::options::is_given;
 use cli_options::options::waits;
 use cli_options::options::with_option;
 use cli_options::options::with_waiting;
+use cli_words::commands::is_encode;
 use cli_words::names::Name;
 use cli_words::names::is_needed;
 use cli_words::names::is_number;
@@ -215,11 +218,28 @@ fn paired(options: Options) -> Options {
     with_drawn_size(options)
 }
 
+// The stage takes spectra or unmixed ones.
+fn with_one_input(options: Options) -> Options {
+    let command = options.command;
+    if !is_encode(command) {
+        return options;
+    }
+    if is_half(options, Name::Spectra, Name::Unmixed)
+        || is_half(options, Name::Unmixed, Name::Spectra)
+    {
+        return options;
+    }
+    if is_given(options, Name::Spectra) {
+        return refuse_option(options, Name::Spectra, TWO_SPECTRA);
+    }
+    refuse_option(options, Name::Spectra, NO_SPECTRA)
+}
+
 // All that is there must be whole.
 pub(crate) fn whole_words(options: Options) -> Options {
     let o = complete(options);
     if o.is_bad {
         return o;
     }
-    paired(o)
+    with_one_input(paired(o))
 }

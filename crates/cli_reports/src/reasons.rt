@@ -6,7 +6,7 @@ use text::lines::put_text;
 use text::lines::say_line;
 
 // The line of each refusal, with its number and, where document 01 has one, the number beside it; line 0 is for any other.
-const FORMS: [u8; 1294] = *b"refusal #: unknown\n\
+const FORMS: [u8; 1363] = *b"refusal #: unknown\n\
     refusal #: the layout is outside its limits\n\
     refusal #: a lent buffer is too short\n\
     refusal # at #: a secondary's intensity is above 15\n\
@@ -29,7 +29,8 @@ const FORMS: [u8; 1294] = *b"refusal #: unknown\n\
     refusal #: it is no list: under 9 bytes, no VFI at its start, or not of version 1\n\
     refusal #: its length is not 9 bytes and 8 for each of its frames\n\
     refusal #: a frame's level is above 511, its boundary above 127, or its pairs are above 63\n\
-    refusal #: it has no such frame\n";
+    refusal #: it has no such frame\n\
+    refusal #: the magnitude of an unmixed spectrum value is above 65536\n";
 
 // Each number has its own line, so that a number that is withdrawn moves no other.
 fn line_for(number: usize) -> usize {
@@ -48,6 +49,7 @@ fn line_for(number: usize) -> usize {
         14 => 12,
         15 => 13,
         16 => 14,
+        17 => 24,
         19 => 20,
         20 => 21,
         21 => 22,

@@ -18,10 +18,12 @@ use cli_words::commands::is_check;
 use refusals::Refusal;
 use refusals::read_refusal;
 use refusals::stage_refusal;
+use refusals::stereo::stereo_refusal;
 use refusals::write_refusal;
 use rules::ReadAnswer;
 use rules::StageAnswer;
 use rules::WriteAnswer;
+use rules_stereo::StereoAnswer;
 use text::forms::say_form;
 use text::lines::put_out;
 use text::places::more;
@@ -39,6 +41,13 @@ pub fn after_encode(job: Job, run: Run, answer: StageAnswer, frame: &[u8]) -> Ru
     let mut r = text_told(run, say_stage_row(text_to(job, run), &row));
     r.last = entry_of_frame(level, boundary, pairs, bits);
     with_bytes(job, r, frame)
+}
+
+pub fn after_mixing(job: Job, run: Run, answer: StereoAnswer, frame: &[u8]) -> Run {
+    let StereoAnswer::Of(stage) = answer else {
+        return ended_by(run, stereo_refusal(answer));
+    };
+    after_encode(job, run, stage, frame)
 }
 
 pub fn after_write(job: Job, run: Run, answer: WriteAnswer, frame: &[u8]) -> Run {

@@ -7,9 +7,9 @@ use text::lines::say;
 use text::tables::say_entry;
 
 // How a command is called, on a line each; the first is for none.
-const USAGES: [u8; 647] =
+const USAGES: [u8; 666] =
     *b"usage: hcaframe encode | read | write | check | header | wav | list .. ; hcaframe --help\n\
-    usage: hcaframe encode LAYOUT --spectra FILE [--intensities FILE] --out FILE [--list FILE] [--quiet]\n\
+    usage: hcaframe encode LAYOUT (--spectra FILE | --unmixed FILE) [--intensities FILE] --out FILE [--list FILE] [--quiet]\n\
     usage: hcaframe read LAYOUT --frames FILE [--records FILE] [--quiet]\n\
     usage: hcaframe write LAYOUT --records FILE --out FILE [--quiet]\n\
     usage: hcaframe check LAYOUT --frames FILE [--quiet]\n\
@@ -52,7 +52,8 @@ fn say_encode() -> bool {
         1,
         b"Makes frames from spectra, and tells each frame's level, boundary, pairs of bands removed and bits.\n\
           \x20 --spectra     f32, low byte first, frame after frame: channel, subframe, band (channels x 8 x 128)\n\
-          \x20 --intensities 8 bytes a channel, frame after frame; needed if a channel is S\n\
+          \x20 --unmixed     in place of --spectra: the same before the stereo step, which mixes each pair and makes its intensities\n\
+          \x20 --intensities 8 bytes a channel, frame after frame; needed if a channel is S and the spectra are mixed\n\
           \x20 --out         the frames, one after the other; written only if every frame is made\n\
           \x20 --list        a list with the numbers of each frame, for up to 65535 of them; written only if every frame is made\n",
     )

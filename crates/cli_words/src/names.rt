@@ -28,10 +28,11 @@ pub enum Name {
     List,
     Frame,
     Svg,
+    Unmixed,
 }
 
 // An option's place is its line here.
-const NAMES: [u8; 197] = *b"\n\
+const NAMES: [u8; 207] = *b"\n\
     --kinds\n\
     --base\n\
     --stereo\n\
@@ -53,7 +54,8 @@ const NAMES: [u8; 197] = *b"\n\
     --samples\n\
     --list\n\
     --frame\n\
-    --svg\n";
+    --svg\n\
+    --unmixed\n";
 
 // Its place where something is kept for each option; 0 is for none.
 pub fn place_of(name: Name) -> usize {
@@ -81,6 +83,7 @@ pub fn place_of(name: Name) -> usize {
         Name::List => 20,
         Name::Frame => 21,
         Name::Svg => 22,
+        Name::Unmixed => 23,
     }
 }
 
@@ -109,6 +112,7 @@ pub fn name_at(place: usize) -> Name {
         20 => Name::List,
         21 => Name::Frame,
         22 => Name::Svg,
+        23 => Name::Unmixed,
         _ => Name::Unknown,
     }
 }
@@ -197,7 +201,7 @@ pub fn second_output_of(command: Command) -> Name {
 }
 
 // Who takes an option, a digit a command, the first command's on the right: 2 where it is needed, here or in a layout file, 1 where it may be given.
-// The intensities are asked for once the layout is known.
+// Of spectra and unmixed ones one is asked for, and intensities once the layout is known.
 fn takers(name: Name) -> usize {
     match name {
         Name::Unknown => 0,
@@ -207,7 +211,7 @@ fn takers(name: Name) -> usize {
         Name::Total => 22222,
         Name::FrameSize => 1022222,
         Name::Layout => 11111,
-        Name::Spectra => 2,
+        Name::Spectra => 1,
         Name::Intensities => 1,
         Name::Out => 20202,
         Name::Frames => 12020,
@@ -223,6 +227,7 @@ fn takers(name: Name) -> usize {
         Name::List => 2000001,
         Name::Frame => 1000000,
         Name::Svg => 1000000,
+        Name::Unmixed => 1,
     }
 }
 

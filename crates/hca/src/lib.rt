@@ -4,6 +4,7 @@ ghost use Rattle.crc.specs.Check.{checksum};
 ghost use Rattle.rules.specs.Stage.{stageLent};
 ghost use Rattle.rules.specs.Reader.{readerLent};
 ghost use Rattle.hca_encode.specs.Encoded.{encodedAs, encoded};
+ghost use Rattle.hca_stereo.specs.StereoEncoded.{stereoEncodedAs, stereoEncoded};
 ghost use Rattle.hca_read.specs.Returned.{returnedAs, returned};
 ghost use Rattle.hca_write.specs.Wrote.{wroteAs, wrote};
 ghost use Rattle.hca_header.specs.HeaderWrote.{headerAs, headerWrote};
@@ -17,6 +18,7 @@ use hca_list::list_summary;
 use hca_list::list_write;
 use hca_read::read_frame;
 use hca_wav::read_wav;
+use hca_stereo::encode_stereo_frame;
 use hca_write::write_record;
 
 // The frame stage. answer: level, boundary, pairs, bits.
@@ -39,6 +41,40 @@ pub extern "C" fn hca_encode_frame(
         (now (side .entry)) (now (frame .entry))) (now (answer .entry)) ⌝ }
 {
     encode_frame(
+        layout,
+        kinds,
+        spectra,
+        intensities,
+        scaled,
+        codes,
+        factors,
+        side,
+        frame,
+        answer,
+    )
+}
+
+// The stereo stage. answer: level, boundary, pairs, bits.
+#[no_mangle]
+pub extern "C" fn hca_encode_stereo_frame(
+    layout: &[u32],
+    kinds: &[u8],
+    spectra: &mut [f32],
+    intensities: &mut [u8],
+    scaled: &mut [f32],
+    codes: &mut [i32],
+    factors: &mut [u8],
+    side: &mut [u8],
+    frame: &mut [u8],
+    answer: &mut [u32],
+) -> u32
+    ensures { λ r. ⌜ stereoEncodedAs r (now (answer .exit)) (now (spectra .exit)) (now (intensities .exit)) (now (scaled .exit)) (now (codes .exit))
+        (now (factors .exit)) (now (side .exit)) (now (frame .exit))
+        ≡ stereoEncoded (now (layout .entry)) (now (kinds .entry))
+        (stageLent (now (spectra .entry)) (now (intensities .entry)) (now (scaled .entry)) (now (codes .entry)) (now (factors .entry))
+        (now (side .entry)) (now (frame .entry))) (now (answer .entry)) ⌝ }
+{
+    encode_stereo_frame(
         layout,
         kinds,
         spectra,

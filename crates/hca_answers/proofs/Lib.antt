@@ -1,3 +1,4 @@
 pub mod Places
 pub mod Fitting
 mod Refusing
+mod Stereos

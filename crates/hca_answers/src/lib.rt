@@ -1,4 +1,6 @@
 // An answer as numbers: the one that is returned, and those that are stored. An answer under four places stays untouched.
+pub mod stereo;
+
 ghost use mathlib.Core.List.{[], _∷_};
 ghost use Prim.Native.Nat.{_<_};
 ghost use Rattle.rules.specs.Refusals.{delivered, refused, stageOutcome, writerOutcome, readerOutcome};

@@ -7,7 +7,7 @@ use Rattle.rules_demands.proofs.StageAnswers.{StageBounded, answers-bounded, be
 use Rattle.hca_answers.specs.Outcomes.{Small}
 use Rattle.hca_answers.proofs.Fitting.{small-refused, small-four}
 
-bounded-small : (o : Outcome) → StageBounded o → Small o
+pub bounded-small : (o : Outcome) → StageBounded o → Small o
 bounded-small o (answers-bounded level boundary pairs bits h k m n) = small-four level boundary pairs bits (omega arith) (omega arith) (omega arith) (omega arith)
 bounded-small o (beside-bounded number beside h) = small-refused number beside h
 

@@ -8,6 +8,7 @@ use rules::WriteAnswer;
 
 pub mod header;
 pub mod list;
+pub mod stereo;
 pub mod wav;
 
 // A number of 0 stands for no refusal.

@@ -13,13 +13,18 @@
 //! which is done just before each frame.
 //! Counted for the reader: the whole call of hca_read_frame on the frames that
 //! the stage delivered.
-//! What is counted stands in the three functions counted_..: instructions.sh
-//! counts the instructions of these.
-use gen::speech::{crowded, frames};
+//! Stereo inputs are also taken from unmixed frames on (bench/stereo.rs).
+//! What is counted stands in functions counted_..: instructions.sh counts the
+//! instructions of these.
+#[path = "bench/stereo.rs"]
+mod stereo;
+
+use gen::speech::{crowded, frames, unmixed_frames};
 use published::driver::{all_steps, load, setup, Lent, StageCall};
 use published::hca::encoder::HcaEncoder;
 use std::hint::black_box;
 use std::time::Instant;
+use stereo::Stereo;
 
 /// What document 01 clears and the Rust leaves: scaled values and codes past the coded count.
 fn clear_past_coded(e: &mut HcaEncoder) {
@@ -39,11 +44,11 @@ fn counted_rust(e: &mut HcaEncoder) {
 }
 
 /// Nanoseconds of each frame.
-fn rust_pass(e: &mut HcaEncoder, calls: &[StageCall]) -> Vec<f64> {
+fn rust_pass(e: &mut HcaEncoder, calls: &[StageCall], counted: fn(&mut HcaEncoder)) -> Vec<f64> {
     let timed = |call| {
         load(e, call);
         let start = Instant::now();
-        counted_rust(e);
+        counted(e);
         start.elapsed().as_nanos() as f64
     };
     calls.iter().map(timed).collect()
@@ -172,13 +177,19 @@ struct Input {
     e: HcaEncoder,
     b: Lent,
     runs: Vec<Times>,
+    stereo: Option<Stereo>,
 }
 
 impl Input {
     fn new(name: &'static str, calls: Vec<StageCall>) -> Self {
         let (mut e, mut b) = (setup(&calls[0]), calls[0].lent());
         let made = same_frames(&mut e, &mut b, &calls);
-        Input { name, calls, made, e, b, runs: Vec::new() }
+        Input { name, calls, made, e, b, runs: Vec::new(), stereo: None }
+    }
+
+    fn with_unmixed(mut self, calls: Vec<StageCall>) -> Self {
+        self.stereo = Some(Stereo::new(calls, &mut self.e, &mut self.b));
+        self
     }
 
     fn run(&mut self, passes: usize) {
@@ -187,16 +198,23 @@ impl Input {
         for pass in 0..passes {
             // in turns, so that neither has the quieter machine
             if pass % 2 == 0 {
-                rust.push(rust_pass(&mut self.e, &self.calls));
+                rust.push(rust_pass(&mut self.e, &self.calls, counted_rust));
             }
             library.push(library_pass(&mut self.b, &mut spectra, &mut intensities, &self.calls));
             if pass % 2 == 1 {
-                rust.push(rust_pass(&mut self.e, &self.calls));
+                rust.push(rust_pass(&mut self.e, &self.calls, counted_rust));
             }
             reader.push(reader_pass(&mut self.b, &self.calls, &self.made.frames));
+            if let Some(stereo) = &mut self.stereo {
+                stereo.pass(&mut self.e, &mut self.b);
+            }
         }
         let reader = (!self.made.frames.is_empty()).then(|| mean_of_medians(&reader));
-        self.runs.push(Times { rust: mean_of_medians(&rust), library: mean_of_medians(&library), reader });
+        let library = mean_of_medians(&library);
+        if let Some(stereo) = &mut self.stereo {
+            stereo.end_run(library);
+        }
+        self.runs.push(Times { rust: mean_of_medians(&rust), library, reader });
     }
 
     /// The run whose ratio is the median, and the least and the greatest of all runs' ratios.
@@ -225,6 +243,9 @@ impl Input {
                 println!("  reader {t:.0}  library / reader {:.2} ({:.2} to {:.2})", run.library / t, shares[0], shares[n - 1])
             }
             None => println!(),
+        }
+        if let Some(stereo) = &self.stereo {
+            stereo.say();
         }
     }
 }
@@ -255,7 +276,8 @@ fn inputs(count: usize, only: &str) -> Vec<Input> {
         [("most removals, delivered", worst_delivered), ("most removals, refused", || crowded(8))];
     let mut all = Vec::new();
     for (name, channels, bitrate) in speech.into_iter().filter(|s| s.0.contains(only)) {
-        all.push(Input::new(name, frames(channels, bitrate, count)));
+        let input = Input::new(name, frames(channels, bitrate, count));
+        all.push(if channels == 2 { input.with_unmixed(unmixed_frames(channels, bitrate, count)) } else { input });
     }
     for (name, call) in most.into_iter().filter(|m| m.0.contains(only)) {
         all.push(Input::new(name, vec![call()]));

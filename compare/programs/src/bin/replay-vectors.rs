@@ -3,6 +3,8 @@
 mod header;
 #[path = "replay-vectors/list.rs"]
 mod list;
+#[path = "replay-vectors/stereo.rs"]
+mod stereo;
 #[path = "replay-vectors/wav.rs"]
 mod wav;
 
@@ -117,6 +119,7 @@ fn replay(file: &[u8]) -> (u32, Vec<u32>) {
             8 => list::lookup(&mut b),
             9 => list::summary(&mut b),
             10 => wav::replay(&mut b),
+            11 => stereo::replay(&mut b),
             _ => panic!("case {k} is of no kind"),
         };
         good && b.0.is_empty()

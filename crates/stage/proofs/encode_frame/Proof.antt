@@ -1,4 +1,4 @@
--- `stage::encode_frame` meets its contract: what the gate refuses is kept, and the rest is `cut`'s. Assumes nothing.
+-- `stage::encode_frame` meets its contract: what the gate refuses is kept, and the rest is the run on its parts. Assumes nothing.
 use mathlib.Core.Path.{refl, sym, ap, _∙_}
 use Rattle.rules.specs.Refusals.{stageOutcome}
 use Rattle.rules.specs.Stage.{gated}

@@ -1,10 +1,10 @@
--- `stage::encode_parts` meets its contract. Assumes nothing.
+-- `stage_parts::encode_parts` meets its contract. Assumes nothing.
 use mathlib.Core.Path.{sym, _∙_}
 use lib.Seq.{length-take-le}
-use Rattle.stage.proofs.Wholes.{opened}
+use Rattle.stage_parts.proofs.Wholes.{opened}
 use borrow.Author.Needs.{needs}
-use Rattle.stage.proofs.encode_parts.Statement.{statement}
-use Rattle.stage.proofs.encode_parts.Tie as tie
+use Rattle.stage_parts.proofs.encode_parts.Statement.{statement}
+use Rattle.stage_parts.proofs.encode_parts.Tie as tie
 
 mul-n : tie.Need-mul-n
 mul-n c = search needs

@@ -1,0 +1,12 @@
+-- `mixing_values::ratio_bounds` meets its contract. The decimals are the table's patterns. Assumes nothing.
+use mathlib.Core.Path.{refl}
+use Rattle.rules_stereo.specs.Mixed.{ratioBounds}
+use Rattle.mixing_values.proofs.ratio_bounds.Statement.{statement}
+use Rattle.mixing_values.proofs.ratio_bounds.Tie as tie
+
+returns : tie.Need-returns
+unfolding ratioBounds
+returns c = record { table = refl }
+
+pub ratio-bounds-spec : {M : Type 1} → statement M
+ratio-bounds-spec = tie.close (tie.spec returns)

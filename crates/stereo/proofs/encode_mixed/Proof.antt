@@ -1,0 +1,52 @@
+-- `stereo::encode_mixed` meets its contract. Assumes nothing.
+use Rattle.stereo.proofs.Fronts.{mixed-run}
+use borrow.Author.Needs.{needs}
+use Rattle.stereo.proofs.encode_mixed.Statement.{statement}
+use Rattle.stereo.proofs.encode_mixed.Tie as tie
+
+mix-parts-requires : tie.Need-mix-parts-requires
+mix-parts-requires c κs = search needs
+
+encode-parts-requires : tie.Need-encode-parts-requires
+encode-parts-requires c κs = search needs
+
+same-length : tie.Need-same-length
+same-length c = c .before .before .before .before .before .before .before .before .before .before .before .before .before .before .before .before .before .before .before .before .before .mix-parts .kept .1 .0
+
+same-length-2 : tie.Need-same-length-2
+same-length-2 c = c .before .before .before .before .before .before .before .before .before .before .before .before .before .before .before .before .before .before .before .before .before .mix-parts .kept .1 .1 .0
+
+same-length-3 : tie.Need-same-length-3
+same-length-3 c = c .before .before .before .before .before .before .before .before .before .encode-parts .kept .1 .1 .1 .0
+
+same-length-4 : tie.Need-same-length-4
+same-length-4 c = c .before .before .before .before .before .before .before .before .before .encode-parts .kept .1 .1 .1 .1 .0
+
+same-length-5 : tie.Need-same-length-5
+same-length-5 c = c .before .before .before .before .before .before .before .before .before .encode-parts .kept .1 .1 .1 .1 .1 .0
+
+same-length-6 : tie.Need-same-length-6
+same-length-6 c = c .before .before .before .before .before .before .before .before .before .encode-parts .kept .1 .1 .1 .1 .1 .1 .0
+
+same-length-7 : tie.Need-same-length-7
+same-length-7 c = c .before .before .before .before .before .before .before .before .before .encode-parts .kept .1 .1 .1 .1 .1 .1 .1 .0
+
+returns : tie.Need-returns
+returns c =
+    let m = c .before .before .before .before .before .before .before .before .before .before .before .before .before .before .before .before .before .before .before .before .before .mix-parts in
+    mixed-run _ _ _ _ _ _ _ _ _ _ (m .ensures .0) (m .ensures .1) (c .before .before .before .before .before .before .before .before .before .encode-parts .ensures)
+
+pub encode-mixed-spec : {M : Type 1} → statement M
+encode-mixed-spec =
+    tie.close
+    (tie.spec
+    mix-parts-requires
+    encode-parts-requires
+    same-length
+    same-length-2
+    same-length-3
+    same-length-4
+    same-length-5
+    same-length-6
+    same-length-7
+    returns)

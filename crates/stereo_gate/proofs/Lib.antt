@@ -1,0 +1,2 @@
+pub mod Loud
+pub mod Opened
