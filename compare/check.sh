@@ -18,3 +18,5 @@ target/release/compare-list --small
 target/release/compare-wav --small
 target/release/replay-vectors vec/stereo.vec
 target/release/compare-stereo --small
+target/release/replay-vectors vec/line.vec
+target/release/compare-line --small

@@ -269,6 +269,10 @@ void one_call(struct source *s)
         hostile_stereo(s);
         return;
     }
+    if (one_in(s, 8)) {
+        hostile_line(s);
+        return;
+    }
     switch (pick(s, 16)) {
     case 0: hostile_checksum(s); break;
     case 1: case 2: case 3: case 4: case 5: hostile_encode(s); break;

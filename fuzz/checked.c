@@ -13,6 +13,7 @@ static const char *const names[FUNCTIONS] = {
     [READ] = "hca_read_frame",
     [CHECKSUM] = "hca_checksum",
     [STEREO] = "hca_encode_stereo_frame",
+    [LINE] = "hca_encode_line",
 };
 /* which numbers a call can give, a bit each; there is no 6 and no 10 */
 const uint32_t can_give[FUNCTIONS] = {
@@ -27,12 +28,14 @@ const uint32_t can_give[FUNCTIONS] = {
     [LIST_SUMMARY] = 0x380005,
     [WAV] = 0x43C00005,
     [STEREO] = 0x200BF,
+    [LINE] = 0x400BF,
 };
 static const size_t delivered_places[FUNCTIONS] = {
     [ENCODE] = 4,
     [WRITE] = 3,
     [READ] = 3,
     [STEREO] = 4,
+    [LINE] = 0,
 };
 
 struct expected before_the_work(const struct part *parts, int count, int legal, size_t answer_len)
@@ -47,7 +50,8 @@ struct expected before_the_work(const struct part *parts, int count, int legal, 
 
 static void check_written(const struct part *p, uint32_t number)
 {
-    if ((number >= 1 && number <= 4) || number >= 15) {
+    int of_a_frame = p->use == IN_ORDER && (number == HCA_BAD_INTENSITY || number == HCA_BAD_SPECTRUM);
+    if (((number >= 1 && number <= 4) || number >= 15) && !of_a_frame) {
         is_untouched(p->b);
         return;
     }
@@ -60,6 +64,8 @@ static void check_answer(enum function f, const struct lent *answer, uint32_t nu
 {
     if (answer->count < 4)
         is_untouched(answer);
+    else if (f == LINE && number >= 3 && number <= 7)
+        rest_is_untouched(answer, 2); /* with the frame's index */
     else
         rest_is_untouched(answer, number == 0 ? delivered_places[f] : 1);
 }

@@ -9,6 +9,7 @@
 /* The buffers of a call. */
 struct set {
     struct lent layout, kinds, spectra, intensities, record, scaled, codes, factors, side, frame, answer;
+    struct lent answers, tally; /* of a line, whose frames stand in frame */
 };
 
 /* A call and two calls that check it can be open at once. */
@@ -31,7 +32,8 @@ struct expected {
 enum use {
     READ_ONLY,
     WRITTEN,
-    MIXED /* read and written; a refusal after the work leaves what the work made */
+    MIXED,   /* read and written; a refusal after the work leaves what the work made */
+    IN_ORDER /* written frame after frame; a frame's refusal leaves what stood before it */
 };
 struct part {
     struct lent *b;

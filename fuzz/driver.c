@@ -85,6 +85,7 @@ static int report(void)
         [LIST_SUMMARY] = "list_summary",
         [WAV] = "read_wav",
         [STEREO] = "encode_stereo_frame",
+        [LINE] = "encode_line",
     };
     int missing = 0;
     uint32_t some = 0;

@@ -273,3 +273,70 @@ uint32_t __wrap_hca_encode_stereo_frame(const uint32_t *layout, size_t layout_le
         codes[0] = -codes[0];
     return number;
 }
+
+/* ---- the line */
+
+extern __typeof__(hca_encode_line) __real_hca_encode_line;
+
+uint32_t __wrap_hca_encode_line(const uint32_t *layout, size_t layout_len, const uint8_t *kinds, size_t kinds_len, size_t count,
+                                const float *spectra, size_t spectra_len, const uint8_t *intensities, size_t intensities_len,
+                                float *scaled, size_t scaled_len, int32_t *codes, size_t codes_len, uint8_t *factors,
+                                size_t factors_len, uint8_t *side, size_t side_len, uint8_t *frames, size_t frames_len,
+                                uint32_t *answers, size_t answers_len, uint64_t *tally, size_t tally_len, uint32_t *answer,
+                                size_t answer_len)
+{
+    uint32_t number = __real_hca_encode_line(layout, layout_len, kinds, kinds_len, count, spectra, spectra_len, intensities,
+                                             intensities_len, scaled, scaled_len, codes, codes_len, factors, factors_len, side,
+                                             side_len, frames, frames_len, answers, answers_len, tally, tally_len, answer,
+                                             answer_len);
+    int of_a_frame = number >= 3 && number <= 7;
+    size_t f = number == 1 ? 0 : layout[4], k = of_a_frame ? answer[1] : 0;
+    if (is_fault("tally-counts-a-refused-frame") && of_a_frame)
+        tally[0] += 1;
+    if (is_fault("tally-of-the-last-frame-only") && number == 0 && count > 1)
+        tally[1] = answers[4 * count - 1];
+    if (is_fault("bits-and-pairs-exchanged") && number == 0) {
+        uint64_t bits = tally[1];
+        tally[1] = tally[2];
+        tally[2] = bits;
+    }
+    if (is_fault("tally-past-its-three-counts") && number == 0 && tally_len > 3)
+        tally[3] ^= 1;
+    if (is_fault("index-one-off") && of_a_frame)
+        answer[1] += 1;
+    if (is_fault("place-of-the-whole-line") && number == 4 && k > 0)
+        answer[0] += (uint32_t)k * 1024 * layout[0];
+    if (is_fault("answers-before-the-refusal") && of_a_frame)
+        answers[4 * k] = 0;
+    if (is_fault("frame-a-byte-late") && number == 0 && count > 1)
+        frames[f] ^= 1;
+    if (is_fault("later-areas-cleared") && of_a_frame && k + 1 < count)
+        memset(frames + (k + 1) * f, 0, f);
+    if (is_fault("earlier-frames-cleared") && of_a_frame && k > 0)
+        memset(frames, 0, f);
+    if (is_fault("line-refusal-4-clears-its-area") && number == 4)
+        memset(frames + k * f, 0, f);
+    if (is_fault("line-refusal-5-leaves-a-code") && number == 5)
+        codes[0] = 1;
+    if (is_fault("line-refusal-4-clears-the-work") && number == 4)
+        memset(factors, 0, 128);
+    if (is_fault("line-refusal-18-as-2") && number == 18)
+        number = 2;
+    if (is_fault("line-takes-any-count") && number == 18 && count > 65535)
+        number = 0;
+    if (is_fault("line-refuses-65535") && number == 2 && count == 65535)
+        number = 18;
+    if (is_fault("line-refuses-2-to-the-63") && number == 0 && tally[2] >= (uint64_t)1 << 63)
+        number = 18;
+    if (is_fault("delivered-line-writes-the-answer") && number == 0)
+        answer[0] = 0;
+    if (is_fault("line-refusal-2-tells-an-index") && number == 2 && answer_len >= 4)
+        answer[1] = 0;
+    if (is_fault("no-frames-clear-the-work") && number == 0 && count == 0)
+        memset(side, 0, 8);
+    if (is_fault("line-writes-past-the-frames") && number == 0 && frames_len > count * f)
+        frames[count * f] ^= 1;
+    if (is_fault("line-reads-past-the-spectra") && number == 0)
+        sink = ((const uint8_t *)spectra)[4 * spectra_len];
+    return number;
+}

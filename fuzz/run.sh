@@ -15,6 +15,7 @@ shared="$shared files.c header.c"
 shared="$shared list.c"
 shared="$shared wav.c"
 shared="$shared stereo.c"
+shared="$shared line.c"
 if [ ! -f "$lib" ]; then
     echo "$lib is not there: run rt staticlib hca first" >&2
     exit 2
@@ -26,6 +27,7 @@ wrap=$wrap,--wrap=hca_write_header
 wrap=$wrap,--wrap=hca_list_write,--wrap=hca_list_read,--wrap=hca_list_lookup,--wrap=hca_list_summary
 wrap=$wrap,--wrap=hca_read_wav
 wrap=$wrap,--wrap=hca_encode_stereo_frame
+wrap=$wrap,--wrap=hca_encode_line
 sanitizers="-fsanitize=address,undefined -fno-sanitize-recover=undefined"
 
 build_driver() { # $1: the program, then flags

@@ -2,6 +2,7 @@
 
    hca_encode_frame   spectra of one frame                -> a frame, or a numbered refusal
    hca_encode_stereo_frame  unmixed spectra of one frame  -> the same, its pairs mixed first
+   hca_encode_line    spectra of up to 65,535 frames      -> their frames, each as hca_encode_frame makes it
    hca_read_frame     a frame                             -> its record (level, boundary, factors, side, codes)
    hca_write_record   a record                            -> its frame
    hca_checksum       bytes                               -> their check
@@ -52,6 +53,13 @@ extern "C" {
 #define HCA_INTENSITIES_LENGTH(channels) ((size_t)(channels) * HCA_SUBFRAME_COUNT)
 #define HCA_SIDE_LENGTH(channels) ((size_t)(channels) * HCA_SUBFRAME_COUNT)
 
+/* Of a line of frames, by the number of frames too; the work buffers of a line have one frame's length. */
+#define HCA_LINE_MAX_FRAMES 65535
+#define HCA_LINE_SPECTRA_LENGTH(channels, count) ((size_t)(count) * HCA_SPECTRA_LENGTH(channels))
+#define HCA_LINE_INTENSITIES_LENGTH(channels, count) ((size_t)(count) * HCA_INTENSITIES_LENGTH(channels))
+#define HCA_LINE_FRAMES_LENGTH(frame_size, count) ((size_t)(count) * (size_t)(frame_size))
+#define HCA_LINE_ANSWERS_LENGTH(count) ((size_t)(count) * HCA_ENCODED_COUNT)
+
 /* layout: five numbers in this order. Numbers after the fifth are not looked at, but a later version may: pass five. */
 enum hca_layout {
     HCA_CHANNELS = 0,       /* C: 1 to 16 */
@@ -91,6 +99,20 @@ enum hca_encoded {
     HCA_ENCODED_PAIRS = 2,      /* pairs of bands removed before a level was found */
     HCA_ENCODED_BITS = 3,       /* bits of all fields, those before the fill */
     HCA_ENCODED_COUNT = 4       /* how many numbers it delivers */
+};
+
+/* tally: what a caller's lines have delivered so far, three counts of at most 2^63 each. hca_encode_line brings them up to date. */
+enum hca_tally {
+    HCA_TALLY_FRAMES = 0,       /* frames delivered */
+    HCA_TALLY_BITS = 1,         /* their bits, those before the fill */
+    HCA_TALLY_PAIRS = 2,        /* their pairs of bands removed */
+    HCA_TALLY_COUNT = 3         /* how many counts a tally has */
+};
+
+/* answer of hca_encode_line, at a refusal only. */
+enum hca_line_answer {
+    HCA_LINE_BESIDE = 0,        /* the number beside the refusal; with 3 and 4 an index within that frame's part */
+    HCA_LINE_FRAME = 1          /* with 3, 4, 5 and 7 the index of the frame that was refused */
 };
 
 /* What hca_read_frame and hca_write_record deliver. The first two are what hca_write_record takes as record. */
@@ -134,6 +156,7 @@ enum hca_summary {
    elements that the layout asks for (the stage's five, the reader's factors, side and codes, the writer's frame),
    so no half of a frame can be taken for a whole one.
    The stereo stage refuses in the order 1, 2, 3, 4, 17, 5, 7 and leaves spectra and intensities as mixed after 5 and 7.
+   A line's 18 comes between 1 and 2 and changes nothing; what its frames leave is said at hca_encode_line.
    The stage refuses in the order 1, 2, 3, 4, 5, 7, the writer 1, 2, 15, 7, the reader 1, 2, 8, 9, then the first fault in bit
    order, 14 last, the file header's writer 1, 2, 16. The list's writer refuses in the order 2, 21, its reader 19, 20, 2, 21, the
    lookup 19, 20, 21, 31, the summary 19, 20, 21. 6 and 10 are withdrawn and come from no call. A later version may add further
@@ -158,6 +181,7 @@ enum hca_refusal {
     HCA_BAD_HEADER = 16,    /* more than eight channels, or a rate, count, padding or loop point that the file header has no
                                room for */
     HCA_TOO_LOUD = 17,      /* hca_encode_stereo_frame: a spectrum's magnitude is above 65,536, in any band; beside: 0 */
+    HCA_BAD_BATCH = 18,     /* a line of more than 65,535 frames, or a count of its tally above 2^63; beside: 0 */
     HCA_BAD_LIST_MARK = 19, /* a list under 9 bytes, or with another mark or version; beside: 0 */
     HCA_BAD_LIST_LENGTH = 20, /* a list's length is not 9 + 8 x its count, in 64 bits; a longer slice too; beside: 0 */
     HCA_BAD_ENTRY = 21,     /* in any entry a level above 511, a boundary above 127 or more than 63 pairs; beside: 0 */
@@ -198,6 +222,7 @@ static inline const char *hca_refusal_text(uint32_t refusal)
     case HCA_BAD_ENTRY: return "an entry of the list has a level above 511, a boundary above 127 or more than 63 pairs";
     case HCA_NO_FRAME: return "the list has no frame of this number";
     case HCA_TOO_LOUD: return "a spectrum's magnitude is above 65,536";
+    case HCA_BAD_BATCH: return "a line has more than 65,535 frames, or a count of its tally is above 2^63";
     default: return "a refusal that this header does not know";
     }
 }
@@ -241,6 +266,29 @@ uint32_t hca_encode_stereo_frame(
     uint8_t *side, size_t side_len,
     uint8_t *frame, size_t frame_len,
     uint32_t *answer, size_t answer_len);               /* written: 4 places or more, see enum hca_encoded */
+
+/* A whole line: count frames of one layout, tried in their order, each as hca_encode_frame would make it.
+   Refuses with 1, 18, 2, which change nothing but answer[0], or with the first frame's 3, 4, 5 or 7. Frame k's part of a
+   buffer is the k-th of count equal parts: spectra k x C x 1,024, intensities k x C x 8, frames k x F, answers k x 4.
+   At a refusal of frame k the frames before it stand: their bytes, answers and counts. Frame k's bytes are as lent after 3
+   and 4 and zero after 5 and 7; its answers and all that is behind it are as lent. The four work buffers are those of the
+   last frame tried: after 3 and 4 as after frame k - 1, after 5 and 7 zero. With count 0 nothing changes and the call
+   delivers; 1, 18 and 2 are judged first, and the work buffers still need one frame's length. */
+uint32_t hca_encode_line(
+    const uint32_t *layout, size_t layout_len,          /* read: 5 numbers, see enum hca_layout */
+    const uint8_t *kinds, size_t kinds_len,             /* read: C bytes, see enum hca_kind */
+    size_t count,                                       /* frames: 0 to 65,535 */
+    const float *spectra, size_t spectra_len,           /* read: count x C x 1,024 by frame, channel, subframe, band */
+    const uint8_t *intensities, size_t intensities_len, /* read: count x C x 8 by frame, channel, subframe */
+    float *scaled, size_t scaled_len,                   /* written: C x 1,024, the last frame's */
+    int32_t *codes, size_t codes_len,                   /* written: C x 1,024, the last frame's */
+    uint8_t *factors, size_t factors_len,               /* written: C x 128, the last frame's */
+    uint8_t *side, size_t side_len,                     /* written: C x 8, the last frame's */
+    uint8_t *frames, size_t frames_len,                 /* written: count x F bytes */
+    uint32_t *answers, size_t answers_len,              /* written: count x 4 of the delivered frames, see enum hca_encoded */
+    uint64_t *tally, size_t tally_len,                  /* read and written: 3 counts, see enum hca_tally; fewer are refusal
+                                                           2, after 18 by the counts that are there */
+    uint32_t *answer, size_t answer_len);               /* written at a refusal: 4 places or more, see enum hca_line_answer */
 
 /* The record writer: writes the one frame of a legal record. Refuses with 1, 2, 15 or 7.
    Legal: level 0..511; boundary 0..127; factors and HFR scales 0..63; intensities 0..15; codes within the range of their

@@ -9,6 +9,7 @@ const SOURCES: &[&str] = &[
     "list.cpp",
     "wav.cpp",
     "stereo.cpp",
+    "line.cpp",
 ];
 
 fn run(command: &mut Command) {

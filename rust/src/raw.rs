@@ -23,3 +23,6 @@ pub use list::{list_lookup, list_read, list_summary, list_write};
 include!("stereo_call.rs");
 
 stereo_call!(hca_encode_stereo_frame);
+
+mod line;
+pub use line::encode_line;

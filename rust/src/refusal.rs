@@ -61,6 +61,8 @@ impl Refusal {
     pub const NO_FRAME: u32 = 31;
     /// A magnitude of unmixed spectra is above 65,536; `place` is 0.
     pub const TOO_LOUD: u32 = 17;
+    /// A line has more than 65,535 frames, or a count of its tally is above 2^63; `place` is 0.
+    pub const BAD_BATCH: u32 = 18;
 }
 
 /// What a refusal is about: its number by a name that a `match` can use.
@@ -127,6 +129,8 @@ pub enum RefusalKind {
     NoFrame,
     /// [`Refusal::TOO_LOUD`].
     TooLoud,
+    /// [`Refusal::BAD_BATCH`].
+    BadBatch,
     /// A number that this crate has no name for. A later version may have one: match it by `_`.
     Unknown,
 }
@@ -160,6 +164,7 @@ impl Refusal {
             Self::BAD_ENTRY => RefusalKind::BadEntry,
             Self::NO_FRAME => RefusalKind::NoFrame,
             Self::TOO_LOUD => RefusalKind::TooLoud,
+            Self::BAD_BATCH => RefusalKind::BadBatch,
             _ => RefusalKind::Unknown,
         }
     }
@@ -198,6 +203,7 @@ impl fmt::Display for Refusal {
             }
             Self::NO_FRAME => write!(f, "the list has no frame of this number"),
             Self::TOO_LOUD => write!(f, "a spectrum's magnitude is above 65,536"),
+            Self::BAD_BATCH => write!(f, "the line has more than 65,535 frames, or a count of its tally is above 2^63"),
             _ => write!(f, "unknown to this crate, with {at} beside it"),
         }
     }

@@ -3,6 +3,7 @@
 pub mod bands;
 pub mod corners;
 pub mod header;
+pub mod line;
 pub mod list;
 pub mod records;
 pub mod rng;

@@ -392,7 +392,7 @@ pub(crate) fn lengthen(r: &mut Rng, call: &mut StageCall) {
 }
 
 /// A small call that delivers, to be spoilt in one place.
-fn plain(r: &mut Rng) -> StageCall {
+pub(crate) fn plain(r: &mut Rng) -> StageCall {
     let n = r.range(1, 3) as usize;
     let kinds = kinds(r, n);
     let mut call = StageCall::exact(&kinds, 20, 10, 60, 150 * n as u32);
@@ -401,7 +401,7 @@ fn plain(r: &mut Rng) -> StageCall {
     call
 }
 
-fn shorter(r: &mut Rng, length: usize) -> usize {
+pub(crate) fn shorter(r: &mut Rng, length: usize) -> usize {
     match r.below(3) {
         0 => length - 1,
         1 => 0,

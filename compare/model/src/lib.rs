@@ -20,6 +20,10 @@ include!("../../../rust/src/stereo_call.rs");
 
 stereo_call!(model_encode_stereo_frame);
 
+include!("../../calls/line.rs");
+
+line_call!(model_encode_line);
+
 type Over<'a> = &'a mut dyn FnMut(u32) -> bool;
 
 extern "C" {

@@ -2,5 +2,6 @@
 pub mod driver;
 pub mod hca;
 pub mod header;
+pub mod line;
 pub mod stereo;
 pub mod wav;

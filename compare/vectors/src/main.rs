@@ -1,6 +1,7 @@
 //! Writes the fixed vectors of VECTORS.md: `vectors FOLDER`. With `--check FOLDER`
 //! it writes nothing and says whether the files there are these.
 mod header;
+mod line;
 mod list;
 mod stereo;
 mod wav;
@@ -283,6 +284,7 @@ fn main() {
         ("list", list::file()),
         ("wav", wav::file()),
         ("stereo", stereo::file()),
+        ("line", line::file()),
     ];
     for (name, file) in files {
         let bytes = file.finish();

@@ -3,8 +3,10 @@ ghost use mathlib.Core.Path.{_≡_};
 ghost use Rattle.crc.specs.Check.{checksum};
 ghost use Rattle.rules.specs.Stage.{stageLent};
 ghost use Rattle.rules.specs.Reader.{readerLent};
+ghost use Rattle.rules_line.specs.Line.{lineLent};
 ghost use Rattle.hca_encode.specs.Encoded.{encodedAs, encoded};
 ghost use Rattle.hca_stereo.specs.StereoEncoded.{stereoEncodedAs, stereoEncoded};
+ghost use Rattle.hca_line.specs.Lined.{linedAs, lined};
 ghost use Rattle.hca_read.specs.Returned.{returnedAs, returned};
 ghost use Rattle.hca_write.specs.Wrote.{wroteAs, wrote};
 ghost use Rattle.hca_header.specs.HeaderWrote.{headerAs, headerWrote};
@@ -12,13 +14,14 @@ ghost use Rattle.hca_wav.specs.Takes.{takeAs, takeRead};
 ghost use Rattle.hca_list.specs.Listed.{listWroteAs, listWrote, listReturnedAs, listReturned, answeredAs, entryAnswered, summaryAnswered};
 use hca_encode::encode_frame;
 use hca_header::write_header;
+use hca_line::encode_line;
 use hca_list::list_lookup;
 use hca_list::list_read;
 use hca_list::list_summary;
 use hca_list::list_write;
 use hca_read::read_frame;
-use hca_wav::read_wav;
 use hca_stereo::encode_stereo_frame;
+use hca_wav::read_wav;
 use hca_write::write_record;
 
 // The frame stage. answer: level, boundary, pairs, bits.
@@ -84,6 +87,45 @@ pub extern "C" fn hca_encode_stereo_frame(
         factors,
         side,
         frame,
+        answer,
+    )
+}
+
+// A line of frames of one layout. tally: frames, bits, pairs; answer: at a refusal the number beside it and, from 3 on, the frame's index.
+#[no_mangle]
+pub extern "C" fn hca_encode_line(
+    layout: &[u32],
+    kinds: &[u8],
+    count: usize,
+    spectra: &[f32],
+    intensities: &[u8],
+    scaled: &mut [f32],
+    codes: &mut [i32],
+    factors: &mut [u8],
+    side: &mut [u8],
+    frames: &mut [u8],
+    answers: &mut [u32],
+    tally: &mut [u64],
+    answer: &mut [u32],
+) -> u32
+    ensures { λ r. ⌜ linedAs r (now (answer .exit)) (now (scaled .exit)) (now (codes .exit)) (now (factors .exit)) (now (side .exit))
+        (now (frames .exit)) (now (answers .exit)) (now (tally .exit)) ≡ lined (now (layout .entry)) (now (kinds .entry)) count
+        (lineLent (now (spectra .entry)) (now (intensities .entry)) (now (scaled .entry)) (now (codes .entry)) (now (factors .entry))
+        (now (side .entry)) (now (frames .entry)) (now (answers .entry))) (now (tally .entry)) (now (answer .entry)) ⌝ }
+{
+    encode_line(
+        layout,
+        kinds,
+        count,
+        spectra,
+        intensities,
+        scaled,
+        codes,
+        factors,
+        side,
+        frames,
+        answers,
+        tally,
         answer,
     )
 }

@@ -7,6 +7,7 @@ use rules::StageAnswer;
 use rules::WriteAnswer;
 
 pub mod header;
+pub mod line;
 pub mod list;
 pub mod stereo;
 pub mod wav;

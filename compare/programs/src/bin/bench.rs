@@ -14,8 +14,12 @@
 //! Counted for the reader: the whole call of hca_read_frame on the frames that
 //! the stage delivered.
 //! Stereo inputs are also taken from unmixed frames on (bench/stereo.rs).
+//! Lines of 400 frames are taken in one call and in 400 (bench/line.rs); P times
+//! in a run too.
 //! What is counted stands in functions counted_..: instructions.sh counts the
 //! instructions of these.
+#[path = "bench/line.rs"]
+mod line;
 #[path = "bench/stereo.rs"]
 mod stereo;
 
@@ -303,8 +307,11 @@ fn main() {
     }
     println!("Rust / library above 1 means that the library is faster. In brackets the least and the greatest of {runs} runs.");
     let mut inputs = inputs(count, &only);
+    let mut lines = line::lines(&only);
     for _ in 0..runs {
         inputs.iter_mut().for_each(|input| input.run(passes));
+        lines.iter_mut().for_each(|line| line.run(passes));
     }
     inputs.iter_mut().for_each(Input::say);
+    lines.iter_mut().for_each(line::Line::say);
 }

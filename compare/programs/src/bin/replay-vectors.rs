@@ -1,6 +1,8 @@
 //! Replays the fixed vectors of VECTORS.md on the library: `replay-vectors FILE..`.
 #[path = "replay-vectors/header.rs"]
 mod header;
+#[path = "replay-vectors/line.rs"]
+mod line;
 #[path = "replay-vectors/list.rs"]
 mod list;
 #[path = "replay-vectors/stereo.rs"]
@@ -120,6 +122,7 @@ fn replay(file: &[u8]) -> (u32, Vec<u32>) {
             9 => list::summary(&mut b),
             10 => wav::replay(&mut b),
             11 => stereo::replay(&mut b),
+            12 => line::replay(&mut b),
             _ => panic!("case {k} is of no kind"),
         };
         good && b.0.is_empty()

@@ -1,0 +1,3 @@
+pub mod Singles
+pub mod Standing
+pub mod Lines

@@ -1,0 +1,145 @@
+-- The single call as a line uses it: lengths stay, and the work buffers' content does not matter. Assumes nothing.
+use mathlib.Core.Path.{_≡_, refl, sym, _∙_, ap, ap₂}
+use mathlib.Core.List.{List, [], _∷_, _++_}
+use mathlib.Core.Option.{Option, none, some}
+use mathlib.Core.Bool.{true, not}
+use Prim.Native.Nat.{ℕ, _+_, _-_, _≤_}
+use native.Mathlib.Omega.{arith}
+use borrow.Author.Tests.{le-leb}
+use lib.Dec.{ltb}
+use lib.ListN.{length, drop, take, length-append, length-drop, length-replicate}
+use Rattle.buffers.specs.Walk.{first}
+use Rattle.buffers.proofs.Tests.{cond-both}
+use Rattle.buffers.proofs.Blocks.{length-blocks}
+use Rattle.rules.specs.Layout.{Sizes, legalLayout, codedAt, frameSize, spectrumLength, factorLength, sideLength, hasRoom, part}
+use Rattle.rules.specs.Factor.{allFactors}
+use Rattle.rules.specs.Scaling.{channelScaled, allScaled}
+use Rattle.rules.specs.Frame.{fieldEnd, frameOf}
+use Rattle.rules.specs.Lent.{laid, noFloats, noCodes, noFactors, noSide, noFrame}
+use Rattle.rules.specs.Refusals.{Outcome}
+use Rattle.rules.specs.Stage.{StageLent, StageLeft, kept, cleared, stageLaid, gated, lentRoom, stageHasRoom, gate, made, madeFrom, madeRecord, finished, packed, settled, stage}
+use Rattle.rules.specs.declared.Layout.{Layout}
+use Rattle.rules.specs.declared.StageRoom.{StageRoom}
+use Rattle.rules.proofs.Answers.{Numbered, numbered, unnumbered}
+use Rattle.rules.proofs.Made.{scaled-size, made-factors, made-side, made-codes}
+use Rattle.rules_demands.proofs.Demand3.{frame-length}
+use Rattle.rules_demands.proofs.StageAnswers.{intensityBy, spectrumBy, madeBy, levelBy, bitsBy}
+
+-- ---- what each end of a call has, every end has
+
+pub stage-ends : (l : Layout) (t : StageLent) (P : StageLeft → Type 0) → ((o : Outcome) → P (kept t o)) → ((o : Outcome) → P (stageLaid t (cleared l o)))
+    → P (stageLaid t (finished l (madeBy l t))) → P (stage l t)
+unfolding stage gate gated settled packed
+stage-ends l t P keep clear done =
+    let Q : Option Outcome → Type 0 = λ g. P (gated g t (settled l (madeBy l t))) in
+    let R : StageLeft → Type 0 = λ x. P (stageLaid t x) in
+    cond-both Q (not (legalLayout l)) (λ _. keep _)
+    (λ _. cond-both Q (not (stageHasRoom l (lentRoom t))) (λ _. keep _)
+    (λ _. cond-both Q (ltb (intensityBy l t) (sideLength l)) (λ _. keep _)
+    (λ _. cond-both Q (ltb (spectrumBy l t) (spectrumLength l)) (λ _. keep _)
+    (λ _. cond-both R (ltb 254 (levelBy l t)) (λ _. clear _)
+    (λ _. cond-both R (ltb (fieldEnd l) (bitsBy l t)) (λ _. clear _) (λ _. done))))))
+
+-- ---- lengths
+
+-- the work buffers and the frame's area are long enough
+pub record Roomy (l : Layout) (t : StageLent) : Type 0 where
+  pub scaled : spectrumLength l ≤ length (t .scaled)
+  pub codes : spectrumLength l ≤ length (t .codes)
+  pub factors : factorLength l ≤ length (t .factors)
+  pub side : sideLength l ≤ length (t .side)
+  pub frame : frameSize l ≤ length (t .frame)
+
+-- every written buffer is as long as it was lent
+pub record AsLong (t : StageLent) (x : StageLeft) : Type 0 where
+  pub scaled : length (x .scaled) ≡ length (t .scaled)
+  pub codes : length (x .codes) ≡ length (t .codes)
+  pub factors : length (x .factors) ≡ length (t .factors)
+  pub side : length (x .side) ≡ length (t .side)
+  pub frame : length (x .frame) ≡ length (t .frame)
+
+laid-long : {A : Type 0} (n : ℕ) (new old : List A) → length new ≡ n → n ≤ length old → length (laid new old) ≡ length old
+laid-long n new old e h = omega (arith, length-append new (drop (length new) old), length-drop (length new) old)
+
+module _ (l : Layout) (z : Sizes l) (t : StageLent) (r : Roomy l t) where
+  scaled-long : length (madeBy l t .scaled) ≡ spectrumLength l
+  unfolding made madeFrom allScaled
+  scaled-long =
+      let xs = take (spectrumLength l) (t .spectra) in
+      length-blocks (λ c. channelScaled (part 1024 xs c) (part 128 (allFactors l xs) c) (codedAt l c)) 1024 (l .channels) (λ c _. scaled-size _ _ _) (l .channels) (omega arith)
+
+  cleared-long : (o : Outcome) → AsLong t (stageLaid t (cleared l o))
+  cleared-long o = record {
+    scaled = laid-long (spectrumLength l) (noFloats l) (t .scaled) (length-replicate (spectrumLength l) _) (r .scaled);
+    codes = laid-long (spectrumLength l) (noCodes l) (t .codes) (length-replicate (spectrumLength l) _) (r .codes);
+    factors = laid-long (factorLength l) (noFactors l) (t .factors) (length-replicate (factorLength l) 0) (r .factors);
+    side = laid-long (sideLength l) (noSide l) (t .side) (length-replicate (sideLength l) 0) (r .side);
+    frame = laid-long (frameSize l) (noFrame l) (t .frame) (length-replicate (frameSize l) 0) (r .frame);
+  }
+
+  finished-long : AsLong t (stageLaid t (finished l (madeBy l t)))
+  unfolding finished
+  finished-long =
+      let xs = take (spectrumLength l) (t .spectra) in
+      let is = take (sideLength l) (t .intensities) in
+      record {
+        scaled = laid-long (spectrumLength l) (madeBy l t .scaled) (t .scaled) scaled-long (r .scaled);
+        codes = laid-long (spectrumLength l) (madeBy l t .codes) (t .codes) (made-codes l xs is) (r .codes);
+        factors = laid-long (factorLength l) (madeBy l t .found .factors) (t .factors) (made-factors l xs is) (r .factors);
+        side = laid-long (sideLength l) (madeBy l t .side) (t .side) (made-side l xs is) (r .side);
+        frame = laid-long (frameSize l) (frameOf l (madeRecord l (madeBy l t))) (t .frame) (frame-length l z (madeRecord l (madeBy l t))) (r .frame);
+      }
+
+  pub stage-long : AsLong t (stage l t)
+  stage-long = stage-ends l t (AsLong t) (λ o. record { scaled = refl; codes = refl; factors = refl; side = refl; frame = refl }) cleared-long finished-long
+
+-- ---- any work buffers
+
+-- all lengths are granted
+pub room-granted : (l : Layout) (t : StageLent) → spectrumLength l ≤ length (t .spectra) → sideLength l ≤ length (t .intensities) → Roomy l t → stageHasRoom l (lentRoom t) ≡ true
+unfolding stageHasRoom hasRoom
+room-granted l t a b r =
+    rw (le-leb _ _ a, le-leb _ _ b, le-leb _ _ (r .scaled), le-leb _ _ (r .factors), le-leb _ _ (r .side), le-leb _ _ (r .codes), le-leb _ _ (r .frame))
+
+-- answer and frame are those of another call
+pub record SameFrame (x y : StageLeft) : Type 0 where
+  pub outcome : x .outcome ≡ y .outcome
+  pub frame : x .frame ≡ y .frame
+
+gated-same : (g : Option Outcome) (t u : StageLent) (x : StageLeft) → t .frame ≡ u .frame → SameFrame (gated g t x) (gated g u x)
+unfolding gated
+gated-same (some o) t u x e = record { outcome = refl; frame = e }
+gated-same none t u x e = record { outcome = refl; frame = ap (λ ys. laid (x .frame) ys) e }
+
+gate-same : (l : Layout) (r s : StageRoom) (t u : StageLent) → t .spectra ≡ u .spectra → t .intensities ≡ u .intensities → stageHasRoom l r ≡ stageHasRoom l s
+    → gate l r (t .spectra) (t .intensities) ≡ gate l s (u .spectra) (u .intensities)
+unfolding gate
+gate-same l r s t u a b h = rw (a, b, h)
+
+-- Answer and frame depend on spectra, intensities and the frame's area, and on the work buffers only by whether there is room.
+pub any-work : (l : Layout) (t u : StageLent) → t .spectra ≡ u .spectra → t .intensities ≡ u .intensities → t .frame ≡ u .frame
+    → stageHasRoom l (lentRoom t) ≡ stageHasRoom l (lentRoom u) → SameFrame (stage l t) (stage l u)
+unfolding stage
+any-work l t u a b c h =
+    let g = gate-same l (lentRoom t) (lentRoom u) t u a b h in
+    let m : settled l (madeBy l t) ≡ settled l (madeBy l u) = ap₂ (λ xs is. settled l (made l (take (spectrumLength l) xs) (take (sideLength l) is))) a b in
+    let x = gated-same (gate l (lentRoom u) (u .spectra) (u .intensities)) t u (settled l (madeBy l u)) c in
+    record {
+      outcome = ap₂ (λ o y. gated o t y .outcome) g m ∙ x .outcome;
+      frame = ap₂ (λ o y. gated o t y .frame) g m ∙ x .frame;
+    }
+
+-- ---- a frame's numbers
+
+-- Behind the line's gate a frame is refused with 3, 4, 5 or 7 only.
+pub granted-numbers : (l : Layout) (t : StageLent) → legalLayout l ≡ true → stageHasRoom l (lentRoom t) ≡ true → Numbered (3 ∷ 4 ∷ 5 ∷ 7 ∷ []) (stage l t .outcome)
+unfolding stage gate gated settled packed finished
+granted-numbers l t a b =
+    let late : List ℕ = 3 ∷ 4 ∷ 5 ∷ 7 ∷ [] in
+    let Q : Option Outcome → Type 0 = λ g. Numbered late (gated g t (settled l (madeBy l t)) .outcome) in
+    let R : StageLeft → Type 0 = λ x. Numbered late (x .outcome) in
+    rw (a, b)
+    (cond-both Q (ltb (intensityBy l t) (sideLength l)) (λ _. numbered late 3 _ tt)
+    (λ _. cond-both Q (ltb (spectrumBy l t) (spectrumLength l)) (λ _. numbered late 4 _ tt)
+    (λ _. cond-both R (ltb 254 (levelBy l t)) (λ _. numbered late 5 _ tt)
+    (λ _. cond-both R (ltb (fieldEnd l) (bitsBy l t)) (λ _. numbered late 7 _ tt) (λ _. unnumbered late _)))))

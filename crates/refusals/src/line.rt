@@ -1,0 +1,20 @@
+// Request A5: the refusals of a line. A frame's are the single call's.
+ghost use mathlib.Core.Path.{_≡_};
+ghost use Rattle.rules_line.specs.Line.{lineOutcome};
+ghost use Rattle.refusals.specs.Refusals.{refusalOf};
+use crate::Refusal;
+use crate::refused;
+use crate::stage_refusal;
+use rules_line::LineAnswer;
+
+pub fn line_refusal(answer: LineAnswer) -> Refusal
+    ensures { λ r. ⌜ r ≡ refusalOf (lineOutcome answer) ⌝ }
+{
+    match answer {
+        LineAnswer::Delivered => refused(0, 0),
+        LineAnswer::BadLayout => refused(1, 0),
+        LineAnswer::BadBatch => refused(18, 0),
+        LineAnswer::ShortBuffer => refused(2, 0),
+        LineAnswer::Refused(_, a) => stage_refusal(a),
+    }
+}

@@ -1,0 +1,111 @@
+-- The gate of a line: its tests and their facts say the same. Assumes nothing.
+use mathlib.Core.Path.{_≡_, refl, sym, _∙_}
+use mathlib.Core.List.{[]}
+use mathlib.Core.Bool.{Bool, true, false, cond, not}
+use Prim.Native.Nat.{ℕ, _*_, _^_, _≤_}
+use native.Mathlib.Nat.{mul-le-mul-right, mul-le-mul-left}
+use native.Mathlib.Omega.{arith}
+use borrow.Author.Tests.{le-leb, leb-true}
+use lib.Dec.{leb}
+use Rattle.buffers.proofs.Tests.{and-fst, and-snd, not-true-false}
+use Rattle.rules.specs.Layout.{legalLayout, Sizes, frameSize, spectrumLength, factorLength, sideLength}
+use Rattle.rules.specs.Refusals.{Outcome, delivered, refused}
+use Rattle.rules.specs.declared.Layout.{Layout}
+use Rattle.rules.specs.declared.StageRoom.{StageRoom}
+use Rattle.rules.proofs.Layouts.{legal-true, legal-sizes}
+use Rattle.rules_line.specs.Line.{batchFits, lineRoom, lineGate, Batch, LineRoom}
+use Rattle.rules_line.specs.declared.Tally.{Tally}
+
+module _ (count : ℕ) (t : Tally) where
+  pub batch-true : Batch count t → batchFits count t ≡ true
+  unfolding batchFits
+  batch-true b = rw (le-leb _ _ (b .few), le-leb _ _ (b .frames), le-leb _ _ (b .bits), le-leb _ _ (b .pairs))
+
+  pub batch-facts : batchFits count t ≡ true → Batch count t
+  unfolding batchFits
+  batch-facts e₁ =
+      let e₂ = and-snd (leb count 65535) _ e₁ in
+      let e₃ = and-snd (leb (t .frames) (2 ^ 63)) _ e₂ in
+      record {
+        few = leb-true _ _ (and-fst (leb count 65535) _ e₁);
+        frames = leb-true _ _ (and-fst (leb (t .frames) (2 ^ 63)) _ e₂);
+        bits = leb-true _ _ (and-fst (leb (t .bits) (2 ^ 63)) _ e₃);
+        pairs = leb-true _ _ (and-snd (leb (t .bits) (2 ^ 63)) _ e₃);
+      }
+
+  pub batch-false : (Batch count t → ⊥) → batchFits count t ≡ false
+  batch-false h = not-true-false (batchFits count t) (λ e. h (batch-facts e))
+
+module _ (l : Layout) (count : ℕ) (r : StageRoom) (answers : ℕ) where
+  pub room-true : LineRoom l count r answers → lineRoom l count r answers ≡ true
+  unfolding lineRoom
+  room-true k =
+      rw (le-leb _ _ (k .spectra), le-leb _ _ (k .intensities), le-leb _ _ (k .scaled), le-leb _ _ (k .factors), le-leb _ _ (k .side), le-leb _ _ (k .codes), le-leb _ _ (k .frames), le-leb _ _ (k .answers))
+
+  pub room-facts : lineRoom l count r answers ≡ true → LineRoom l count r answers
+  unfolding lineRoom
+  room-facts e₁ =
+      let e₂ = and-snd (leb (count * spectrumLength l) (r .spectra)) _ e₁ in
+      let e₃ = and-snd (leb (count * sideLength l) (r .intensities)) _ e₂ in
+      let e₄ = and-snd (leb (spectrumLength l) (r .scaled)) _ e₃ in
+      let e₅ = and-snd (leb (factorLength l) (r .stored .factors)) _ e₄ in
+      let e₆ = and-snd (leb (sideLength l) (r .stored .side)) _ e₅ in
+      let e₇ = and-snd (leb (spectrumLength l) (r .stored .codes)) _ e₆ in
+      record {
+        spectra = leb-true _ _ (and-fst (leb (count * spectrumLength l) (r .spectra)) _ e₁);
+        intensities = leb-true _ _ (and-fst (leb (count * sideLength l) (r .intensities)) _ e₂);
+        scaled = leb-true _ _ (and-fst (leb (spectrumLength l) (r .scaled)) _ e₃);
+        factors = leb-true _ _ (and-fst (leb (factorLength l) (r .stored .factors)) _ e₄);
+        side = leb-true _ _ (and-fst (leb (sideLength l) (r .stored .side)) _ e₅);
+        codes = leb-true _ _ (and-fst (leb (spectrumLength l) (r .stored .codes)) _ e₆);
+        frames = leb-true _ _ (and-fst (leb (count * frameSize l) (r .stored .frame)) _ e₇);
+        answers = leb-true _ _ (and-snd (leb (count * frameSize l) (r .stored .frame)) _ e₇);
+      }
+
+  pub room-false : (LineRoom l count r answers → ⊥) → lineRoom l count r answers ≡ false
+  room-false h = not-true-false (lineRoom l count r answers) (λ e. h (room-facts e))
+
+-- a product of two numbers that are at most 65,535
+pub product-fits : (a b : ℕ) → a ≤ 65535 → b ≤ 65535 → a * b ≤ 2 ^ 32
+product-fits a b h k = omega (arith, mul-le-mul-right b h)
+
+-- ---- an open gate
+
+shut : {number beside : ℕ} → refused number beside ≡ delivered [] → ⊥
+shut e = let z : _≡_ {A = ℕ} 0 1 = cc in omega arith
+
+open-by : (a b c : Bool) → cond (not a) (refused 1 0) (cond (not b) (refused 18 0) (cond (not c) (refused 2 0) (delivered []))) ≡ delivered []
+    → (a ≡ true) × (b ≡ true) × (c ≡ true)
+open-by true true true e = (refl, refl, refl)
+open-by true true false e = absurd (shut e)
+open-by true false c e = absurd (shut e)
+open-by false b c e = absurd (shut e)
+
+-- what an open gate grants
+pub record Admitted (l : Layout) (count : ℕ) (r : StageRoom) (places : ℕ) (tally : Tally) : Type 0 where
+  pub layout : Sizes l
+  pub batch : Batch count tally
+  pub room : LineRoom l count r places
+
+pub gate-open : (l : Layout) (count : ℕ) (r : StageRoom) (answers : ℕ) (t : Tally) → lineGate l count r answers t ≡ delivered [] → Admitted l count r answers t
+unfolding lineGate
+gate-open l count r answers t e =
+    let (a, b, c) = open-by (legalLayout l) (batchFits count t) (lineRoom l count r answers) e in
+    record { layout = legal-sizes l a; batch = batch-facts count t b; room = room-facts l count r answers c }
+
+pub gate-grants : (l : Layout) (count : ℕ) (r : StageRoom) (answers : ℕ) (t : Tally) → Admitted l count r answers t → lineGate l count r answers t ≡ delivered []
+unfolding lineGate
+gate-grants l count r answers t a = rw (legal-true l (a .layout), batch-true count t (a .batch), room-true l count r answers (a .room))
+
+-- what each answer of the gate has, every answer has
+pub gate-case : (l : Layout) (count : ℕ) (r : StageRoom) (answers : ℕ) (t : Tally) (P : Outcome → Type 0) → P (refused 1 0) → P (refused 18 0) → P (refused 2 0)
+    → (lineGate l count r answers t ≡ delivered [] → P (delivered [])) → P (lineGate l count r answers t)
+unfolding lineGate
+gate-case l count r answers t P one batch two rest = by-tests (legalLayout l) (batchFits count t) (lineRoom l count r answers) rest
+  where
+    by-tests : (a b c : Bool) → (cond (not a) (refused 1 0) (cond (not b) (refused 18 0) (cond (not c) (refused 2 0) (delivered []))) ≡ delivered [] → P (delivered []))
+        → P (cond (not a) (refused 1 0) (cond (not b) (refused 18 0) (cond (not c) (refused 2 0) (delivered []))))
+    by-tests true true true f = f refl
+    by-tests true true false f = two
+    by-tests true false c f = batch
+    by-tests false b c f = one

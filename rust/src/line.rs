@@ -1,0 +1,84 @@
+//! A whole line of frames in one call.
+use crate::{raw, Encoder, Refusal};
+use std::fmt;
+
+/// What a caller's lines have delivered so far. A count above 2^63 is refused.
+#[derive(Clone, Copy, Debug, Default, PartialEq, Eq)]
+pub struct Tally {
+    /// Frames.
+    pub frames: u64,
+    /// Bits of all their fields, before the fill.
+    pub bits: u64,
+    /// Removal stages that they passed.
+    pub pairs: u64,
+}
+
+/// Why a line ended, and at which frame.
+#[derive(Clone, Copy, Debug, PartialEq, Eq, Hash)]
+pub struct LineRefusal {
+    /// The number, and the number beside it: with 3 and 4 an index within that frame's part.
+    pub refusal: Refusal,
+    /// The frame's index; none with 1, 18 and 2, which change nothing.
+    pub frame: Option<usize>,
+}
+
+impl fmt::Display for LineRefusal {
+    fn fmt(&self, f: &mut fmt::Formatter<'_>) -> fmt::Result {
+        match self.frame {
+            Some(k) => write!(f, "frame {k}: {}", self.refusal),
+            None => self.refusal.fmt(f),
+        }
+    }
+}
+
+impl std::error::Error for LineRefusal {
+    fn source(&self) -> Option<&(dyn std::error::Error + 'static)> {
+        Some(&self.refusal)
+    }
+}
+
+impl Encoder {
+    /// Encodes `count` frames, at most 65,535, each as [`encode_frame`](Encoder::encode_frame)
+    /// would, and brings `tally` up to date for those that were delivered. Each slice has a part
+    /// for each frame: `spectra` channels x 1,024, `intensities` channels x 8, `frames` the frame's
+    /// size, `answers` level, boundary, pairs and bits. A longer slice keeps its rest.
+    ///
+    /// At a refusal of frame k the frames before it stand; its own bytes are as they were after 3
+    /// and 4 and zero after 5 and 7, and all that is behind it is as it was. The encoder's work
+    /// buffers are then those of the last frame tried; [`frame`](Encoder::frame) is never touched.
+    /// Nothing is allocated, and the thread's float modes matter as for a single frame.
+    pub fn encode_line(
+        &mut self,
+        count: usize,
+        spectra: &[f32],
+        intensities: &[u8],
+        frames: &mut [u8],
+        answers: &mut [u32],
+        tally: &mut Tally,
+    ) -> Result<(), LineRefusal> {
+        let mut answer = [0; 4];
+        let mut counts = [tally.frames, tally.bits, tally.pairs];
+        let number = raw::encode_line(
+            self.layout.numbers(),
+            self.layout.kind_bytes(),
+            count,
+            spectra,
+            intensities,
+            &mut self.scaled,
+            &mut self.codes,
+            &mut self.factors,
+            &mut self.side,
+            frames,
+            answers,
+            &mut counts,
+            &mut answer,
+        );
+        [tally.frames, tally.bits, tally.pairs] = counts;
+        let refusal = Refusal { number, place: answer[0] };
+        match number {
+            0 => Ok(()),
+            Refusal::BAD_LAYOUT | Refusal::BAD_BATCH | Refusal::SHORT_BUFFER => Err(LineRefusal { refusal, frame: None }),
+            _ => Err(LineRefusal { refusal, frame: Some(answer[1] as usize) }),
+        }
+    }
+}
