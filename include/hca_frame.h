@@ -1,4 +1,4 @@
-/* The HCA frame stage, its record writer and its strict reader, as C sees them (libhca.a).
+/* The HCA frame stage, its record writer, its strict reader and what stands around them, as C sees them (libhca.a).
 
    hca_encode_frame   spectra of one frame                -> a frame, or a numbered refusal
    hca_encode_stereo_frame  unmixed spectra of one frame  -> the same, its pairs mixed first
@@ -22,7 +22,7 @@
    A buffer may be longer than is needed: the rest is not looked at and stays as it was.
 
    Threads. There is no state, no heap, no lock, no file, no errno: any number of threads may call at once, each with
-   its own written buffers. Stack: at most 3,472 bytes a call, its arguments among them, whatever the layout; measured on
+   its own written buffers. Stack: at most 3,936 bytes a call, its arguments among them, whatever the layout; measured on
    a painted stack over hostile calls of up to 16 channels (fuzz/run.sh stack). Plan with 8 KiB: a later build may differ.
 
    Result. 0 (HCA_OK) where the call delivered, else the number of the refusal: see enum hca_refusal. */
@@ -199,7 +199,7 @@ static inline const char *hca_refusal_text(uint32_t refusal)
     switch (refusal) {
     case HCA_OK: return "delivered";
     case HCA_BAD_LAYOUT: return "the layout is outside its limits";
-    case HCA_SHORT_BUFFER: return "a buffer is too short for the layout";
+    case HCA_SHORT_BUFFER: return "a lent buffer is too short";
     case HCA_BAD_INTENSITY: return "a secondary's intensity is above 15";
     case HCA_BAD_SPECTRUM: return "a spectrum value is NaN or infinite";
     case HCA_NO_LEVEL: return "no noise level fits, even with bands removed: raise the frame size";
@@ -212,17 +212,17 @@ static inline const char *hca_refusal_text(uint32_t refusal)
     case HCA_FILL_NOT_ZERO: return "the fill holds a 1";
     case HCA_NOT_LEGAL: return "the record is not legal";
     case HCA_BAD_HEADER: return "more than eight channels, or a rate, count, padding or loop point that does not fit the file header";
+    case HCA_TOO_LOUD: return "a spectrum's magnitude is above 65,536";
+    case HCA_BAD_BATCH: return "a line has more than 65,535 frames, or a count of its tally is above 2^63";
+    case HCA_BAD_LIST_MARK: return "no list: under 9 bytes, or another mark or version";
+    case HCA_BAD_LIST_LENGTH: return "the list's length does not match its frame count";
+    case HCA_BAD_ENTRY: return "an entry of the list has a level above 511, a boundary above 127 or more than 63 pairs";
     case HCA_NOT_WAVE: return "the file is no RIFF/WAVE file, or shorter than 44 bytes";
     case HCA_NO_DATA: return "the file has no data chunk, or an empty one";
     case HCA_BAD_DEPTH: return "samples have neither 16, 24 nor 32 bits";
     case HCA_NOT_FINITE: return "a float sample is NaN or infinite";
     case HCA_TOO_MANY: return "the file has more than 16,777,216 samples";
-    case HCA_BAD_LIST_MARK: return "no list: under 9 bytes, or another mark or version";
-    case HCA_BAD_LIST_LENGTH: return "the list's length does not match its frame count";
-    case HCA_BAD_ENTRY: return "an entry of the list has a level above 511, a boundary above 127 or more than 63 pairs";
     case HCA_NO_FRAME: return "the list has no frame of this number";
-    case HCA_TOO_LOUD: return "a spectrum's magnitude is above 65,536";
-    case HCA_BAD_BATCH: return "a line has more than 65,535 frames, or a count of its tally is above 2^63";
     default: return "a refusal that this header does not know";
     }
 }

@@ -13,7 +13,6 @@ calls!(hca_encode_frame, hca_write_record, hca_read_frame, hca_checksum);
 mod file_header;
 pub use file_header::write_header;
 
-
 mod wav;
 pub use wav::read_wav;
 

@@ -41,7 +41,17 @@ impl Refusal {
     pub const NOT_LEGAL: u32 = 15;
     /// More channels than a file header has, or a number that does not fit its field; `place` is 0.
     pub const BAD_HEADER: u32 = 16;
-    /// No RIFF/WAVE file, or under 44 bytes; `place` is 0, as in all that follow.
+    /// A magnitude of unmixed spectra is above 65,536; `place` is 0.
+    pub const TOO_LOUD: u32 = 17;
+    /// A line has more than 65,535 frames, or a count of its tally is above 2^63; `place` is 0.
+    pub const BAD_BATCH: u32 = 18;
+    /// Under 9 bytes, or no list's mark and version; `place` is 0, as in all of a list's.
+    pub const BAD_LIST_MARK: u32 = 19;
+    /// A list's length does not match its count.
+    pub const BAD_LIST_LENGTH: u32 = 20;
+    /// An entry of a list has a level above 511, a boundary above 127 or more than 63 pairs.
+    pub const BAD_ENTRY: u32 = 21;
+    /// No RIFF/WAVE file, or under 44 bytes; `place` is 0, as in all of a WAV file's.
     pub const NOT_WAVE: u32 = 22;
     /// The file has no data chunk, or an empty one.
     pub const NO_DATA: u32 = 23;
@@ -51,18 +61,8 @@ impl Refusal {
     pub const NOT_FINITE: u32 = 25;
     /// The file has more than 16,777,216 whole samples.
     pub const TOO_MANY: u32 = 30;
-    /// Under 9 bytes, or no list's mark and version; `place` is 0, as in all of a list's.
-    pub const BAD_LIST_MARK: u32 = 19;
-    /// A list's length does not match its count.
-    pub const BAD_LIST_LENGTH: u32 = 20;
-    /// An entry of a list has a level above 511, a boundary above 127 or more than 63 pairs.
-    pub const BAD_ENTRY: u32 = 21;
     /// A lookup of a frame that the list does not have.
     pub const NO_FRAME: u32 = 31;
-    /// A magnitude of unmixed spectra is above 65,536; `place` is 0.
-    pub const TOO_LOUD: u32 = 17;
-    /// A line has more than 65,535 frames, or a count of its tally is above 2^63; `place` is 0.
-    pub const BAD_BATCH: u32 = 18;
 }
 
 /// What a refusal is about: its number by a name that a `match` can use.
@@ -109,6 +109,16 @@ pub enum RefusalKind {
     NotLegal,
     /// [`Refusal::BAD_HEADER`].
     BadHeader,
+    /// [`Refusal::TOO_LOUD`].
+    TooLoud,
+    /// [`Refusal::BAD_BATCH`].
+    BadBatch,
+    /// [`Refusal::BAD_LIST_MARK`].
+    BadListMark,
+    /// [`Refusal::BAD_LIST_LENGTH`].
+    BadListLength,
+    /// [`Refusal::BAD_ENTRY`].
+    BadEntry,
     /// [`Refusal::NOT_WAVE`].
     NotWave,
     /// [`Refusal::NO_DATA`].
@@ -119,18 +129,8 @@ pub enum RefusalKind {
     NotFinite,
     /// [`Refusal::TOO_MANY`].
     TooMany,
-    /// [`Refusal::BAD_LIST_MARK`].
-    BadListMark,
-    /// [`Refusal::BAD_LIST_LENGTH`].
-    BadListLength,
-    /// [`Refusal::BAD_ENTRY`].
-    BadEntry,
     /// [`Refusal::NO_FRAME`].
     NoFrame,
-    /// [`Refusal::TOO_LOUD`].
-    TooLoud,
-    /// [`Refusal::BAD_BATCH`].
-    BadBatch,
     /// A number that this crate has no name for. A later version may have one: match it by `_`.
     Unknown,
 }
@@ -154,17 +154,17 @@ impl Refusal {
             Self::FILL_NOT_ZERO => RefusalKind::FillNotZero,
             Self::NOT_LEGAL => RefusalKind::NotLegal,
             Self::BAD_HEADER => RefusalKind::BadHeader,
+            Self::TOO_LOUD => RefusalKind::TooLoud,
+            Self::BAD_BATCH => RefusalKind::BadBatch,
+            Self::BAD_LIST_MARK => RefusalKind::BadListMark,
+            Self::BAD_LIST_LENGTH => RefusalKind::BadListLength,
+            Self::BAD_ENTRY => RefusalKind::BadEntry,
             Self::NOT_WAVE => RefusalKind::NotWave,
             Self::NO_DATA => RefusalKind::NoData,
             Self::BAD_DEPTH => RefusalKind::BadDepth,
             Self::NOT_FINITE => RefusalKind::NotFinite,
             Self::TOO_MANY => RefusalKind::TooMany,
-            Self::BAD_LIST_MARK => RefusalKind::BadListMark,
-            Self::BAD_LIST_LENGTH => RefusalKind::BadListLength,
-            Self::BAD_ENTRY => RefusalKind::BadEntry,
             Self::NO_FRAME => RefusalKind::NoFrame,
-            Self::TOO_LOUD => RefusalKind::TooLoud,
-            Self::BAD_BATCH => RefusalKind::BadBatch,
             _ => RefusalKind::Unknown,
         }
     }
@@ -176,7 +176,7 @@ impl fmt::Display for Refusal {
         write!(f, "refusal {}: ", self.number)?;
         match self.number {
             Self::BAD_LAYOUT => write!(f, "the layout is outside the limits"),
-            Self::SHORT_BUFFER => write!(f, "a lent buffer is too short for the layout"),
+            Self::SHORT_BUFFER => write!(f, "a lent buffer is too short"),
             Self::BAD_INTENSITY => write!(f, "intensity {at} of a secondary channel is above 15"),
             Self::BAD_SPECTRUM => write!(f, "spectrum {at} is NaN or infinite"),
             Self::NO_LEVEL => write!(f, "no noise level fits, even with {at} pairs of bands removed; raise the frame size"),
@@ -191,19 +191,19 @@ impl fmt::Display for Refusal {
             Self::BAD_HEADER => {
                 write!(f, "more than eight channels, or a rate, count, padding or loop point that does not fit the file header")
             }
-            Self::NOT_WAVE => write!(f, "the file is no RIFF/WAVE file, or shorter than 44 bytes"),
-            Self::NO_DATA => write!(f, "the file has no data chunk, or an empty one"),
-            Self::BAD_DEPTH => write!(f, "samples have neither 16, 24 nor 32 bits"),
-            Self::NOT_FINITE => write!(f, "a float sample is NaN or infinite"),
-            Self::TOO_MANY => write!(f, "the file has more than 16,777,216 samples"),
+            Self::TOO_LOUD => write!(f, "a spectrum's magnitude is above 65,536"),
+            Self::BAD_BATCH => write!(f, "the line has more than 65,535 frames, or a count of its tally is above 2^63"),
             Self::BAD_LIST_MARK => write!(f, "no list: under 9 bytes, or another mark or version"),
             Self::BAD_LIST_LENGTH => write!(f, "the list's length does not match its frame count"),
             Self::BAD_ENTRY => {
                 write!(f, "an entry of the list has a level above 511, a boundary above 127 or more than 63 pairs")
             }
+            Self::NOT_WAVE => write!(f, "the file is no RIFF/WAVE file, or shorter than 44 bytes"),
+            Self::NO_DATA => write!(f, "the file has no data chunk, or an empty one"),
+            Self::BAD_DEPTH => write!(f, "samples have neither 16, 24 nor 32 bits"),
+            Self::NOT_FINITE => write!(f, "a float sample is NaN or infinite"),
+            Self::TOO_MANY => write!(f, "the file has more than 16,777,216 samples"),
             Self::NO_FRAME => write!(f, "the list has no frame of this number"),
-            Self::TOO_LOUD => write!(f, "a spectrum's magnitude is above 65,536"),
-            Self::BAD_BATCH => write!(f, "the line has more than 65,535 frames, or a count of its tally is above 2^63"),
             _ => write!(f, "unknown to this crate, with {at} beside it"),
         }
     }

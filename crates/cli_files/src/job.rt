@@ -6,7 +6,6 @@ use rules::Layout;
 
 // The input's block of a frame, in bytes; the files by their descriptors, -1 for none, the input's option and the outputs' names; where the text goes,
 // -1 for nowhere; whether all of them could be opened; whether a person watches.
-// The input's block of a frame, in bytes; the files by their descriptors, -1 for none, the input's option and the outputs' names; where the text goes, -1 for nowhere;
 pub struct Job {
     pub command: Command,
     pub layout: Layout,
