@@ -61,8 +61,8 @@
 
 mod file_header;
 mod layout;
-mod list;
 mod line;
+mod list;
 #[allow(unsafe_code)]
 pub mod raw;
 mod refusal;
@@ -70,8 +70,8 @@ mod wav;
 
 pub use file_header::{write_header, Stream, HEADER_SIZE};
 pub use layout::{Kind, Layout, LayoutBuilder, LayoutError};
-pub use list::{list_entry, list_summary, read_list, write_list, Summary};
 pub use line::{LineRefusal, Tally};
+pub use list::{list_entry, list_summary, read_list, write_list, Summary};
 pub use refusal::{Refusal, RefusalKind};
 pub use wav::{read_wav, LevelNote, Take};
 

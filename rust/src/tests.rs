@@ -157,11 +157,11 @@ fn the_check_of_a_known_text() {
 
 #[test]
 fn every_number_has_a_text() {
-    for number in (1..=15).filter(|n| ![6, 10].contains(n)) {
+    for number in (1..=25).chain([30, 31]).filter(|n| ![6, 10].contains(n)) {
         let text = Refusal { number, place: 3 }.to_string();
         assert!(text.starts_with(&format!("refusal {number}: ")) && text.len() > 30, "{text}");
     }
-    for number in [10, 31] {
+    for number in [6, 10, 26, 99] {
         assert!(Refusal { number, place: 3 }.to_string().contains("unknown"));
     }
 }
@@ -183,6 +183,18 @@ fn every_number_has_its_kind() {
         (13, RefusalKind::PastEnd),
         (14, RefusalKind::FillNotZero),
         (15, RefusalKind::NotLegal),
+        (16, RefusalKind::BadHeader),
+        (17, RefusalKind::TooLoud),
+        (18, RefusalKind::BadBatch),
+        (19, RefusalKind::BadListMark),
+        (20, RefusalKind::BadListLength),
+        (21, RefusalKind::BadEntry),
+        (22, RefusalKind::NotWave),
+        (23, RefusalKind::NoData),
+        (24, RefusalKind::BadDepth),
+        (25, RefusalKind::NotFinite),
+        (30, RefusalKind::TooMany),
+        (31, RefusalKind::NoFrame),
         (0, RefusalKind::Unknown),
         (99, RefusalKind::Unknown),
     ] {

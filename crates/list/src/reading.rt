@@ -18,7 +18,7 @@ fn store_entry(entry: Entry, numbers: &mut [u32])
     numbers[3] = entry.bits;
 }
 
-pub fn store_entries(list: &[u8], n: usize, entries: &mut [u32])
+pub(crate) fn store_entries(list: &[u8], n: usize, entries: &mut [u32])
     requires { ⌜ (n ≡ framesIn (now list)) × (9 + n * 8 ≤ length (now list)) × (n * 4 ≤ length (now entries)) ⌝ }
     ensures { λ _. ⌜ now (entries .exit) ≡ laid (entriesOf (now (list .entry))) (now (entries .entry)) ⌝ }
 {

@@ -30,7 +30,7 @@ fn entry_at(entries: &[u32], i: usize) -> Entry
 }
 
 // Is each of the first n entries within its limits?
-pub fn entries_legal(entries: &[u32], n: usize) -> bool
+pub(crate) fn entries_legal(entries: &[u32], n: usize) -> bool
     requires { ⌜ n * 4 ≤ length (now entries) ⌝ }
     ensures { λ r. ⌜ r ≡ legalEntries n (now (entries .entry)) ⌝ }
 {
@@ -85,7 +85,7 @@ fn put_head(frames: u32, list: &mut [u8])
     put_word(list, 5, 4, frames);
 }
 
-pub fn put_list(frames: u32, entries: &[u32], list: &mut [u8])
+pub(crate) fn put_list(frames: u32, entries: &[u32], list: &mut [u8])
     requires { ⌜ (frames * 4 ≤ length (now entries)) × (9 + frames * 8 ≤ length (now list)) ⌝ }
     ensures { λ _. ⌜ now (list .exit) ≡ laid (listOf frames (now (entries .entry))) (now (list .entry)) ⌝ }
 {
