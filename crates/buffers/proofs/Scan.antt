@@ -1,10 +1,12 @@
--- A loop that looks for the first index with a property, and a loop that adds up. Assumes nothing.
-use mathlib.Core.Path.{_≡_, refl}
-use mathlib.Core.Bool.{Bool, true, false}
+-- A loop that looks for the first index with a property, one that goes on behind it, and a loop that adds up. Assumes nothing.
+use mathlib.Core.Path.{_≡_, refl, ap, _∙_}
+use mathlib.Core.Bool.{Bool, true, false, _||_}
 use Prim.Native.Nat.{ℕ, zero, suc, _+_, _-_, _*_, _≤_, _<_, zero-le}
 use native.Mathlib.Nat.{suc-mul, add-le-add}
 use native.Mathlib.Numerals.{add-one}
 use native.Mathlib.Omega.{arith}
+use lib.Dec.{ltb}
+use borrow.Author.Tests.{lt-ltb, le-ltb}
 use Rattle.buffers.specs.Walk.{firstFrom, sumTo}
 
 pub left-suc : (n i : ℕ) → i < n → n - i ≡ suc (n - suc i)
@@ -23,6 +25,23 @@ module _ (p : ℕ → Bool) (n i : ℕ) where
   pub first-end : n ≤ i → firstFrom p i (n - i) ≡ i
   unfolding firstFrom
   first-end h = let z : n - i ≡ 0 = omega arith in rw z
+
+pub or-false : (b : Bool) → b || false ≡ b
+or-false true = refl
+or-false false = refl
+
+-- found so far, or to be found from i on: a turn, and the end
+module _ (p : ℕ → Bool) (n i : ℕ) where
+  pub found-turn : (found : Bool) → i < n → found || ltb (firstFrom p i (n - i)) n ≡ (found || p i) || ltb (firstFrom p (i + 1) (n - (i + 1))) n
+  found-turn true h = refl
+  found-turn false h = go (p i) refl
+    where
+      go : (b : Bool) → p i ≡ b → ltb (firstFrom p i (n - i)) n ≡ b || ltb (firstFrom p (i + 1) (n - (i + 1))) n
+      go true e = ap (λ (k : ℕ). ltb k n) (first-stop p n i h e) ∙ lt-ltb i n h
+      go false e = ap (λ (k : ℕ). ltb k n) (first-next p n i h e)
+
+  pub found-end : (found : Bool) → n ≤ i → found || ltb (firstFrom p i (n - i)) n ≡ found
+  found-end found h = ap (λ (k : ℕ). found || ltb k n) (first-end p n i h) ∙ ap (_||_ found) (le-ltb i n h) ∙ or-false found
 
 pub sum-none : (f : ℕ → ℕ) → sumTo f 0 ≡ 0
 unfolding sumTo

@@ -1,5 +1,5 @@
 -- In a list of positive floats that rises, an entry is at most v exactly when its place is below the number of entries that are at most v.
--- So a search by halves finds that number. Assumes nothing.
+-- So two entries next to each other tell that number. Assumes nothing.
 use mathlib.Core.Path.{_≡_, refl, sym, ap, _∙_, subst}
 use mathlib.Core.Logic.{_⊎_, inl, inr}
 use Prim.Native.Nat.{ℕ, zero, suc, _+_, _≤_, _<_, zero-le, suc-le-suc}
@@ -15,14 +15,9 @@ use lib.Ieee.Fits.{and-l, and-r}
 use lib.Ieee.Positive.{positive, above, above-of-le, le-trans-positive}
 use Rattle.rules.specs.Factor.{countLe, factorOf}
 use Rattle.rules.specs.Tables.{scalingTable}
+use Rattle.factors.proofs.OrderLaws.{under-infinity}
 
 -- ---- the order, where the upper end is any value at all
-under-infinity : (x : Float) → T (positive x) → T (le x (inf false))
-unfolding le
-under-infinity nan p = absurd p
-under-infinity (inf s) p = absurd p
-under-infinity (fin s m e) p = tt
-
 le-through : (x y v : Float) → T (positive x) → T (positive y) → T (le x y) → T (le y v) → T (le x v)
 le-through x y v p q h k = go v (above-of-le y v q k) k
   where

@@ -1,2 +1,4 @@
+pub mod OrderLaws
 pub mod Count
+pub mod GuessLaws
 pub mod Small

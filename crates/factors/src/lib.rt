@@ -5,6 +5,8 @@ ghost use lib.ListN.{length};
 ghost use Rattle.rules.specs.Layout.{Sizes, spectrumLength, factorLength};
 ghost use Rattle.rules.specs.Factor.{factorOf, bandFactor, channelFactors, allFactors};
 ghost use Rattle.factors.specs.Scaling.{IsScaling};
+ghost use Rattle.factors.specs.Guess.{guessOf};
+use floats::larger;
 use rules::Layout;
 
 mod numbers;
@@ -16,22 +18,29 @@ pub fn scaling_table() -> [f32; 64]
     numbers::DEQUANTIZER_SCALING_TABLE
 }
 
-// The number of the table's first 63 entries that are at most the value, by halving.
+// A value's factor, or one less, from its bits.
+fn guess(bits: u32) -> usize
+    requires { ⌜ 0x3415_3066 ≤ bits ⌝ }
+    ensures { λ r. ⌜ (r ≡ guessOf bits) × (r ≤ 62) ⌝ }
+{
+    let far: u64 = (bits - 0x3415_3066) as u64;
+    let g: u64 = (far * 1237) >> 32;
+    if g < 62 { g as usize } else { 62 }
+}
+
+// The number of the table's first 63 entries that are at most the value: guessed from the bits, and
+// one comparison. What is below the table, or a NaN, is brought to the float before its first entry.
 pub fn find_scale_factor(table: &[f32; 64], value: f32) -> u8
     requires { ⌜ IsScaling (now table) ⌝ }
     ensures { λ r. ⌜ (r ≡ factorOf value) × (r ≤ 63) ⌝ }
 {
-    let mut low: usize = 0;
-    let mut high: usize = 63;
-    while low < high {
-        let mid = (low + high) / 2;
-        if table[mid] <= value {
-            low = mid + 1;
-        } else {
-            high = mid;
-        }
+    let v = larger(f32::from_bits(0x342A_8D25), value);
+    let g = guess(f32::to_bits(v));
+    if table[g] <= v {
+        (g + 1) as u8
+    } else {
+        g as u8
     }
-    low as u8
 }
 
 fn band_factor(table: &[f32; 64], spectra: &[f32], coded: usize, b: usize) -> u8

@@ -6,10 +6,9 @@ use mathlib.Core.Bool.{Bool, true, false, not, cond}
 use lib.Dec.{T, eqb, leb}
 use lib.Arith.{lt→nleb}
 use lib.Pow.{pow-pos}
-use lib.Ieee.{Float, nan, inf, fin, Format, prec, low, hid, ones, top, odd, ofFields, ofBits, toBits, fits, isNan, nanBits, ne, lt}
+use lib.Ieee.{Float, nan, inf, fin, Format, prec, low, hid, ones, top, odd, ofFields, ofBits, toBits, fits, isNan, nanBits, ne}
 use lib.Ieee.Compare.{differs-from-itself}
 use lib.Ieee.Bits.{is-false, ofBits-toBits, nanBits-is}
-use lib.Ieee.Scale.{finite}
 use Rattle.floats.specs.Single.{absF}
 
 abs-odd : (d : ℕ) (s : Bool) (q k l : ℕ) → absF (odd d s q k l) ≡ odd d false q k l
@@ -66,10 +65,3 @@ itself (fin s m e) h = tt
 pub not-itself : (x : Float) → ne x x ≡ true → x ≡ absF x
 unfolding absF
 not-itself x h = let e : x ≡ nan = differs-from-itself x (subst T (sym h) tt) in subst (λ (y : Float). y ≡ absF y) (sym e) refl
-
--- ---- a magnitude below the infinity
-pub below-infinity : (x : Float) → lt (absF x) (inf false) ≡ finite x
-unfolding absF lt
-below-infinity nan = refl
-below-infinity (inf s) = refl
-below-infinity (fin s m e) = refl

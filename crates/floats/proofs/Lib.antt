@@ -3,3 +3,4 @@ pub mod AbsLaws
 pub mod CutLaws
 pub mod SignedLaws
 pub mod FoldLaws
+pub mod WholeLaws

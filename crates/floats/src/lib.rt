@@ -2,10 +2,11 @@
 ghost use mathlib.Core.Path.{_≡_};
 ghost use Prim.Native.Nat.{_<_, _≤_, _+_, _*_, _^_};
 ghost use lib.ListN.{length};
+ghost use lib.IntN.{pos};
 ghost use lib.Ieee as Ieee;
 ghost use lib.Ieee.{binary32};
 ghost use lib.Ieee.Scale.{finite as isFinite};
-ghost use Rattle.floats.specs.Single.{absF, heldF, cutTo, maxF, minF, folded, maxAbs, zeroF, noAverage, withOne, withEight, mean};
+ghost use Rattle.floats.specs.Single.{absF, heldF, cutTo, Short, maxF, minF, folded, maxAbs, zeroF, noAverage, withOne, withEight, mean};
 
 // |x|, from the bits: the sign's bit is taken off. A NaN, which has no pattern of its own, is left.
 pub fn magnitude(x: f32) -> f32
@@ -18,11 +19,11 @@ pub fn magnitude(x: f32) -> f32
     f32::from_bits(bits % 0x8000_0000)
 }
 
-// Whether x is neither a NaN nor an infinity.
+// Whether x is neither a NaN nor an infinity: two comparisons, and no branch.
 pub fn finite(x: f32) -> bool
     ensures { λ r. ⌜ r ≡ isFinite x ⌝ }
 {
-    magnitude(x) < f32::from_bits(0x7F80_0000)
+    (f32::from_bits(0xFF80_0000) < x) & (x < f32::from_bits(0x7F80_0000))
 }
 
 // x held within low and high, as Rust's `clamp` does; a NaN is left.
@@ -55,11 +56,26 @@ fn cut(bits: u32) -> u32
     0x8000_0000
 }
 
+// y without its fraction, by a large addend: 2 ^ 23 more has no room for a fraction, so the sum is a
+// whole number next to it, and one too many where it came out above y.
+fn whole(y: f32) -> u32
+    requires { ⌜ Short y ⌝ }
+    ensures { λ r. ⌜ (pos r ≡ Ieee.toSigned 31 y) × (r < 4096) ⌝ }
+{
+    let z: f32 = y + 8388608.0;
+    let w: f32 = z - 8388608.0;
+    let n: u32 = f32::to_bits(z) - 0x4B00_0000;
+    if y < w { n - 1 } else { n }
+}
+
 // x without its fraction, as Rust's `x as i32` has it: an x out of range gives the nearest end, and
-// a NaN gives 0.
+// a NaN gives 0. From 1.0 up and below 4,096.0 there is a quick way, without shifts.
 pub fn truncate(x: f32) -> i64
     ensures { λ r. ⌜ r ≡ Ieee.toSigned 31 x ⌝ }
 {
+    if 1.0 <= x && x < 4096.0 {
+        return whole(x) as i64;
+    }
     if x != x {
         return 0;
     }
@@ -75,7 +91,7 @@ pub fn truncate(x: f32) -> i64
 }
 
 // The larger of two values; a where neither is below the other.
-fn larger(a: f32, b: f32) -> f32
+pub fn larger(a: f32, b: f32) -> f32
     ensures { λ r. ⌜ r ≡ maxF a b ⌝ }
 {
     if a < b { b } else { a }

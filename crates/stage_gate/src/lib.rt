@@ -1,6 +1,7 @@
 // Document 01, **Refusal numbers** 1 to 4: what is refused before anything is written.
 ghost use mathlib.Core.Path.{_≡_};
 ghost use Prim.Native.Nat.{_≤_};
+ghost use lib.Dec.{ltb};
 ghost use lib.ListN.{length};
 ghost use Rattle.buffers.specs.Walk.{first};
 ghost use Rattle.rules.specs.Layout.{Sizes};
@@ -58,7 +59,21 @@ fn first_bad_intensity(layout: Layout, intensities: &[u8], n: usize) -> usize
     i
 }
 
-// n if there is none.
+// Whether there is one below n. It goes on behind the first, so that the values are compiled to run side by side.
+fn has_bad_spectrum(spectra: &[f32], n: usize) -> bool
+    requires { ⌜ n ≤ length (now spectra) ⌝ }
+    ensures { λ r. ⌜ r ≡ ltb (first (badSpectrum (now (spectra .entry))) n) n ⌝ }
+{
+    let mut found = false;
+    let mut i = 0;
+    while i < n {
+        found = found | !finite(spectra[i]);
+        i += 1;
+    }
+    found
+}
+
+// Which; n if there is none.
 fn first_bad_spectrum(spectra: &[f32], n: usize) -> usize
     requires { ⌜ n ≤ length (now spectra) ⌝ }
     ensures { λ r. ⌜ r ≡ first (badSpectrum (now (spectra .entry))) n ⌝ }
@@ -87,9 +102,8 @@ pub fn first_refusal(layout: Layout, room: StageRoom, spectra: &[f32], intensiti
                 return Gate::BadIntensity(i);
             }
             let n = layout.channels * 1024;
-            let j = first_bad_spectrum(spectra, n);
-            if j < n {
-                return Gate::BadSpectrum(j);
+            if has_bad_spectrum(spectra, n) {
+                return Gate::BadSpectrum(first_bad_spectrum(spectra, n));
             }
             return Gate::Open;
         }

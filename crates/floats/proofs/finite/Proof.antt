@@ -1,22 +1,30 @@
--- `floats::finite` meets its contract. Assumes nothing.
-use mathlib.Core.Path.{_∙_, ap}
-use lib.Ieee.{Float, nanBits, ofBits, lt, inf}
-use mathlib.Core.Bool.{false}
+-- `floats::finite` meets its contract: between the two infinities lie the finite values. Assumes nothing.
+use mathlib.Core.Path.{_≡_, refl}
+use mathlib.Core.Bool.{true, false, _&&_}
+use lib.Ieee.{Float, nan, inf, fin, nanBits, ofBits, lt}
+use lib.Ieee.Scale.{finite as isFinite}
 use borrow.Author.Needs.{needs}
-use Rattle.floats.proofs.AbsLaws.{below-infinity}
 use Rattle.floats.proofs.finite.Statement.{statement}
 use Rattle.floats.proofs.finite.Tie as tie
 
-magnitude-requires : tie.Need-magnitude-requires
-magnitude-requires c κs = search needs
+between : (x : Float) → lt (inf true) x && lt x (inf false) ≡ isFinite x
+unfolding lt
+between nan = refl
+between (inf true) = refl
+between (inf false) = refl
+between (fin s m e) = refl
 
 float-from-bits-result : tie.Need-float-from-bits-result
 unfolding nanBits
 float-from-bits-result c = search needs
 
+float-from-bits-result-2 : tie.Need-float-from-bits-result-2
+unfolding nanBits
+float-from-bits-result-2 c = search needs
+
 returns : tie.Need-returns
 unfolding ofBits
-returns c = ap (λ (y : Float). lt y (inf false)) (c .magnitude .ensures) ∙ below-infinity (c .before .args .x)
+returns c = between (c .args .x)
 
 pub finite-spec : {M : Type 1} → statement M
-finite-spec = tie.close (tie.spec magnitude-requires float-from-bits-result returns)
+finite-spec = tie.close (tie.spec float-from-bits-result float-from-bits-result-2 returns)

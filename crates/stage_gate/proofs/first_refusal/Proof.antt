@@ -40,23 +40,30 @@ returns c =
 mul-n : tie.Need-mul-n
 mul-n c = omega (arith, legal-sizes _ (sym (c .before .before .before .before .before .before .before .legal .ensures) ∙ c .before .before .before .before .before .before .if1 .taken))
 
+has-bad-spectrum-requires : tie.Need-has-bad-spectrum-requires
+has-bad-spectrum-requires c κs =
+    let e = long-facts _ _ (sym (c .before .before .before .before .before .enough .ensures) ∙ c .before .before .before .before .if2 .taken) in
+    omega (arith, e)
+
 first-bad-spectrum-requires : tie.Need-first-bad-spectrum-requires
 first-bad-spectrum-requires c κs =
-    let e = long-facts _ _ (sym (c .before .before .before .before .before .enough .ensures) ∙ c .before .before .before .before .if2 .taken) in
+    let e = long-facts _ _ (sym (c .before .before .before .before .before .before .before .enough .ensures)
+    ∙ c .before .before .before .before .before .before .if2 .taken) in
     omega (arith, e)
 
 returns-2 : tie.Need-returns-2
 unfolding gate gateOutcome
 returns-2 c =
     rw (
-      ← c .before .before .before .before .before .before .before .before .before .legal .ensures,
-      c .before .before .before .before .before .before .before .before .if1 .taken,
-      ← c .before .before .before .before .before .before .before .enough .ensures,
-      c .before .before .before .before .before .before .if2 .taken,
-      ← c .before .before .before .before .first-bad-intensity .ensures,
-      le-ltb _ _ (c .before .before .before .if3 .left),
-      ← c .before .first-bad-spectrum .ensures,
-      lt-ltb _ _ (c .if4 .taken),
+      ← c .before .before .before .before .before .before .before .before .before .before .legal .ensures,
+      c .before .before .before .before .before .before .before .before .before .if1 .taken,
+      ← c .before .before .before .before .before .before .before .before .enough .ensures,
+      c .before .before .before .before .before .before .before .if2 .taken,
+      ← c .before .before .before .before .before .first-bad-intensity .ensures,
+      le-ltb _ _ (c .before .before .before .before .if3 .left),
+      ← c .before .before .has-bad-spectrum .ensures,
+      c .before .if4 .taken,
+      ← c .first-bad-spectrum .ensures,
     )
 
 returns-3 : tie.Need-returns-3
@@ -69,8 +76,8 @@ returns-3 c =
       c .before .before .before .before .before .before .if2 .taken,
       ← c .before .before .before .before .first-bad-intensity .ensures,
       le-ltb _ _ (c .before .before .before .if3 .left),
-      ← c .before .first-bad-spectrum .ensures,
-      le-ltb _ _ (c .if4 .left),
+      ← c .before .has-bad-spectrum .ensures,
+      c .if4 .left,
     )
 
 returns-4 : tie.Need-returns-4
@@ -91,6 +98,7 @@ first-refusal-spec =
     first-bad-intensity-requires
     returns
     mul-n
+    has-bad-spectrum-requires
     first-bad-spectrum-requires
     returns-2
     returns-3

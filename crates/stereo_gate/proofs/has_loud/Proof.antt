@@ -6,7 +6,7 @@ use native.Mathlib.Nat.{sub-zero}
 use lib.Dec.{ltb}
 use Rattle.buffers.specs.Walk.{first, firstFrom}
 use Rattle.rules_stereo.specs.Stereo.{tooLoud}
-use Rattle.stereo_gate.proofs.Loud.{found-turn, found-end}
+use Rattle.buffers.proofs.Scan.{found-turn, found-end}
 use borrow.Author.Needs.{needs}
 use Rattle.stereo_gate.proofs.has_loud.Statement.{statement}
 use Rattle.stereo_gate.proofs.has_loud.Tie as tie
