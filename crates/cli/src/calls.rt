@@ -13,12 +13,12 @@ use cli_runs::progress::take_intensities;
 use cli_runs::progress::without_frames;
 use cli_runs::progress::without_intensities;
 use cli_runs::records::take_record;
-use cli_words::layouts::value_count;
+use cli_words::counts::value_count;
 use cli_words::names::Name;
 use rules::Layout;
 use rules::StageAnswer;
 use rules_stereo::StereoAnswer;
-use text::numbers::take_floats;
+use text::values::take_floats;
 use text::words::word;
 
 // The stage, with room of its own for what only the stage needs.

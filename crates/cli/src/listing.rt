@@ -6,7 +6,7 @@ use cli_reports::reasons::say_call_refusal;
 use cli_runs::progress::Run;
 use cli_runs::progress::stopped;
 use cli_words::manual::complain;
-use refusals::list::list_write_refusal;
+use refusals_files::list::list_write_refusal;
 use rules_files::list::Entry;
 use text::forms::say_form;
 use text::lines::put_out;

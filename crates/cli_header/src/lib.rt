@@ -13,7 +13,7 @@ use cli_runs::progress::at_start;
 use cli_runs::progress::last_status;
 use cli_runs::progress::stopped;
 use cli_words::names::Name;
-use refusals::header::header_refusal;
+use refusals_files::header::header_refusal;
 
 mod copying;
 mod numbers;

@@ -1,6 +1,6 @@
 // What a frame holds, in words.
-use cli_words::layouts::coded;
-use cli_words::layouts::sides;
+use cli_words::counts::coded;
+use cli_words::counts::sides;
 use rules::Layout;
 use text::forms::put_form;
 use text::forms::say_form;

@@ -1,9 +1,9 @@
 // What is told of a layout that no call takes.
 use crate::reasons::say_call_refusal;
+use layouts::legal;
 use refusals::Refusal;
 use refusals::refused;
 use rules::Layout;
-use rules::legal;
 use text::places::more;
 
 // The limit that is broken, with what it was broken by; line 0 is for any other.

@@ -2,7 +2,7 @@
 use cli_files::headers::say_whole_hca;
 use cli_files::job::Job;
 use cli_reports::reasons::say_refusal;
-use cli_words::layouts::side_value_count;
+use cli_words::counts::side_value_count;
 use cli_words::manual::complain;
 use refusals::Refusal;
 use rules_files::list::Entry;

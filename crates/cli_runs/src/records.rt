@@ -1,15 +1,15 @@
 // Records in the form of a file: level and boundary, factors from byte 8 on, then side values, then codes.
 use cli_files::job::Job;
-use cli_words::layouts::factor_count;
-use cli_words::layouts::record_size;
-use cli_words::layouts::side_value_count;
-use cli_words::layouts::value_count;
+use cli_words::counts::factor_count;
+use cli_words::counts::record_size;
+use cli_words::counts::side_value_count;
+use cli_words::counts::value_count;
 use rules::Layout;
 use text::lines::put_out;
-use text::numbers::put_bytes;
-use text::numbers::put_ints;
-use text::numbers::take_bytes;
-use text::numbers::take_ints;
+use text::values::put_bytes;
+use text::values::put_ints;
+use text::values::take_bytes;
+use text::values::take_ints;
 use text::words::put_word;
 
 fn put_head(out: &mut [u8], level: usize, boundary: usize) {

@@ -16,7 +16,7 @@ use cli_runs::progress::last_status;
 use cli_runs::progress::stopped;
 use cli_runs::progress::text_told;
 use cli_words::manual::complain;
-use refusals::wav::wav_refusal;
+use refusals_files::wav::wav_refusal;
 use rules_files::wav::Take;
 use rules_files::wav::WavAnswer;
 use text::forms::say_form;

@@ -1,5 +1,5 @@
 // The names that hcaframe knows, its help, and what is counted by a layout.
 pub mod commands;
-pub mod layouts;
+pub mod counts;
 pub mod manual;
 pub mod names;

@@ -4,6 +4,7 @@ ghost use Prim.Native.Nat.{_*_, _≤_, _<_};
 ghost use lib.ListN.{length};
 ghost use Rattle.rules.specs.Layout.{Sizes, sidesAt, kindAt, sideWidth, spectrumLength, factorLength};
 ghost use Rattle.rules.specs.Estimate.{bandBits, channelBits, headerBits, fixedBits, spectralBits, usedBits, exceeds};
+use layouts::coded_count;
 use quantizer::counts::marks_of;
 use quantizer::counts::small_bits;
 use quantizer::counts::wide_bits;
@@ -12,7 +13,6 @@ use quantizer::tables::magnitude_bits;
 use resolutions::calculate_resolution;
 use resolutions::noise_at;
 use rules::Layout;
-use rules::coded_count;
 use widths::calculate_optimal_delta_length;
 
 // A band's eight values, of a channel's 1,024, below resolution 8. The sum is narrow, so that four fit side by side.
@@ -90,8 +90,8 @@ fn side_bits(layout: Layout, channel: usize) -> usize
     requires { ⌜ channel < 16 ⌝ }
     ensures { λ r. ⌜ (r ≡ sidesAt layout channel * sideWidth (kindAt layout channel)) × (r ≤ 48) ⌝ }
 {
-    let width = rules::side_width(layout, channel);
-    rules::side_count(layout, channel) * width as usize
+    let width = layouts::side_width(layout, channel);
+    layouts::side_count(layout, channel) * width as usize
 }
 
 fn channel_header(layout: Layout, channel: usize, factors: &[u8]) -> usize

@@ -4,10 +4,11 @@ ghost use Prim.Native.Nat.{_≤_};
 ghost use lib.ListN.{length};
 ghost use Rattle.rules.specs.Layout.{Sizes};
 ghost use Rattle.rules_files.specs.FileHeader.{stamped, magicPieces, formatPieces, framePieces, bandPieces};
-ghost use Rattle.rules_files.specs.FileHeader.{fieldPieces, loopPieces, tailPieces, afterLoop, loopFields, channelConfig, PointsFit};
+ghost use Rattle.rules_files.specs.FileHeader.{fieldPieces, loopPieces, tailPieces, afterLoop, channelConfig, PointsFit};
+use file_header_loop::loop_fields;
+use layouts::bands_per_group;
 use numbers::high::put_high;
 use rules::Layout;
-use rules::bands_per_group;
 use rules_files::header::LoopFields;
 use rules_files::header::LoopPoints;
 use rules_files::header::Stream;
@@ -74,29 +75,6 @@ pub fn put_bands(layout: Layout, header: &mut [u8])
     put_high(header, 35, 1, layout.base as u64);
     put_high(header, 36, 1, layout.stereo as u64);
     put_high(header, 37, 1, per_group as u64);
-}
-
-// The points moved by the delay. An end on a frame's edge belongs to the frame before.
-fn loop_fields(start: u64, end: u64) -> LoopFields
-    requires { ⌜ PointsFit (LoopPoints.Given start end) ⌝ }
-    ensures { λ r. ⌜ r ≡ loopFields start end ⌝ }
-{
-    let s = start + 128;
-    let e = end + 128;
-    if e % 1024 == 0 {
-        return LoopFields {
-            start_frame: s / 1024,
-            end_frame: e / 1024 - 1,
-            delay: s % 1024,
-            padding: 0,
-        };
-    }
-    LoopFields {
-        start_frame: s / 1024,
-        end_frame: e / 1024,
-        delay: s % 1024,
-        padding: 1024 - e % 1024,
-    }
 }
 
 fn put_fields(fields: LoopFields, header: &mut [u8])

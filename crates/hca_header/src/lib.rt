@@ -6,7 +6,7 @@ ghost use Rattle.rules_files.specs.FileHeader.{headerWritten};
 ghost use Rattle.hca_header.specs.HeaderWrote.{pointsOf, streamOf, headerAs, headerTold, headerWrote};
 use hca_layout::is_named;
 use hca_layout::layout_of;
-use refusals::header::header_refusal;
+use refusals_files::header::header_refusal;
 use rules::Layout;
 use rules_files::header::LoopPoints;
 use rules_files::header::Stream;

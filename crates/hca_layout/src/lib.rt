@@ -88,7 +88,7 @@ pub fn is_named(layout: &[u32], kinds: &[u8]) -> bool
         return false;
     }
     let l = layout_of(layout, kinds);
-    rules::legal(l)
+    layouts::legal(l)
 }
 
 pub fn layout_of(layout: &[u32], kinds: &[u8]) -> Layout

@@ -9,11 +9,11 @@ ghost use Rattle.hca_line.specs.Lined.{linedAs, tallyIn, countsOf, index
 use hca_answers::refuse;
 use hca_layout::is_named;
 use hca_layout::layout_of;
+use line_gate::batch_fits;
 use refusals::line::line_refusal;
 use rules::Layout;
 use rules_line::LineAnswer;
 use rules_line::Tally;
-use rules_line::batch_fits;
 
 // 0 where there is no such count.
 fn count_at(counts: &[u64], i: usize) -> u64

@@ -1,7 +1,7 @@
 // The list's calls by numbers and slices only, no `requires`.
 ghost use mathlib.Core.Path.{_≡_};
 ghost use Rattle.hca_list.specs.Listed.{listWroteAs, listWrote, listReturnedAs, listReturned, answeredAs, entryAnswered, summaryAnswered};
-use refusals::list::list_write_refusal;
+use refusals_files::list::list_write_refusal;
 use telling::tell_entry;
 use telling::tell_list;
 use telling::tell_summary;

@@ -7,9 +7,9 @@ ghost use Rattle.rules_files.specs.List.{entryNumbers, summaryNumbers, listRead
 ghost use Rattle.hca_answers.specs.Outcomes.{Small, Told};
 ghost use Rattle.hca_list.specs.Listed.{SummaryTold};
 use hca_answers::refuse;
-use refusals::list::entry_refusal;
-use refusals::list::list_read_refusal;
-use refusals::list::summary_refusal;
+use refusals_files::list::entry_refusal;
+use refusals_files::list::list_read_refusal;
+use refusals_files::list::summary_refusal;
 use rules_files::list::Entry;
 use rules_files::list::EntryAnswer;
 use rules_files::list::ListAnswer;

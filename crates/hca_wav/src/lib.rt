@@ -10,7 +10,7 @@ ghost use Rattle.rules_files.specs.WavFits.{TakeFits};
 ghost use Rattle.hca_answers.specs.Outcomes.{Told};
 ghost use Rattle.hca_wav.specs.Takes.{takeAs, takeRead};
 use hca_answers::refuse;
-use refusals::wav::wav_refusal;
+use refusals_files::wav::wav_refusal;
 use rules_files::wav::LevelNote;
 use rules_files::wav::Take;
 use rules_files::wav::WavAnswer;

@@ -28,8 +28,8 @@ fn hfr_spectra_average(layout: Layout, spectra: &[f32], group: usize) -> Average
     requires { ⌜ (length (now spectra) ≡ 1024) × (group < 8) ⌝ }
     ensures { λ r. ⌜ (r ≡ spectrumAverage layout (now (spectra .entry)) group) × (r .count ≤ 1024) ⌝ }
 {
-    let n = rules::start(layout);
-    let g = rules::bands_per_group(layout);
+    let n = layouts::start(layout);
+    let g = layouts::bands_per_group(layout);
     let end = group_end(group, g, 128 - n);
     let mut average = Average::none();
     let mut b = group * g;
@@ -46,8 +46,8 @@ fn hfr_source_average(layout: Layout, scaled: &[f32], group: usize) -> Average
     requires { ⌜ (length (now scaled) ≡ 1024) × (group < 8) ⌝ }
     ensures { λ r. ⌜ (r ≡ sourceAverage layout (now (scaled .entry)) group) × (r .count ≤ 1024) ⌝ }
 {
-    let n = rules::start(layout);
-    let g = rules::bands_per_group(layout);
+    let n = layouts::start(layout);
+    let g = layouts::bands_per_group(layout);
     let end = group_end(group, g, lesser(layout.total - n, n));
     let mut average = Average::none();
     let mut b = group * g;
@@ -104,7 +104,7 @@ fn fill_scales(layout: Layout, table: &[f32; 64], spectra: &[f32], scaled: &[f32
     requires { ⌜ (length (now spectra) ≡ 1024) × (length (now scaled) ≡ 1024) × (length (now side) ≡ 8) ⌝ }
     ensures { λ _. ⌜ now (side .exit) ≡ scaleSide layout (now (spectra .entry)) (now (scaled .entry)) ⌝ }
 {
-    let groups = rules::groups(layout);
+    let groups = layouts::groups(layout);
     let mut group = 0;
     while group < 8 {
         if group < groups {
@@ -132,7 +132,7 @@ fn channel_side(
     requires { ⌜ (length (now intensities) ≡ sideLength layout) × (length (now side) ≡ 8) ⌝ }
     ensures { λ _. ⌜ now (side .exit) ≡ sideAt layout (now (spectra .entry)) (now (scaled .entry)) (now (intensities .entry)) channel ⌝ }
 {
-    if rules::is_secondary(layout, channel) {
+    if layouts::is_secondary(layout, channel) {
         let s = channel * 8;
         copy_intensities(&intensities[s..s + 8], side);
     } else {

@@ -2,13 +2,13 @@
 ghost use mathlib.Core.Path.{_≡_};
 ghost use Rattle.rules_line.specs.Line.{lineLent, lineLeft, line};
 use line_frames::encode_turns;
+use line_gate::line_gate;
 use rules::Layout;
 use rules::Room;
 use rules::StageRoom;
 use rules_line::LineAnswer;
 use rules_line::LineEnd;
 use rules_line::Tally;
-use rules_line::line_gate;
 
 // A line, the tally by value. It takes any arguments: what cannot be done is refused, and the answer says why.
 pub fn encode_frames(

@@ -17,7 +17,7 @@ use Rattle.rules.specs.declared.StageAnswer.{StageAnswer}
 use Rattle.rules_line.specs.Line.{lineOutcome, lineIndex, lineLeft, framePlaced, stageAt, answersOf, tallyAfter, turnOutcome, turnIndex, lineTurn}
 use Rattle.rules_line.specs.declared.LineAnswer.{LineAnswer}
 use Rattle.rules_line.specs.declared.Tally.{Tally}
-use Rattle.rules_line.proofs.Gates.{product-fits}
+use Rattle.line_gate.proofs.Tests.{product-fits}
 
 -- the parts are back in their wholes
 pub placed : (l : Layout) (k : ℕ) (r : StageAnswer) (xs : List Float) (is : List ℕ) (sc₀ : List Float) (co₀ : List ℤ) (fa₀ si₀ fr₀ : List ℕ)

@@ -6,13 +6,13 @@ ghost use Rattle.rules.specs.Layout.{Sizes, roomOf};
 ghost use Rattle.rules.specs.Stage.{stageLent, stageLeft, stageRoom};
 ghost use Rattle.rules_line.specs.Line.{lineLent, lineLeft, Batch, LineRoom, OnTheWay, stageAt, lineTurn, lineAfter};
 ghost use Rattle.line_frames.specs.Turn.{Turn};
+use line_gate::part_start;
 use rules::Layout;
 use rules::StageAnswer;
 use rules_line::LineAnswer;
 use rules_line::LineEnd;
 use rules_line::Tally;
 use rules_line::line_answer;
-use rules_line::part_start;
 use rules_line::store_answers;
 use stage::encode_frame;
 

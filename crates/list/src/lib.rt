@@ -9,18 +9,17 @@ ghost use Rattle.rules_files.specs.List.{entryOutcome, looked, summaryOutcome, 
 ghost use Rattle.rules_files.specs.declared.list.Judgement.the-variants.{Good};
 use list_judge::entry_in;
 use list_judge::judge_list;
+use list_sums::sum_entries;
 use reading::store_entries;
 use rules_files::list::EntryAnswer;
 use rules_files::list::Judgement;
 use rules_files::list::ListAnswer;
 use rules_files::list::ListWritten;
 use rules_files::list::SummaryAnswer;
-use sums::sum_entries;
 use writing::entries_legal;
 use writing::put_list;
 
 mod reading;
-mod sums;
 mod writing;
 
 // The writer takes any arguments. Refusals 2 and 21, in this order.

@@ -1,28 +1,19 @@
--- A turn of each loop, as a step of the definition that it follows. Assumes nothing.
-use mathlib.Core.Path.{_≡_, refl, sym, ap, ap₂, _∙_, subst}
+-- A turn of each loop over the channels, as a step of the definition that it follows. Assumes nothing.
+use mathlib.Core.Path.{_≡_, refl, sym, ap, _∙_, subst}
 use mathlib.Core.List.{List, _++_}
 use mathlib.Core.Bool.{Bool, true, false, _&&_}
 use Prim.Native.Nat.{ℕ, _+_, _-_, _*_, _≤_, _<_}
 use native.Mathlib.Numerals.{add-one}
 use borrow.Author.Tests.{le-ltb, lt-ltb, eq-eqb, ne-eqb}
 use lib.Dec.{T, ltb, ltb→lt}
-use lib.Ieee.{Float, binary32, mul}
-use lib.ListN.{set, take, drop}
+use lib.Ieee.{Float}
+use lib.ListN.{take, drop}
 use lib.Ieee.Fits.{and-r}
 use Rattle.buffers.proofs.Build.{back-width}
-use Rattle.floats.specs.Single.{zeroF}
-use Rattle.rules_stereo.specs.Mixed.{bothValues, energies, Signal, signal, intensityOf, ratioOf, mixingOf, bandMixed, bandsMixed, energiesAt, subframeMixed, subframesMixed, putBack, pairAt, pairMixed, isPrimary, pairedAt, channelMixed, channelsMixed, mixed}
+use Rattle.rules_stereo.specs.Mixed.{Signal, signal, subframesMixed, putBack, pairAt, pairMixed, isPrimary, pairedAt, channelMixed, channelsMixed, mixed}
 use Rattle.rules.specs.Layout.{kindAt}
-use Rattle.rules_stereo.specs.declared.Energies.{Energies}
-use Rattle.rules_stereo.specs.declared.Mixing.{Mixing}
 use Rattle.rules.specs.declared.ChannelType.{ChannelType}
 use Rattle.rules.specs.declared.Layout.{Layout}
-
--- one band more
-pub bands-more : (ratio : Float) (at b : ℕ) (xs ys : List Float) → ys ≡ bandsMixed ratio at b xs
-    → set (set ys (at + b) (mul binary32 (bothValues ys (at + b)) ratio)) (1024 + (at + b)) zeroF ≡ bandsMixed ratio at (b + 1) xs
-unfolding bandsMixed bandMixed
-bands-more ratio at b xs ys e = rw (add-one b) (ap (λ (zs : List Float). set (set zs (at + b) (mul binary32 (bothValues zs (at + b)) ratio)) (1024 + (at + b)) zeroF) e)
 
 -- ---- which channels are mixed
 module _ (l : Layout) (c : ℕ) where
@@ -41,20 +32,6 @@ module _ (l : Layout) (c : ℕ) where
   pub paired-kind : (k : ChannelType) → c + 1 < l .channels → kindAt l c ≡ k → isPrimary k ≡ pairedAt l c
   unfolding pairedAt
   paired-kind k h e = ap isPrimary (sym e) ∙ all (isPrimary (kindAt l c)) ∙ ap (λ (b : Bool). isPrimary (kindAt l c) && b) (sym (lt-ltb (c + 1) (l .channels) h))
-
--- ---- one subframe more
-module _ (l : Layout) (s n : ℕ) (xs ys : List Float) (is : List ℕ) (p : Signal) (e : Energies) (q : Mixing) where
-  abbrev at : ℕ
-  at = s * 128 + l .base
-
-  pub subframe-more : n ≡ l .total - l .base → signal xs is ≡ subframesMixed l s p → e ≡ energies xs at n → q ≡ mixingOf e → ys ≡ bandsMixed (q .ratio) at n xs
-      → signal ys (set is s (q .value)) ≡ subframesMixed l (s + 1) p
-  unfolding subframesMixed subframeMixed energiesAt mixingOf
-  subframe-more h w d m y =
-      let u : e ≡ energies xs at (l .total - l .base) = rw h at d in
-      let z : ys ≡ bandsMixed (ratioOf (energies xs at (l .total - l .base))) at (l .total - l .base) xs = rw (h, m, u) at y in
-      let v : q .value ≡ intensityOf (energies xs at (l .total - l .base)) = ap (λ (k : Mixing). k .value) m ∙ ap intensityOf u in
-      rw (add-one s, ← w) (ap₂ signal z (ap (set is s) v))
 
 -- ---- a channel, mixed or not
 module _ (l : Layout) (c : ℕ) where

@@ -11,12 +11,12 @@ ghost use Rattle.rules.specs.Record.{codesIn};
 ghost use Rattle.resolutions.specs.Coded.{codedResolutions};
 ghost use Rattle.rules.specs.Fields.{smallBits, signBits, codeBits};
 use bits::Place;
+use layouts::coded_count;
 use quantizer::code_place;
 use quantizer::tables::code_length;
 use quantizer::tables::code_word;
 use quantizer::tables::magnitude_bits;
 use rules::Layout;
-use rules::coded_count;
 
 // In 64 bits, since the magnitude of the least code has no negative in 32.
 fn code_magnitude(code: i32) -> u32

@@ -13,7 +13,7 @@ use Rattle.buffers.proofs.Build.{build-const}
 use Rattle.bits.specs.Bits.{bits}
 use Rattle.rules.specs.Format.{eachBits, times}
 use Rattle.rules.specs.Fields.{deltaBits, factorBits, asPrevious, allFactorBits}
-use Rattle.widths.specs.Previous.{factorBefore}
+use Rattle.deltas.specs.Previous.{factorBefore}
 use Rattle.rules.proofs.Cuts.{blocks-same}
 use Rattle.rules.proofs.Written.{foldl-snoc, walk-blocks, front, times-blocks}
 

@@ -12,16 +12,16 @@ ghost use Rattle.rules.specs.Layout.{Sizes, kindAt, kindsOf};
 ghost use Rattle.rules.specs.Width.{near, width};
 ghost use Rattle.rules.specs.Record.{chanIn, chanOf};
 ghost use Rattle.rules.specs.Fields.{deltaSymbol, deltaBits, factorBits, allFactorBits, channelFields};
-ghost use Rattle.widths.specs.Previous.{factorBefore};
+ghost use Rattle.deltas.specs.Previous.{factorBefore};
 use bits::Place;
+use deltas::delta;
+use deltas::is_near;
+use deltas::reach;
+use layouts::coded_count;
+use layouts::side_count;
+use layouts::side_width;
 use rules::Layout;
-use rules::coded_count;
-use rules::side_count;
-use rules::side_width;
 use widths::calculate_optimal_delta_length;
-use widths::delta;
-use widths::is_near;
-use widths::reach;
 
 // FFFF, the level in 9 bits, the boundary in 7.
 pub fn write_head(place: Place, payload: &mut [u8], level: usize, boundary: usize) -> Place

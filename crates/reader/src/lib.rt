@@ -47,7 +47,7 @@ pub fn read_frame(
     ensures { λ r. ⌜ readerLeft r (now (factors .exit)) (now (side .exit)) (now (codes .exit))
         ≡ read layout (readerLent (now (frame .entry)) (now (factors .entry)) (now (side .entry)) (now (codes .entry))) ⌝ }
 {
-    if !rules::legal(layout) {
+    if !layouts::legal(layout) {
         return ReadAnswer::BadLayout;
     }
     let room = Room {
@@ -56,7 +56,7 @@ pub fn read_frame(
         codes: codes.len(),
         frame: frame.len(),
     };
-    if !rules::has_room(layout, room) {
+    if !layouts::has_room(layout, room) {
         return ReadAnswer::ShortBuffer;
     }
     lend_exact(layout, frame, factors, side, codes)

@@ -1,10 +1,11 @@
--- The check, the sync, and the part of a frame between them. Assumes nothing.
+-- The check, the sync, the part of a frame between them, and what a refusal leaves. Assumes nothing.
 use mathlib.Core.Path.{_≡_, refl, sym, _∙_, ap, ap₂}
 use mathlib.Core.Bool.{true, false}
 use mathlib.Core.List.{List}
 use Prim.Native.Nat.{ℕ, _+_, _-_, _*_, _≤_}
 use native.Mathlib.Omega.{arith}
 use borrow.Author.Tests.{le-leb, eq-eqb, ne-eqb}
+use lib.IntN.{ℤ}
 use lib.ListN.{length, take, drop, length-drop}
 use lib.Seq.{take-take, length-take-le}
 use Rattle.bits.specs.Bits.{bitsOf, value}
@@ -17,8 +18,11 @@ use Rattle.bits.proofs.Parts.{bits-take, bits-drop, part-cut}
 use Rattle.crc.specs.Sealed.{body, isSealed}
 use Rattle.rules.specs.Format.{ok, number}
 use Rattle.rules.specs.Reading.{readRecord, readFields, faulty, afterFields, scan, strict}
+use Rattle.rules.specs.Lent.{noFactors, noSide, noCodes}
+use Rattle.rules.specs.Reader.{readerLeft}
 use Rattle.rules.specs.declared.Layout.{Layout}
-use Rattle.reader_frame.specs.Scans.{scanPart}
+use Rattle.rules.specs.declared.ReadAnswer.{ReadAnswer}
+use Rattle.reader_record.specs.Scans.{scanPart}
 
 -- the part between sync and check
 abbrev pub between : List ℕ → List ℕ
@@ -65,3 +69,8 @@ module _ (l : Layout) (frame : List ℕ) where
         pub synced : v ≡ 0xFFFF → strict l frame ≡ scanPart l (between frame)
         unfolding strict scan readFields
         synced h = rw (e, sync-bits, eq-eqb v 0xFFFF h) (ap (λ n. afterFields n (readRecord l (bitsOf (between frame)))) part-length)
+
+-- buffers that were cleared are the zeros that a refusal leaves
+pub cleared-left : (l : Layout) (a : ReadAnswer) {F S : List ℕ} {C : List ℤ} → F ≡ noFactors l → S ≡ noSide l → C ≡ noCodes l
+    → readerLeft a F S C ≡ readerLeft a (noFactors l) (noSide l) (noCodes l)
+cleared-left l a f s c = rw (f, s, c) refl

@@ -1,18 +1,16 @@
 // A whole frame: its check, its sync, and the record between them; the answer, and buffers that a refusal leaves zero.
-mod record;
-
 ghost use mathlib.Core.Path.{_≡_};
 ghost use lib.ListN.{length};
 ghost use Rattle.rules.specs.Layout.{Sizes, frameSize};
 ghost use Rattle.rules.specs.Reading.{strict};
 ghost use Rattle.rules.specs.Reader.{readerLeft, scannedLeft};
-ghost use Rattle.reader_frame.specs.Scans.{foundLeft, ReaderLengths};
-use crate::record::read_record;
+ghost use Rattle.reader_record.specs.Scans.{foundLeft, ReaderLengths};
 use bits::Field;
 use bits::Place;
 use buffers::clear_i32;
 use buffers::clear_u8;
 use reader_fill::FrameFound;
+use reader_record::read_record;
 use rules::Layout;
 use rules::ReadAnswer;
 

@@ -13,7 +13,7 @@ use Rattle.bits.specs.declared.Place.{Place}
 use Rattle.bits.proofs.Parts.{take-copies}
 use Rattle.rules.specs.Format.{Read, ok, Reader, walk, times}
 use Rattle.rules.specs.Fields.{asPrevious}
-use Rattle.widths.specs.Previous.{factorBefore}
+use Rattle.deltas.specs.Previous.{factorBefore}
 use Rattle.rules.specs.Reading.{readFactor, readFactors}
 use Rattle.rules.proofs.Turns.{onto, onto-none, walk-turn, walk-stop}
 use Rattle.rules.proofs.Cuts.{getD-copies, pad-back, set-keeps}

@@ -37,13 +37,13 @@ fn read_channel(
         (readChannel layout (kindAt layout channel) (leftAt (now (part .entry)) (place .at)))
         (now (factors .exit)) (now (side .exit)) r ⌝ }
 {
-    let coded = rules::coded_count(layout, channel);
+    let coded = layouts::coded_count(layout, channel);
     let step = read_width(part, place, coded, factors);
     let Step::At(next) = step else {
         return step;
     };
-    let count = rules::side_count(layout, channel);
-    let width = rules::side_width(layout, channel);
+    let count = layouts::side_count(layout, channel);
+    let width = layouts::side_width(layout, channel);
     read_side(part, next, count, width, side)
 }
 

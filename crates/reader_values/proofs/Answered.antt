@@ -16,7 +16,7 @@ use Rattle.bits.specs.declared.Field.the-variants.{Of, Past}
 use Rattle.bits.proofs.Fields.{got}
 use Rattle.rules.specs.Format.{Read, ok, bad, Reader, keep, require, number}
 use Rattle.rules.specs.Width.{near}
-use Rattle.widths.specs.Previous.{factorBefore}
+use Rattle.deltas.specs.Previous.{factorBefore}
 use Rattle.rules.specs.Reading.{deltaFactor, readDelta, readFactor}
 use Rattle.rules.proofs.Numbers.{number-got, number-past}
 use Rattle.buffers.proofs.Tests.{and-snd}

@@ -8,7 +8,7 @@ ghost use lib.ListN.{length};
 ghost use Rattle.bits.specs.Place.{leftAt};
 ghost use Rattle.rules.specs.Format.{require, number};
 ghost use Rattle.rules.specs.Width.{near};
-ghost use Rattle.widths.specs.Previous.{factorBefore};
+ghost use Rattle.deltas.specs.Previous.{factorBefore};
 ghost use Rattle.rules.specs.Reading.{deltaFactor, readDelta, readFactor};
 ghost use Rattle.reader_values.specs.Steps.{Inside};
 ghost use Rattle.reader_values.specs.Values.{ValueTold, valueless, judged};
@@ -59,7 +59,7 @@ fn read_escaped(part: &[u8], place: Place, d: u32, previous: u8, at: usize) -> V
     let Value::Of(factor, next) = field else {
         return field;
     };
-    if widths::is_near(d as usize, previous, factor as u8) {
+    if deltas::is_near(d as usize, previous, factor as u8) {
         return Value::Refused(Fault::BadFactor(at));
     }
     Value::Of(factor, next)
@@ -70,7 +70,7 @@ fn delta_factor(d: u32, previous: u8, v: u32) -> i32
     requires { ⌜ (1 ≤ d) × (d ≤ 5) × (v < 64) ⌝ }
     ensures { λ r. ⌜ r ≡ deltaFactor d previous v ⌝ }
 {
-    previous as i32 + (v as i32 - widths::reach(d as usize) as i32)
+    previous as i32 + (v as i32 - deltas::reach(d as usize) as i32)
 }
 
 // A factor that a delta names, or that it lies outside 0..63.

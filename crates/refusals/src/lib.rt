@@ -1,4 +1,4 @@
-// The refusals of document 01: the number, and the number beside it. Those of calls that a request adds have a module each.
+// The refusals of document 01: the number, and the number beside it. Those of the stereo call and of a line have a module each.
 ghost use mathlib.Core.Path.{_≡_};
 ghost use Rattle.rules.specs.Refusals.{refused, stageOutcome, writerOutcome, readerOutcome};
 ghost use Rattle.refusals.specs.Refusals.{refusalOf};
@@ -6,11 +6,8 @@ use rules::ReadAnswer;
 use rules::StageAnswer;
 use rules::WriteAnswer;
 
-pub mod header;
 pub mod line;
-pub mod list;
 pub mod stereo;
-pub mod wav;
 
 // A number of 0 stands for no refusal.
 pub struct Refusal {

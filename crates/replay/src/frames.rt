@@ -1,12 +1,12 @@
 // Frame-stage cases.
 ghost use Prim.Native.Nat.{_≤_};
 use refusals::stage_refusal;
+use replay_vectors::bodies::can_say;
+use replay_vectors::bodies::layout_in_body;
+use replay_vectors::bodies::past_layout;
 use replay_vectors::data::Numbers;
 use replay_vectors::data::bytes_at;
 use replay_vectors::data::numbers_at;
-use replay_vectors::layouts::can_say;
-use replay_vectors::layouts::layout_in_body;
-use replay_vectors::layouts::past_layout;
 use replay_vectors::lines::CaseOutcome;
 use replay_vectors::lines::Left;
 use replay_vectors::lines::Verdict;

@@ -2,12 +2,12 @@
 use refusals::read_refusal;
 use refusals::refused;
 use refusals::write_refusal;
+use replay_vectors::bodies::can_say;
+use replay_vectors::bodies::layout_in_body;
+use replay_vectors::bodies::past_layout;
 use replay_vectors::data::Numbers;
 use replay_vectors::data::bytes_at;
 use replay_vectors::data::numbers_at;
-use replay_vectors::layouts::can_say;
-use replay_vectors::layouts::layout_in_body;
-use replay_vectors::layouts::past_layout;
 use replay_vectors::lines::CaseOutcome;
 use replay_vectors::lines::Left;
 use replay_vectors::lines::Verdict;

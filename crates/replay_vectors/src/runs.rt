@@ -1,8 +1,8 @@
 // Lists of words that are 0 but for some runs, and what the words stand for.
-use text::numbers::float_of;
+use numbers::signed::int_of;
 use text::places::ahead;
 use text::places::at_most;
-use text::words::int_of;
+use text::values::float_of;
 use text::words::word;
 use text::words::word_past;
 

@@ -8,10 +8,10 @@ ghost use Rattle.rules.specs.Tables.{resolutionCurve};
 ghost use Rattle.rules.specs.Layout.{Sizes};
 ghost use Rattle.rules.specs.Resolution.{noiseAt, heldPosition, resolutionIn, resolution, channelResolutions, allResolutions};
 ghost use Rattle.quantizer.specs.Packed.{packedRow};
+use layouts::coded_count;
 use quantizer::held;
 use quantizer::tables::row_entry;
 use rules::Layout;
-use rules::coded_count;
 
 // Room for the resolutions of sixteen channels, of which a caller lends the layout's.
 pub const RESOLUTION_ROOM: usize = 2048;

@@ -1,13 +1,12 @@
 -- The gate of a line: its tests and their facts say the same. Assumes nothing.
-use mathlib.Core.Path.{_≡_, refl, sym, _∙_}
+use mathlib.Core.Path.{_≡_, refl}
 use mathlib.Core.List.{[]}
 use mathlib.Core.Bool.{Bool, true, false, cond, not}
-use Prim.Native.Nat.{ℕ, _*_, _^_, _≤_}
-use native.Mathlib.Nat.{mul-le-mul-right, mul-le-mul-left}
+use Prim.Native.Nat.{ℕ, _*_, _^_}
 use native.Mathlib.Omega.{arith}
 use borrow.Author.Tests.{le-leb, leb-true}
 use lib.Dec.{leb}
-use Rattle.buffers.proofs.Tests.{and-fst, and-snd, not-true-false}
+use Rattle.buffers.proofs.Tests.{and-fst, and-snd}
 use Rattle.rules.specs.Layout.{legalLayout, Sizes, frameSize, spectrumLength, factorLength, sideLength}
 use Rattle.rules.specs.Refusals.{Outcome, delivered, refused}
 use Rattle.rules.specs.declared.Layout.{Layout}
@@ -32,9 +31,6 @@ module _ (count : ℕ) (t : Tally) where
         bits = leb-true _ _ (and-fst (leb (t .bits) (2 ^ 63)) _ e₃);
         pairs = leb-true _ _ (and-snd (leb (t .bits) (2 ^ 63)) _ e₃);
       }
-
-  pub batch-false : (Batch count t → ⊥) → batchFits count t ≡ false
-  batch-false h = not-true-false (batchFits count t) (λ e. h (batch-facts e))
 
 module _ (l : Layout) (count : ℕ) (r : StageRoom) (answers : ℕ) where
   pub room-true : LineRoom l count r answers → lineRoom l count r answers ≡ true
@@ -61,13 +57,6 @@ module _ (l : Layout) (count : ℕ) (r : StageRoom) (answers : ℕ) where
         frames = leb-true _ _ (and-fst (leb (count * frameSize l) (r .stored .frame)) _ e₇);
         answers = leb-true _ _ (and-snd (leb (count * frameSize l) (r .stored .frame)) _ e₇);
       }
-
-  pub room-false : (LineRoom l count r answers → ⊥) → lineRoom l count r answers ≡ false
-  room-false h = not-true-false (lineRoom l count r answers) (λ e. h (room-facts e))
-
--- a product of two numbers that are at most 65,535
-pub product-fits : (a b : ℕ) → a ≤ 65535 → b ≤ 65535 → a * b ≤ 2 ^ 32
-product-fits a b h k = omega (arith, mul-le-mul-right b h)
 
 -- ---- an open gate
 

@@ -8,11 +8,11 @@ ghost use Rattle.rules.specs.Layout.{Sizes};
 ghost use Rattle.rules.specs.Stage.{stageHasRoom, badIntensity, badSpectrum, gate};
 ghost use Rattle.stage_gate.specs.Gate.{gateOutcome};
 use floats::finite;
+use layouts::has_room;
+use layouts::is_secondary;
+use layouts::legal;
 use rules::Layout;
 use rules::StageRoom;
-use rules::has_room;
-use rules::is_secondary;
-use rules::legal;
 
 // Whether a call may go on, or its first refusal.
 pub enum Gate {

@@ -2,8 +2,7 @@
 use mathlib.Core.Path.{_≡_, refl, sym, ap, _∙_}
 use mathlib.Core.List.{List, [], _∷_}
 use mathlib.Core.Bool.{Bool, true, false, cond}
-use Prim.Native.Nat.{ℕ, _≤_, _<_}
-use borrow.Author.Tests.{lt-ltb, le-ltb}
+use Prim.Native.Nat.{ℕ}
 use lib.Dec.{ltb}
 use lib.IntN.{ℤ}
 use lib.Ieee.{Float}
@@ -15,7 +14,7 @@ use Rattle.rules.specs.Frame.{fieldEnd, frameOf}
 use Rattle.rules.specs.Refusals.{Outcome, delivered, refused, stageOutcome}
 use Rattle.rules.specs.Stage.{StageLeft, stageLeft, Made, boundaryFor, madeFrom, madeRecord, finished, packed, settled}
 use Rattle.rules.specs.declared.Layout.{Layout}
-use Rattle.rules.specs.declared.StageAnswer.the-variants.{NoLevel}
+use Rattle.rules.specs.declared.StageAnswer.{StageAnswer}
 use Rattle.stage_run.specs.Delivery.{Delivers, foundAs, wipedBy, wiped}
 
 -- ---- from the level on
@@ -54,10 +53,11 @@ module _ (l : Layout) (sc : List Float) (si : List ℕ) (f : Found) (level pairs
   is-found = rw (p, q, r)
 
   -- refusal 5
-  pub level-none : (co : List ℤ) (fr : List ℕ) → 254 < level → wiped l (stageLeft (NoLevel pairs) sc co fa si fr) ≡ settled l (madeFrom l sc si f)
-  unfolding wiped wipedBy settled stageOutcome madeFrom
-  level-none co fr h = rw (← is-found, lt-ltb 254 level h)
+  pub level-none : (a : StageAnswer) (co : List ℤ) (fr : List ℕ) → ltb 254 level ≡ true → stageOutcome a ≡ refused 5 pairs
+      → wiped l (stageLeft a sc co fa si fr) ≡ settled l (madeFrom l sc si f)
+  unfolding wiped wipedBy settled madeFrom
+  level-none a co fr h e = rw (e, ← is-found, h)
 
-  pub settled-packed : (x : StageLeft) → level ≤ 254 → x ≡ packed l (madeFrom l sc si (foundAs level pairs fa)) → x ≡ settled l (madeFrom l sc si f)
+  pub settled-packed : (x : StageLeft) → ltb 254 level ≡ false → x ≡ packed l (madeFrom l sc si (foundAs level pairs fa)) → x ≡ settled l (madeFrom l sc si f)
   unfolding settled madeFrom
-  settled-packed x h e = e ∙ rw (← is-found, le-ltb 254 level h)
+  settled-packed x h e = e ∙ rw (← is-found, h)

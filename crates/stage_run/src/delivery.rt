@@ -1,22 +1,21 @@
 // From prepared buffers of exactly document 01's lengths to the answer: level, boundary, codes and frame.
 ghost use mathlib.Core.Path.{_≡_};
-ghost use mathlib.Core.List.{[], _∷_};
-ghost use mathlib.Core.Bool.{cond};
 ghost use Prim.Native.Nat.{_≤_};
-ghost use lib.Dec.{ltb};
 ghost use lib.ListN.{length};
 ghost use Rattle.rules.specs.Layout.{Sizes, frameSize, spectrumLength, factorLength, sideLength};
-ghost use Rattle.rules.specs.Refusals.{delivered, refused, stageOutcome};
 ghost use Rattle.rules.specs.Stage.{foundOf, stageLeft, madeFrom, packed, settled};
 ghost use Rattle.stage_run.specs.Delivery.{Sized, Delivers, foundAs, wiped};
-use budget::boundary::calculate_evaluation_boundary;
-use budget::level::calculate_noise_level;
+use boundary_search::calculate_evaluation_boundary;
 use codes::quantize_spectra;
+use level_search::calculate_noise_level;
 use packing::pack_frame;
 use resolutions::RESOLUTION_ROOM;
 use resolutions::calculate_frame_resolutions;
 use rules::Layout;
 use rules::StageAnswer;
+use stage_answers::answered;
+use stage_answers::is_no_level;
+use stage_answers::no_level;
 
 // Codes and frame. Resolutions are worked out once, for the quantiser and the packer. Answers how many bits the fields are.
 fn quantize(
@@ -84,16 +83,6 @@ fn deliver(
     )
 }
 
-// Fields that pass the payload's end are **refusal 7**, beside it their length.
-fn answered(end: usize, level: usize, boundary: usize, pairs: usize, bits: usize) -> StageAnswer
-    ensures { λ r. ⌜ stageOutcome r ≡ cond (ltb end bits) (refused 7 bits) (delivered (level ∷ boundary ∷ pairs ∷ bits ∷ [])) ⌝ }
-{
-    if end < bits {
-        return StageAnswer::TooLong(bits);
-    }
-    StageAnswer::Delivered(level, boundary, pairs, bits)
-}
-
 // The boundary, the codes and the frame of a level.
 fn boundary_to_frame(
     layout: Layout,
@@ -135,8 +124,8 @@ pub(crate) fn level_to_frame(
     let removal = calculate_noise_level(layout, scaled, factors);
     let level = removal.level;
     let pairs = removal.pairs;
-    if 254 < level {
-        return StageAnswer::NoLevel(pairs);
+    if is_no_level(level) {
+        return no_level(pairs);
     }
     boundary_to_frame(layout, level, pairs, scaled, codes, factors, side, frame)
 }

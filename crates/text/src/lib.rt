@@ -3,7 +3,7 @@ pub mod blocks;
 pub mod forms;
 pub mod lines;
 pub mod names;
-pub mod numbers;
 pub mod places;
 pub mod tables;
+pub mod values;
 pub mod words;

@@ -1,8 +1,6 @@
 // Bytes and 32-bit numbers in a file, low byte first.
 ghost use Prim.Native.Nat.{_<_};
 ghost use mathlib.Core.Path.{_≡_};
-ghost use mir.Syntax.{w32};
-ghost use mir.Val.{ofZ};
 ghost use Rattle.text.specs.Signed.{flipped};
 use crate::places::ahead;
 
@@ -65,16 +63,6 @@ fn flip(x: i32) -> i32
     ensures { λ r. ⌜ r ≡ flipped x ⌝ }
 {
     -1 - x
-}
-
-// The number with these bits: from 2^31 on, 2^32 less.
-pub fn int_of(bits: u32) -> i32
-    ensures { λ r. ⌜ ofZ w32 r ≡ bits ⌝ }
-{
-    if bits < 2147483648 {
-        return bits as i32;
-    }
-    (bits as i64 - 4294967296) as i32
 }
 
 fn up(x: i32) -> usize {

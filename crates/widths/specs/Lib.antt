@@ -1,2 +1,1 @@
-pub mod Previous
 pub mod Walks

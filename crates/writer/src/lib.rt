@@ -4,13 +4,13 @@ ghost use Prim.Native.Nat.{_*_};
 ghost use lib.ListN.{length};
 ghost use Rattle.rules.specs.Layout.{Sizes, frameSize, roomOf, Enough};
 ghost use Rattle.rules.specs.Writer.{writerLent, writerLeft, recordWritten, written};
+use layouts::has_room;
+use layouts::legal;
 use packing::pack_frame;
 use resolutions::RESOLUTION_ROOM;
 use rules::Layout;
 use rules::Room;
 use rules::WriteAnswer;
-use rules::has_room;
-use rules::legal;
 use writer_legal::is_legal;
 
 // On buffers of the stated lengths.

@@ -8,12 +8,12 @@ ghost use lib.ListN.{length};
 ghost use Rattle.rules.specs.Layout.{Sizes, kindAt, sideWidth, part};
 ghost use Rattle.rules.specs.Resolution.{allResolutions};
 ghost use Rattle.rules.specs.Record.{codeRange, legalHead, legalRow, legalSubframe, legalCodes, legalChannel, legalChannels, legalRecord};
+use layouts::coded_count;
+use layouts::is_secondary;
+use layouts::side_count;
 use quantizer::tables::limit_of;
 use resolutions::calculate_frame_resolutions;
 use rules::Layout;
-use rules::coded_count;
-use rules::is_secondary;
-use rules::side_count;
 
 fn legal_head(level: usize, boundary: usize) -> bool
     ensures { λ r. ⌜ r ≡ legalHead level boundary ⌝ }

@@ -2,7 +2,7 @@
 use mathlib.Core.Path.{_∙_}
 use native.Mathlib.Omega.{arith}
 use borrow.Author.Needs.{needs}
-use Rattle.rules_line.proofs.Gates.{product-fits}
+use Rattle.line_gate.proofs.Tests.{product-fits}
 use Rattle.line_frames.proofs.Placed.{placed, ends-low, ends-within, lent-long}
 use Rattle.line_frames.proofs.encode_part.Statement.{statement}
 use Rattle.line_frames.proofs.encode_part.Tie as tie

@@ -2,7 +2,7 @@
 use Prim.Native.Nat.{_-_}
 use native.Mathlib.Omega.{arith}
 use lib.ListN.{getD}
-use Rattle.widths.specs.Previous.{factorBefore}
+use Rattle.deltas.specs.Previous.{factorBefore}
 use Rattle.packing_header.proofs.Walks.{first-factor, six-factor, later-factor}
 use borrow.Author.Needs.{needs}
 use Rattle.packing_header.proofs.write_factor.Statement.{statement}

@@ -2,8 +2,8 @@
 use mathlib.Core.Path.{sym, _∙_, ap}
 use lib.IntN.{pos}
 use lib.ListN.{replicate}
-use Rattle.reader_frame.specs.Scans.{foundLeft}
-use Rattle.reader_frame.proofs.Records.{cleared-left}
+use Rattle.reader_record.specs.Scans.{foundLeft}
+use Rattle.reader_frame.proofs.Frames.{cleared-left}
 use borrow.Author.Needs.{needs}
 use Rattle.reader_frame.proofs.read_exact.Statement.{statement}
 use Rattle.reader_frame.proofs.read_exact.Tie as tie

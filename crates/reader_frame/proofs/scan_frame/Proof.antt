@@ -6,7 +6,7 @@ use Rattle.rules.specs.Refusals.{readerOutcome}
 use Rattle.rules.specs.Reader.{scannedLeft}
 use Rattle.rules.specs.declared.ReadAnswer.the-variants as read
 use Rattle.reader_frame.proofs.Frames.{unsealed, sync-there, unsynced, synced}
-use Rattle.reader_frame.proofs.Records.{refused-left}
+use Rattle.reader_record.proofs.Records.{refused-left}
 use borrow.Author.Needs.{needs}
 use Rattle.reader_frame.proofs.scan_frame.Statement.{statement}
 use Rattle.reader_frame.proofs.scan_frame.Tie as tie

@@ -6,7 +6,7 @@ use borrow.Author.Needs.{needs}
 use lib.ListN.{length}
 use Rattle.bits.specs.Place.{leftAt}
 use Rattle.rules.specs.Fields.{asPrevious}
-use Rattle.widths.specs.Previous.{factorBefore}
+use Rattle.deltas.specs.Previous.{factorBefore}
 use Rattle.rules.specs.Reading.{readFactor, readFactors}
 use Rattle.reader_values.proofs.Answered.{told-of}
 use Rattle.reader_header.proofs.Walks.{Going, going-none, going-more, going-stop, going-all, before-more, factors-start, factors-none}

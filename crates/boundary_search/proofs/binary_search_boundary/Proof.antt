@@ -1,0 +1,101 @@
+-- `boundary_search::binary_search_boundary` meets its contract. The invariant: the search from here on finds what the whole one does. Assumes nothing.
+use mathlib.Core.Path.{_≡_, sym, _∙_}
+use Prim.Native.Nat.{_≤_, _-_}
+use native.Mathlib.Omega.{arith}
+use borrow.Author.Needs.{needs}
+use borrow.Author.Tests.{eq-eqb, ne-eqb}
+use Rattle.rules.specs.Estimate.{exceeds}
+use Rattle.rules.specs.Boundary.{lastOf, narrow, searchBoundary}
+use Rattle.rules.proofs.Boundaries.{boundary-start, narrow-up, narrow-down, narrow-end}
+use Rattle.boundary_search.proofs.binary_search_boundary.Statement.{statement}
+use Rattle.boundary_search.proofs.binary_search_boundary.Tie as tie
+
+abbrev Inv-loop : tie.InvT-loop
+Inv-loop layout scaled factors level fixed low₀ high₀ low high =
+    (low ≤ high) × (high ≤ 127) × (low ≤ 126)
+    × (searchBoundary (exceeds layout scaled factors level) ≡ narrow (exceeds layout scaled factors level) (high - low) low high)
+
+abbrev μ-loop : tie.MeasureT-loop
+μ-loop layout scaled factors level fixed low₀ high₀ low high = high - low
+
+calculate-frame-header-length-requires : tie.Need-calculate-frame-header-length-requires Inv-loop μ-loop
+calculate-frame-header-length-requires c κs = search needs
+
+loop-holds : tie.Need-loop-holds Inv-loop μ-loop
+loop-holds c = (search needs, search needs, search needs, boundary-start _)
+
+add-loop : tie.Need-add-loop Inv-loop μ-loop
+add-loop c = search needs
+
+add-mid : tie.Need-add-mid Inv-loop μ-loop
+add-mid c = search needs
+
+is-over-requires : tie.Need-is-over-requires Inv-loop μ-loop
+is-over-requires c κs = search needs
+
+sub-high : tie.Need-sub-high Inv-loop μ-loop
+sub-high c = search needs
+
+loop-less : tie.Need-loop-less Inv-loop μ-loop
+loop-less c = search needs
+
+loop-again : tie.Need-loop-again Inv-loop μ-loop
+loop-again c =
+    let s = c .before .before .before in
+    (omega arith, omega arith, omega arith, s .loop .inv .3 ∙ narrow-down _ _ _ (c .before .before .loop-test .taken) (sym (c .before .is-over .ensures) ∙ c .if1 .taken))
+
+loop-less-2 : tie.Need-loop-less-2 Inv-loop μ-loop
+loop-less-2 c = search needs
+
+loop-again-2 : tie.Need-loop-again-2 Inv-loop μ-loop
+loop-again-2 c =
+    let s = c .before .before .before in
+    (omega arith, omega arith, omega arith, s .loop .inv .3 ∙ narrow-up _ _ _ (c .before .before .loop-test .taken) (sym (c .before .is-over .ensures) ∙ c .if1 .left))
+
+returns : tie.Need-returns Inv-loop μ-loop
+unfolding lastOf
+returns c =
+    let s = c .before .before in
+    (sym (s .loop .inv .3 ∙ (narrow-end _ _ _ _ (c .before .loop-test .left) ∙ rw (eq-eqb _ _ (c .if2 .taken)))), omega arith)
+
+is-over-requires-2 : tie.Need-is-over-requires-2 Inv-loop μ-loop
+is-over-requires-2 c κs = search needs
+
+returns-2 : tie.Need-returns-2 Inv-loop μ-loop
+unfolding lastOf
+returns-2 c =
+    let s = c .before .before .before .before in (
+      sym (s .loop .inv .3 ∙ (narrow-end _ _ _ _ (c .before .before .before .loop-test .left)
+          ∙ rw (ne-eqb _ _ (c .before .before .if2 .left), sym (c .before .is-over2 .ensures) ∙ c .if3 .taken))),
+      omega arith,
+    )
+
+returns-3 : tie.Need-returns-3 Inv-loop μ-loop
+unfolding lastOf
+returns-3 c =
+    let s = c .before .before .before .before in (
+      sym (s .loop .inv .3 ∙ (narrow-end _ _ _ _ (c .before .before .before .loop-test .left)
+          ∙ rw (ne-eqb _ _ (c .before .before .if2 .left), sym (c .before .is-over2 .ensures) ∙ c .if3 .left))),
+      omega arith,
+    )
+
+pub binary-search-boundary-spec : {M : Type 1} → statement M
+binary-search-boundary-spec =
+    tie.close
+    (tie.spec
+    Inv-loop
+    μ-loop
+    calculate-frame-header-length-requires
+    loop-holds
+    add-loop
+    add-mid
+    is-over-requires
+    sub-high
+    loop-less
+    loop-again
+    loop-less-2
+    loop-again-2
+    returns
+    is-over-requires-2
+    returns-2
+    returns-3)

@@ -1,0 +1,24 @@
+-- `cli_words::counts::sides` is safe: a legal layout has the sizes that the callee asks for. Assumes nothing.
+use mathlib.Core.Path.{sym, _∙_}
+use borrow.Author.Needs.{needs}
+use Rattle.rules.proofs.Layouts.{legal-sizes}
+use Rattle.cli_words.proofs.counts.sides.Statement.{statement}
+use Rattle.cli_words.proofs.counts.sides.Tie as tie
+
+legal-requires : tie.Need-legal-requires
+legal-requires c κs = search needs
+
+side-count-requires : tie.Need-side-count-requires
+side-count-requires c κs = (legal-sizes _ (sym (c .before .before .legal .ensures) ∙ c .before .if1 .taken), c .if2 .taken)
+
+returns : tie.Need-returns
+returns c = search needs
+
+returns-2 : tie.Need-returns-2
+returns-2 c = search needs
+
+returns-3 : tie.Need-returns-3
+returns-3 c = search needs
+
+pub sides-spec : {M : Type 1} → statement M
+sides-spec = tie.close (tie.spec legal-requires side-count-requires returns returns-2 returns-3)
