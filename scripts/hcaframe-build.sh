@@ -14,5 +14,12 @@ cat >"$log.c" <<'C'
 int hcaframe_run(void);
 int main(void) { signal(SIGPIPE, SIG_IGN); return hcaframe_run(); }
 C
-"$x86_cc" -O2 -o target/hcaframe "$log.c" target/staticlib/libcli.a $beside
+if [ -z "$x86_run" ]; then
+    "$x86_cc" -O2 -o target/hcaframe "$log.c" target/staticlib/libcli.a $beside
+else
+    # elsewhere target/hcaframe is a script that calls the emulator, so that a user's words are the same
+    "$x86_cc" -O2 -o target/hcaframe.x86-64 "$log.c" target/staticlib/libcli.a $beside
+    printf '#!/bin/sh\nexec %s "%s" "$@"\n' "$x86_run" "$(pwd)/target/hcaframe.x86-64" >target/hcaframe
+    chmod 755 target/hcaframe
+fi
 echo "target/hcaframe"

@@ -6,9 +6,9 @@ set -u
 here=$(cd "$(dirname "$0")/.." && pwd)
 program=${1:-$here/target/hcaframe}
 case $program in /*) ;; *) program=$(pwd)/$program ;; esac
-# where the program is run by an emulator, that is a program of its own
+# where the program is run by an emulator, that is a program of its own; target/hcaframe calls it by itself
 . "$here/scripts/x86-64.sh"
-if [ -n "$x86_run" ]; then
+if [ -n "$x86_run" ] && [ "$program" != "$here/target/hcaframe" ]; then
     emulated=$(mktemp)
     printf '#!/bin/sh\nexec %s "%s" "$@"\n' "$x86_run" "$program" >"$emulated"
     chmod 755 "$emulated"

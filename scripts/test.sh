@@ -11,20 +11,33 @@ cd "$(dirname "$0")/.."
 export RT_JOBS="${RT_JOBS:-12}"
 rt fmt --check
 log=$(mktemp)
-trap 'rm -f "$log" "$log.status"' EXIT
+trap 'rm -f "$log" "$log.status" "$log.beside"' EXIT
 { rt ci 2>&1 && echo 0 >"$log.status" || echo 1 >"$log.status"; } | tee "$log"
 if [ "$(cat "$log.status")" -ne 0 ]; then
     exit 1
 fi
+# the command line is tried beside the next build: one processor each
+beside=$log.beside
+# tried PROCESS: what the tests in the background said, and whether they passed
+tried() {
+    status=0
+    wait "$1" || status=$?
+    cat "$beside"
+    [ "$status" -eq 0 ] || exit 1
+}
 if can_run; then
-    sh scripts/hcaframe-test.sh target/bin/hcaframe
+    sh scripts/hcaframe-test.sh target/bin/hcaframe >"$beside" 2>&1 &
+    tests=$!
+    if can_compile; then sh scripts/hcaframe-build.sh; fi
+    tried "$tests"
 else
     echo "SKIPPED: the command line's tests (programs for x86-64 do not run here; qemu-x86_64 is needed)"
 fi
 if can_compile; then
-    sh scripts/hcaframe-build.sh
-    sh scripts/hcaframe-test.sh
+    sh scripts/hcaframe-test.sh >"$beside" 2>&1 &
+    tests=$!
     rt staticlib hca
+    tried "$tests"
     for example in examples/*.c; do
         program=target/$(basename "$example" .c)-example
         "$x86_cc" -std=c99 -Wall -Wextra -Iinclude "$example" target/staticlib/libhca.a -o "$program"
