@@ -5,8 +5,8 @@ ghost use lib.ListN.{length};
 ghost use Rattle.rules.specs.Layout.{Sizes, spectrumLength, factorLength};
 ghost use Rattle.rules.specs.Estimate.{exceeds};
 ghost use Rattle.rules.specs.Boundary.{searchBoundary, boundaryOf};
-use estimate::calculate_frame_header_length;
 use estimate::is_over;
+use estimate_header::calculate_frame_header_length;
 use rules::Layout;
 
 // It always answers: low moves only to a probe below high.

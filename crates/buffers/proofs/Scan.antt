@@ -1,5 +1,5 @@
 -- A loop that looks for the first index with a property, one that goes on behind it, and a loop that adds up. Assumes nothing.
-use mathlib.Core.Path.{_≡_, refl, ap, _∙_}
+use mathlib.Core.Path.{_≡_, refl, sym, ap, _∙_}
 use mathlib.Core.Bool.{Bool, true, false, _||_}
 use Prim.Native.Nat.{ℕ, zero, suc, _+_, _-_, _*_, _≤_, _<_, zero-le}
 use native.Mathlib.Nat.{suc-mul, add-le-add}
@@ -56,3 +56,7 @@ pub sum-bound : (f : ℕ → ℕ) (n m : ℕ) → ((i : ℕ) → i < n → f i �
 unfolding sumTo
 sum-bound f zero m h = zero-le
 sum-bound f (suc n) m h = rw (suc-mul n m) (add-le-add (sum-bound f n m (λ i lt. h i (omega arith))) (h n (omega arith)))
+
+-- a turn of a loop that adds up
+pub sum-turn : (f : ℕ → ℕ) (n sum v : ℕ) → sum ≡ sumTo f n → v ≡ f n → sum + v ≡ sumTo f (n + 1)
+sum-turn f n sum v p q = rw (p, q) (sym (sum-more f n))

@@ -1,5 +1,7 @@
 // One frame of each command of hcaframe, by the public calls.
 use crate::listing::is_list_full;
+use binary::values::take_floats;
+use binary::words::word;
 use cli_files::headers::is_whole_hca;
 use cli_files::job::Job;
 use cli_runs::outcomes::after_encode;
@@ -18,8 +20,6 @@ use cli_words::names::Name;
 use rules::Layout;
 use rules::StageAnswer;
 use rules_stereo::StereoAnswer;
-use text::values::take_floats;
-use text::words::word;
 
 // The stage, with room of its own for what only the stage needs.
 fn encode_spectra(

@@ -6,11 +6,11 @@ use cli_reports::reasons::say_call_refusal;
 use cli_runs::progress::Run;
 use cli_runs::progress::stopped;
 use cli_words::manual::complain;
+use places::at_most;
 use refusals_files::list::list_write_refusal;
 use rules_files::list::Entry;
 use text::forms::say_form;
 use text::lines::put_out;
-use text::places::at_most;
 
 // A place past the end is passed over.
 fn put_u32(out: &mut [u32], i: usize, x: u32) {

@@ -1,9 +1,9 @@
 // Whole HCA files, which are not what this program takes: it takes the frames alone.
+use binary::words::word;
+use places::byte;
+use places::more;
 use text::forms::say_form;
 use text::lines::say;
-use text::places::more;
-use text::words::byte;
-use text::words::word;
 
 // Do these bytes begin a whole HCA file, with the letters HCA and a zero? A frame begins with FFFF.
 pub fn is_whole_hca(bytes: &[u8]) -> bool {

@@ -8,11 +8,11 @@ use cli_runs::progress::stopped;
 use cli_runs::progress::text_told;
 use cli_runs::progress::without_frames;
 use cli_words::manual::complain;
+use places::more;
 use text::blocks::Block;
 use text::blocks::next_block;
 use text::forms::say_form;
 use text::lines::put_out;
-use text::places::more;
 
 // Writes the first n bytes, and counts them.
 fn put_part(job: Job, run: Run, block: &[u8], n: usize) -> Run {

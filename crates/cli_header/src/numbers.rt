@@ -7,11 +7,11 @@ use cli_reports::limits::broken_by;
 use cli_reports::limits::is_outside;
 use cli_reports::limits::say_broken;
 use cli_words::names::Name;
+use places::at_most;
 use refusals::Refusal;
 use rules::Layout;
 use rules_files::header::LoopPoints;
 use rules_files::header::Stream;
-use text::places::at_most;
 
 // A loop has both of its ends, or there is none.
 fn points_of(options: Options) -> LoopPoints {

@@ -22,6 +22,8 @@ use cli_runs::progress::stopped;
 use cli_runs::progress::text_told;
 use cli_words::manual::complain;
 use cli_words::names::Name;
+use places::at_most;
+use places::within;
 use refusals::Refusal;
 use refusals_files::list::entry_refusal;
 use refusals_files::list::list_read_refusal;
@@ -29,8 +31,6 @@ use rules_files::list::EntryAnswer;
 use rules_files::list::ListAnswer;
 use rules_files::list::SummaryAnswer;
 use text::forms::say_form;
-use text::places::at_most;
-use text::places::within;
 
 pub mod rooms;
 mod rows;

@@ -1,7 +1,7 @@
 // The table of a list. Its bits may be any number of 32 bits.
+use places::at_most;
 use text::forms::say_row;
 use text::lines::say;
-use text::places::at_most;
 
 pub(crate) fn say_list_head(fd: i32) -> bool {
     say(fd, b"   frame  level  boundary  pairs       bits\n")

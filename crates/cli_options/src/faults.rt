@@ -5,6 +5,7 @@ use crate::said::file_of;
 use crate::said::put_path;
 use cli_words::manual::say_usage;
 use cli_words::names::Name;
+use cli_words::names::name_at;
 use cli_words::names::say_name;
 use text::forms::say_form;
 use text::lines::say;
@@ -73,20 +74,15 @@ pub const NO_SPECTRA: usize = 19;
 
 pub const TWO_SPECTRA: usize = 20;
 
-// The file and the line of a word that comes from a layout file.
-fn say_origin(options: Options) {
+// Begins what is said, with the file and the line of a word that comes from a layout file.
+fn begin(options: Options) {
+    say(2, b"hcaframe: ");
     if options.line != 0 {
         let mut path = io::buffer();
         let n = put_path(file_of(options, Name::Layout), &mut path);
         say(2, &path[..n]);
         say_form(2, b", line #: ", &[options.line]);
     }
-}
-
-// Begins what is said.
-fn begin(options: Options) {
-    say(2, b"hcaframe: ");
-    say_origin(options);
 }
 
 // Ends it, and says how the command is called.
@@ -106,9 +102,8 @@ pub fn refuse_word(options: Options, word: &[u8], fault: usize) -> Options {
 
 // Of the value that an option waits for.
 pub fn refuse_value(options: Options, word: &[u8], fault: usize) -> Options {
-    let name = options.waiting;
     begin(options);
-    say_name(2, name);
+    say_name(2, name_at(options.waiting));
     say(2, b": ");
     say(2, word);
     refuse_with_usage(options, fault)

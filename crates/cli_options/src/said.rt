@@ -2,14 +2,13 @@
 ghost use Rattle.io.specs.Counts.{Counts};
 use crate::options::Options;
 use crate::options::option_number;
-use crate::options::option_start;
-use crate::options::option_value;
 use cli_words::names::Name;
+use cli_words::names::place_of;
+use places::at_most;
+use places::within;
 use rules::Layout;
 use text::lines::put_text;
 use text::names::is_same;
-use text::places::at_most;
-use text::places::within;
 use whole_files::standard::is_standard;
 
 pub fn layout_from_words(options: Options) -> Layout {
@@ -31,9 +30,16 @@ pub struct FileName {
 }
 
 pub fn file_of(options: Options, name: Name) -> FileName {
+    let k = place_of(name);
+    if k < 24 {
+        return FileName {
+            argument: options.values[k],
+            start: options.starts[k],
+        };
+    }
     FileName {
-        argument: option_value(options, name),
-        start: option_start(options, name),
+        argument: 0,
+        start: 0,
     }
 }
 
@@ -50,12 +56,14 @@ pub fn put_path(file: FileName, path: &mut [u8]) -> usize
 
 // Are the two options given, and do they name one file by the same letters? Standard input and standard output are two.
 pub fn is_same_name(options: Options, a: Name, b: Name, is_output: bool) -> bool {
-    if option_value(options, a) == 0 || option_value(options, b) == 0 {
+    let one = file_of(options, a);
+    let other = file_of(options, b);
+    if one.argument == 0 || other.argument == 0 {
         return false;
     }
     let mut x = io::buffer();
     let mut y = io::buffer();
-    let n = put_path(file_of(options, a), &mut x);
-    let m = put_path(file_of(options, b), &mut y);
+    let n = put_path(one, &mut x);
+    let m = put_path(other, &mut y);
     is_same(&x[..n], &y[..m]) && !(is_output && is_standard(&x[..n]))
 }

@@ -22,9 +22,7 @@ use cli_options::faults::refuse_value;
 use cli_options::faults::refuse_word;
 use cli_options::options::Options;
 use cli_options::options::is_given;
-use cli_options::options::waits;
 use cli_options::options::with_option;
-use cli_options::options::with_waiting;
 use cli_words::commands::is_encode;
 use cli_words::names::Name;
 use cli_words::names::is_needed;
@@ -35,13 +33,13 @@ use cli_words::names::name_at;
 use cli_words::names::name_of;
 use cli_words::names::place_of;
 use cli_words::names::takes_layout;
+use places::more;
+use places::within;
 use text::names::Spelt;
 use text::names::spelt_number;
-use text::places::more;
-use text::places::within;
+use text::tables::part_end;
 
-fn take_number(options: Options, word: &[u8]) -> Options {
-    let name = options.waiting;
+fn take_number(options: Options, name: Name, word: &[u8]) -> Options {
     match spelt_number(word) {
         Spelt::Number(n) => with_option(options, name, more(n, 1)),
         Spelt::Other => refuse_value(options, word, NO_NUMBER),
@@ -61,8 +59,7 @@ fn take_kinds(options: Options, word: &[u8]) -> Options {
 }
 
 // A file is kept as its argument.
-fn take_file(options: Options, word: &[u8]) -> Options {
-    let name = options.waiting;
+fn take_file(options: Options, name: Name, word: &[u8]) -> Options {
     if word.len() == 0 {
         return refuse_option(options, name, EMPTY_NAME);
     }
@@ -73,49 +70,32 @@ fn take_file(options: Options, word: &[u8]) -> Options {
 fn take_value(options: Options, start: usize, word: &[u8]) -> Options {
     let mut o = options;
     o.start = start;
-    let name = options.waiting;
+    let name = name_at(options.waiting);
     if is_number(name) {
-        return take_number(o, word);
+        return take_number(o, name, word);
     }
     match name {
         Name::Kinds => take_kinds(o, word),
-        _ => take_file(o, word),
+        _ => take_file(o, name, word),
     }
 }
 
-// A word of a layout file comes from no argument, and is of a layout.
-fn is_welcome(options: Options, name: Name) -> bool {
-    if options.line != 0 && !is_of_layout(name) {
-        return false;
-    }
-    let command = options.command;
-    is_taken(command, name)
-}
-
-// What is wrong with an option; 0 if nothing is.
+// What is wrong with an option; 0 if nothing is. A layout file has those of a layout alone.
 fn option_fault(options: Options, name: Name) -> usize {
     if place_of(name) == 0 {
         return UNKNOWN_WORD;
     }
-    if !is_welcome(options, name) {
+    if options.line != 0 && !is_of_layout(name) {
+        return NOT_WELCOME;
+    }
+    let command = options.command;
+    if !is_taken(command, name) {
         return NOT_WELCOME;
     }
     if is_given(options, name) {
         return GIVEN_TWICE;
     }
     0
-}
-
-// Where the option's name ends: at the first =, or with the word.
-fn name_end(word: &[u8]) -> usize {
-    let mut i = 0;
-    while i < word.len() {
-        if word[i] == b'=' {
-            return i;
-        }
-        i += 1;
-    }
-    word.len()
 }
 
 // The one option without a value.
@@ -133,7 +113,8 @@ fn take_named(options: Options, name: Name, word: &[u8], end: usize) -> Options
     if place_of(name) == place_of(Name::Quiet) {
         return take_quiet(options, end < word.len());
     }
-    let o = with_waiting(options, name);
+    let mut o = options;
+    o.waiting = place_of(name);
     if end < word.len() {
         let start = end + 1;
         return take_value(o, start, &word[start..]);
@@ -142,7 +123,7 @@ fn take_named(options: Options, name: Name, word: &[u8], end: usize) -> Options
 }
 
 fn take_option(options: Options, word: &[u8]) -> Options {
-    let end = within(name_end(word), word);
+    let end = within(part_end(word, 0, b'='), word);
     let name = name_of(&word[..end]);
     let fault = option_fault(options, name);
     if fault != 0 {
@@ -151,20 +132,22 @@ fn take_option(options: Options, word: &[u8]) -> Options {
     take_named(options, name, word, end)
 }
 
-pub(crate) fn take_word(options: Options, word: &[u8]) -> Options {
-    if waits(options) {
-        return take_value(options, 0, word);
+// A word of this line of a layout file, or with line 0 of the command line.
+pub(crate) fn take_word(options: Options, line: usize, word: &[u8]) -> Options {
+    let mut o = options;
+    o.line = line;
+    if o.waiting != 0 {
+        return take_value(o, 0, word);
     }
-    take_option(options, word)
+    take_option(o, word)
 }
 
 // Nothing may wait for its value.
 pub(crate) fn closed(options: Options) -> Options {
-    if options.is_bad || !waits(options) {
+    if options.is_bad || options.waiting == 0 {
         return options;
     }
-    let name = options.waiting;
-    refuse_option(options, name, NO_VALUE)
+    refuse_option(options, name_at(options.waiting), NO_VALUE)
 }
 
 // Is the option needed, and not there?

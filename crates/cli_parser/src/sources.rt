@@ -7,16 +7,16 @@ use crate::parser::whole_words;
 use cli_options::faults::NO_LAYOUT_FILE;
 use cli_options::faults::refuse_word;
 use cli_options::options::Options;
+use cli_options::options::is_given;
 use cli_options::options::none_yet;
-use cli_options::options::option_value;
 use cli_options::options::spoilt;
 use cli_options::said::file_of;
 use cli_options::said::put_path;
 use cli_words::commands::Command;
 use cli_words::manual::complain;
 use cli_words::names::Name;
+use places::more;
 use text::blocks::is_at_end;
-use text::places::more;
 use whole_files::standard::open_input;
 
 fn take_argument(options: Options, i: usize) -> Options {
@@ -28,7 +28,7 @@ fn take_argument(options: Options, i: usize) -> Options {
     }
     let mut o = options;
     o.argument = i;
-    take_word(o, &word[..n])
+    take_word(o, 0, &word[..n])
 }
 
 // The arguments behind the command.
@@ -115,13 +115,6 @@ fn line_at(text: &[u8], at: usize) -> usize {
     line
 }
 
-// A word, with its line for what is said of it.
-fn take_word_on(options: Options, line: usize, word: &[u8]) -> Options {
-    let mut o = options;
-    o.line = line;
-    take_word(o, word)
-}
-
 fn take_words(options: Options, text: &[u8]) -> Options {
     let mut o = options;
     let mut at = 0;
@@ -129,7 +122,7 @@ fn take_words(options: Options, text: &[u8]) -> Options {
         let a = word_start(text, at);
         let e = word_end(text, a);
         if a < e && !o.is_bad {
-            o = take_word_on(o, line_at(text, a), &text[a..e]);
+            o = take_word(o, line_at(text, a), &text[a..e]);
         }
         at = further(at, e, text.len());
     }
@@ -150,19 +143,15 @@ fn from_open(options: Options, path: &[u8], fd: i32) -> Options {
     all
 }
 
-fn from_file(options: Options, path: &[u8]) -> Options {
-    let fd = open_input(path);
-    if fd < 0 {
-        complain(path);
-        return spoilt(options);
-    }
-    from_open(options, path, fd)
-}
-
 fn from_layout(options: Options) -> Options {
     let mut path = io::buffer();
     let n = put_path(file_of(options, Name::Layout), &mut path);
-    from_file(options, &path[..n])
+    let fd = open_input(&path[..n]);
+    if fd < 0 {
+        complain(&path[..n]);
+        return spoilt(options);
+    }
+    from_open(options, &path[..n], fd)
 }
 
 // The words of a command, from wherever they come.
@@ -171,7 +160,7 @@ pub fn all_words(command: Command) -> Options {
     if o.is_bad {
         return o;
     }
-    if option_value(o, Name::Layout) == 0 {
+    if !is_given(o, Name::Layout) {
         return whole_words(o);
     }
     let all = from_layout(o);

@@ -3,9 +3,9 @@ use crate::values::less;
 use crate::values::most_of;
 use crate::values::per;
 use crate::values::thousandths;
+use places::at_most;
+use places::more;
 use text::forms::say_form;
-use text::places::at_most;
-use text::places::more;
 
 // A column of the picture, in a field of 10,000 by 1,000; a height of 0 draws nothing.
 fn say_bar(fd: i32, column: usize, columns: usize, height: usize) -> bool {

@@ -5,8 +5,8 @@ use crate::values::less;
 use crate::values::per;
 use crate::values::thousandths;
 use crate::values::value;
+use places::at_most;
 use text::forms::say_form;
-use text::places::at_most;
 
 // How badly a frame was starved.
 fn want(entries: &[u32], frame: usize) -> usize {

@@ -7,9 +7,9 @@ use crate::values::LEVEL;
 use crate::values::MOST_FRAMES;
 use crate::values::PAIRS;
 use crate::values::most_of;
+use places::at_most;
 use text::forms::say_form;
 use text::lines::say;
-use text::places::at_most;
 
 // The picture is lower where no bits are drawn.
 fn say_head(fd: i32, has_bits: bool) -> bool {
@@ -28,9 +28,7 @@ fn say_head(fd: i32, has_bits: bool) -> bool {
         )
 }
 
-fn say_title(fd: i32, entries: &[u32], frames: usize) -> bool {
-    let level = most_of(entries, 0, frames, LEVEL);
-    let pairs = most_of(entries, 0, frames, PAIRS);
+fn say_title(fd: i32, frames: usize, level: usize, pairs: usize) -> bool {
     say_form(
         fd,
         b"<text x='60' y='24'>Frames: #. Highest level: #. Most pairs of bands removed: #.</text>\n",
@@ -49,15 +47,6 @@ fn say_tick(fd: i32, y: usize, number: usize) -> bool {
         b"<line x1='60' y1='#' x2='1160' y2='#'/><text class='number' x='52' y='#'>#</text>\n",
         &[y, y, at_most(y, 600) + 4, number],
     )
-}
-
-// Levels up to 256 are the stage's own; a list may have higher ones.
-fn top_level(entries: &[u32], frames: usize) -> usize {
-    if 256 < most_of(entries, 0, frames, LEVEL) {
-        512
-    } else {
-        256
-    }
 }
 
 fn say_levels(fd: i32, entries: &[u32], frames: usize, top: usize) -> bool {
@@ -122,9 +111,11 @@ fn say_ends(fd: i32, frames: usize) -> bool {
 // Draws the list of these frames, up to 65,535 of them, on the descriptor; a frame size of 0 stands for none. False where not all could be written.
 pub fn draw_list(fd: i32, entries: &[u32], frames: usize, frame_size: usize) -> bool {
     let n = at_most(frames, MOST_FRAMES);
-    let top = top_level(entries, n);
+    let level = most_of(entries, 0, n, LEVEL);
+    // levels up to 256 are the stage's own; a list may have higher ones
+    let top = if 256 < level { 512 } else { 256 };
     say_head(fd, 2 < frame_size)
-        && say_title(fd, entries, n)
+        && say_title(fd, n, level, most_of(entries, 0, n, PAIRS))
         && say_levels(fd, entries, n, top)
         && say_pairs(fd, entries, n)
         && say_bits(fd, entries, n, frame_size)

@@ -1,6 +1,6 @@
 // The numbers of a list, four to a frame: level, boundary, pairs, bits; and the arithmetic of a picture.
 ghost use Prim.Native.Nat.{_≤_};
-use text::places::at_most;
+use places::at_most;
 
 pub(crate) const LEVEL: usize = 0;
 

@@ -1,6 +1,8 @@
 // What a frame holds, in words.
 use cli_words::counts::coded;
 use cli_words::counts::sides;
+use places::ahead;
+use places::byte;
 use rules::Layout;
 use text::forms::put_form;
 use text::forms::say_form;
@@ -8,8 +10,6 @@ use text::lines::put_int;
 use text::lines::put_number;
 use text::lines::put_text;
 use text::lines::say_line;
-use text::places::ahead;
-use text::words::byte;
 
 // Puts n bytes from a place on as numbers, each after a space.
 fn put_values(line: &mut [u8], place: usize, data: &[u8], from: usize, n: usize) -> usize {
@@ -78,7 +78,7 @@ fn say_channel(
     side: &[u8],
     codes: &[i32],
 ) -> bool {
-    let c = text::places::at_most(channel, 16);
+    let c = places::at_most(channel, 16);
     let n = coded(layout, c);
     say_channel_head(fd, channel, n)
         && say_values(fd, b"    factors", factors, c * 128, n)

@@ -1,10 +1,10 @@
 // What is told of a layout that no call takes.
 use crate::reasons::say_call_refusal;
 use layouts::legal;
+use places::more;
 use refusals::Refusal;
 use refusals::refused;
 use rules::Layout;
-use text::places::more;
 
 // The limit that is broken, with what it was broken by; line 0 is for any other.
 const LIMITS: [u8; 207] = *b"\n\

@@ -15,6 +15,7 @@ use cli_reports::table::say_stage_head;
 use cli_reports::table::say_stage_row;
 use cli_words::commands::Command;
 use cli_words::commands::is_check;
+use places::more;
 use refusals::Refusal;
 use refusals::read_refusal;
 use refusals::stage_refusal;
@@ -26,7 +27,6 @@ use rules::WriteAnswer;
 use rules_stereo::StereoAnswer;
 use text::forms::say_form;
 use text::lines::put_out;
-use text::places::more;
 
 // The frame's bytes, behind its line.
 fn with_bytes(job: Job, run: Run, frame: &[u8]) -> Run {

@@ -4,6 +4,7 @@ use cli_files::job::Job;
 use cli_reports::reasons::say_refusal;
 use cli_words::counts::side_value_count;
 use cli_words::manual::complain;
+use places::more;
 use refusals::Refusal;
 use rules_files::list::Entry;
 use text::blocks::Block;
@@ -11,7 +12,6 @@ use text::blocks::is_at_end;
 use text::blocks::next_block;
 use text::forms::say_form;
 use text::lines::say;
-use text::places::more;
 
 // Frames done, their bytes, and how many were refused; the last frame's numbers as a list has them; the status so far; whether there is more to do;
 // whether the text has ended before the work, and whether by a fault.

@@ -1,4 +1,9 @@
 // Records in the form of a file: level and boundary, factors from byte 8 on, then side values, then codes.
+use binary::values::put_bytes;
+use binary::values::put_ints;
+use binary::values::take_bytes;
+use binary::values::take_ints;
+use binary::words::put_word;
 use cli_files::job::Job;
 use cli_words::counts::factor_count;
 use cli_words::counts::record_size;
@@ -6,11 +11,6 @@ use cli_words::counts::side_value_count;
 use cli_words::counts::value_count;
 use rules::Layout;
 use text::lines::put_out;
-use text::values::put_bytes;
-use text::values::put_ints;
-use text::values::take_bytes;
-use text::values::take_ints;
-use text::words::put_word;
 
 fn put_head(out: &mut [u8], level: usize, boundary: usize) {
     put_word(out, 0, level);

@@ -1,8 +1,8 @@
 // A float that is not below 0, in decimals and as its pattern.
+use places::more;
 use text::lines::put_number;
 use text::lines::put_text;
 use text::lines::say_line;
-use text::places::more;
 
 // The pattern of a number; nothing that is delivered is another.
 fn bits_f32(x: f32) -> u32 {

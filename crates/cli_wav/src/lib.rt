@@ -16,12 +16,12 @@ use cli_runs::progress::last_status;
 use cli_runs::progress::stopped;
 use cli_runs::progress::text_told;
 use cli_words::manual::complain;
+use places::at_most;
+use places::within;
 use refusals_files::wav::wav_refusal;
 use rules_files::wav::Take;
 use rules_files::wav::WavAnswer;
 use text::forms::say_form;
-use text::places::at_most;
-use text::places::within;
 
 mod decimals;
 mod rooms;

@@ -1,9 +1,9 @@
 // Samples written to a file: four bytes each, low byte first.
 ghost use Prim.Native.Nat.{_≤_, _<_};
 use crate::decimals::pattern_of;
+use binary::words::put_word;
+use places::ahead;
 use text::lines::put_out;
-use text::places::ahead;
-use text::words::put_word;
 
 fn put_floats(out: &mut [u8], floats: &[f32]) -> usize {
     let mut at = 0;

@@ -2,47 +2,41 @@
 ghost use Prim.Native.Nat.{_≤_};
 use layouts::is_secondary;
 use layouts::legal;
+use places::at_most;
 use rules::Layout;
-use text::places::at_most;
-
-fn channels(layout: Layout) -> usize
-    ensures { λ r. ⌜ r ≤ 16 ⌝ }
-{
-    at_most(layout.channels, 16)
-}
 
 // Spectrum values, or codes.
 pub fn value_count(layout: Layout) -> usize
     ensures { λ r. ⌜ r ≤ 16384 ⌝ }
 {
-    channels(layout) * 1024
+    at_most(layout.channels, 16) * 1024
 }
 
 // The values' bytes in a file.
 pub fn spectra_size(layout: Layout) -> usize
     ensures { λ r. ⌜ r ≤ 65536 ⌝ }
 {
-    channels(layout) * 4096
+    at_most(layout.channels, 16) * 4096
 }
 
 pub fn factor_count(layout: Layout) -> usize
     ensures { λ r. ⌜ r ≤ 2048 ⌝ }
 {
-    channels(layout) * 128
+    at_most(layout.channels, 16) * 128
 }
 
 // Side values, or intensities.
 pub fn side_value_count(layout: Layout) -> usize
     ensures { λ r. ⌜ r ≤ 128 ⌝ }
 {
-    channels(layout) * 8
+    at_most(layout.channels, 16) * 8
 }
 
 // A record's bytes: level and boundary, then 128 factors, 8 side values and 1,024 codes a channel.
 pub fn record_size(layout: Layout) -> usize
     ensures { λ r. ⌜ r ≤ 67720 ⌝ }
 {
-    8 + channels(layout) * 4232
+    8 + at_most(layout.channels, 16) * 4232
 }
 
 pub fn has_secondary(layout: Layout) -> bool {

@@ -4,6 +4,7 @@ use crate::commands::is_known;
 use crate::commands::line_of;
 use crate::names::takes_layout;
 use text::lines::say;
+use text::tables::line_start;
 use text::tables::say_entry;
 
 // How a command is called, on a line each; the first is for none.
@@ -21,16 +22,71 @@ pub fn say_usage(fd: i32, command: Command) -> bool {
     say_entry(fd, &USAGES, line_of(command)) && say(fd, b"\n")
 }
 
-// How each of them is called.
+// How each of them is called: all lines but the first.
 fn say_usages() -> bool {
-    say_usage(1, Command::Encode)
-        && say_usage(1, Command::Read)
-        && say_usage(1, Command::Write)
-        && say_usage(1, Command::Check)
-        && say_usage(1, Command::Header)
-        && say_usage(1, Command::Wav)
-        && say_usage(1, Command::List)
+    let a = line_start(&USAGES, 1);
+    say(1, &USAGES[a..])
 }
+
+// What each command does and takes, and all of them in short.
+const ENCODE: [u8; 627] =
+    *b"Makes frames from spectra, and tells each frame's level, boundary, pairs of bands removed and bits.\n\
+    \x20 --spectra     f32, low byte first, frame after frame: channel, subframe, band (channels x 8 x 128)\n\
+    \x20 --unmixed     in place of --spectra: the same before the stereo step, which mixes each pair and makes its intensities\n\
+    \x20 --intensities 8 bytes a channel, frame after frame; needed if a channel is S and the spectra are mixed\n\
+    \x20 --out         the frames, one after the other; written only if every frame is made\n\
+    \x20 --list        a list with the numbers of each frame, for up to 65535 of them; written only if every frame is made\n";
+
+const READ: [u8; 356] =
+    *b"Reads frames strictly and tells what each holds: level, boundary, bits, factors, side values, codes.\n\
+    \x20 --frames      frames, one after the other\n\
+    \x20 --records     the records: level and boundary (u32, low byte first), factors (channels x 128 bytes),\n\
+    \x20               side values (channels x 8 bytes), codes (channels x 1,024 i32); only if every frame is good\n";
+
+const WRITE: [u8; 224] =
+    *b"Writes records as frames, and tells each frame's level, boundary and bits.\n\
+    \x20 --records     records as hcaframe read writes them\n\
+    \x20 --out         the frames, one after the other; written only if every record is legal and fits\n";
+
+const CHECK: [u8; 116] =
+    *b"Reads every frame strictly and tells which are good. It writes no file.\n\
+    \x20 --frames      frames, one after the other\n";
+
+const HEADER: [u8; 495] =
+    *b"Makes the header of an HCA file, 96 bytes; with --frames the whole file. A header has at most 8 channels.\n\
+    \x20 --rate        samples a second, 1 to 8388607\n\
+    \x20 --count       frames, at most 4294967295\n\
+    \x20 --padding     samples that fill the last frame, at most 65535\n\
+    \x20 --loop-start, --loop-end   the loop in samples, at most 4294967167; both or none\n\
+    \x20 --frames      the frames behind the header, one after the other, as many as --count says\n\
+    \x20 --out         the header, or header and frames as one file\n";
+
+const WAV: [u8; 363] =
+    *b"Reads a WAV file of up to 2097152 bytes and tells its channels, rate, depth and samples, and the peak and the mean of the\n\
+    magnitudes of all samples: six decimals, rounded, and the float's pattern in hex.\n\
+    \x20 --in          a WAV file with samples of 16, 24 or 32 bits; those of 32 bits are floats\n\
+    \x20 --samples     the samples in the file's order: f32, low byte first\n";
+
+const LIST: [u8; 392] =
+    *b"Tells the numbers of each frame that a list holds, and the highest level, the most pairs removed and all bits.\n\
+    \x20 --list        a list as hcaframe encode writes it, of up to 65535 frames\n\
+    \x20 --frame       this frame alone; the first is 0\n\
+    \x20 --svg         a picture: the level of each frame, the pairs removed, and the bits where --frame-size is given\n\
+    \x20 --frame-size  bytes of a frame, 8 to 65535\n";
+
+const ALL: [u8; 301] =
+    *b"encode makes frames from spectra, read tells what frames hold, write makes frames from records,\n\
+    check tells which frames are good, header makes the header of an HCA file or the whole file,\n\
+    wav reads a WAV file, list tells what a list of frames holds. More: hcaframe COMMAND --help; hcaframe --version\n";
+
+// Of the files of every command.
+const FILES: [u8; 592] =
+    *b"Every option is --option VALUE or --option=VALUE; --quiet has no value and keeps standard output empty.\n\
+    - as FILE is standard input or output. With - as the output, the text goes to standard error, and what was written\n\
+    before a refusal stays written.\n\
+    An output is a new file or takes the place of a regular file, never of a link, a folder or a device, and none of the\n\
+    call's files may be another one of them. It is written as FILE.tmp-NUMBER, the process's, and takes its name, with the\n\
+    mode of a new file, when it is whole. A run that is ended from outside can leave FILE.tmp-NUMBER behind.\n";
 
 // For a command that takes one, and where all are told of.
 fn say_layout(command: Command) -> bool {
@@ -44,101 +100,6 @@ fn say_layout(command: Command) -> bool {
           \x20 --base, --stereo, --total   counts of bands; total is 1 to 128, base and stereo together at most total\n\
           \x20 --frame-size  bytes of a frame, 8 to 65535\n\
           or --layout FILE, a text file with these words; a line that begins with # is a comment.\n",
-    )
-}
-
-fn say_encode() -> bool {
-    say(
-        1,
-        b"Makes frames from spectra, and tells each frame's level, boundary, pairs of bands removed and bits.\n\
-          \x20 --spectra     f32, low byte first, frame after frame: channel, subframe, band (channels x 8 x 128)\n\
-          \x20 --unmixed     in place of --spectra: the same before the stereo step, which mixes each pair and makes its intensities\n\
-          \x20 --intensities 8 bytes a channel, frame after frame; needed if a channel is S and the spectra are mixed\n\
-          \x20 --out         the frames, one after the other; written only if every frame is made\n\
-          \x20 --list        a list with the numbers of each frame, for up to 65535 of them; written only if every frame is made\n",
-    )
-}
-
-fn say_read() -> bool {
-    say(
-        1,
-        b"Reads frames strictly and tells what each holds: level, boundary, bits, factors, side values, codes.\n\
-          \x20 --frames      frames, one after the other\n\
-          \x20 --records     the records: level and boundary (u32, low byte first), factors (channels x 128 bytes),\n\
-          \x20               side values (channels x 8 bytes), codes (channels x 1,024 i32); only if every frame is good\n",
-    )
-}
-
-fn say_write() -> bool {
-    say(
-        1,
-        b"Writes records as frames, and tells each frame's level, boundary and bits.\n\
-          \x20 --records     records as hcaframe read writes them\n\
-          \x20 --out         the frames, one after the other; written only if every record is legal and fits\n",
-    )
-}
-
-fn say_check() -> bool {
-    say(
-        1,
-        b"Reads every frame strictly and tells which are good. It writes no file.\n\
-          \x20 --frames      frames, one after the other\n",
-    )
-}
-
-fn say_header() -> bool {
-    say(
-        1,
-        b"Makes the header of an HCA file, 96 bytes; with --frames the whole file. A header has at most 8 channels.\n\
-          \x20 --rate        samples a second, 1 to 8388607\n\
-          \x20 --count       frames, at most 4294967295\n\
-          \x20 --padding     samples that fill the last frame, at most 65535\n\
-          \x20 --loop-start, --loop-end   the loop in samples, at most 4294967167; both or none\n\
-          \x20 --frames      the frames behind the header, one after the other, as many as --count says\n\
-          \x20 --out         the header, or header and frames as one file\n",
-    )
-}
-
-fn say_wav() -> bool {
-    say(
-        1,
-        b"Reads a WAV file of up to 2097152 bytes and tells its channels, rate, depth and samples, and the peak and the mean of the\n\
-          magnitudes of all samples: six decimals, rounded, and the float's pattern in hex.\n\
-          \x20 --in          a WAV file with samples of 16, 24 or 32 bits; those of 32 bits are floats\n\
-          \x20 --samples     the samples in the file's order: f32, low byte first\n",
-    )
-}
-
-fn say_list() -> bool {
-    say(
-        1,
-        b"Tells the numbers of each frame that a list holds, and the highest level, the most pairs removed and all bits.\n\
-          \x20 --list        a list as hcaframe encode writes it, of up to 65535 frames\n\
-          \x20 --frame       this frame alone; the first is 0\n\
-          \x20 --svg         a picture: the level of each frame, the pairs removed, and the bits where --frame-size is given\n\
-          \x20 --frame-size  bytes of a frame, 8 to 65535\n",
-    )
-}
-
-// Of the files of every command.
-fn say_files() -> bool {
-    say(
-        1,
-        b"Every option is --option VALUE or --option=VALUE; --quiet has no value and keeps standard output empty.\n\
-          - as FILE is standard input or output. With - as the output, the text goes to standard error, and what was written\n\
-          before a refusal stays written.\n\
-          An output is a new file or takes the place of a regular file, never of a link, a folder or a device, and none of the\n\
-          call's files may be another one of them. It is written as FILE.tmp-NUMBER, the process's, and takes its name, with the\n\
-          mode of a new file, when it is whole. A run that is ended from outside can leave FILE.tmp-NUMBER behind.\n",
-    )
-}
-
-fn say_all() -> bool {
-    say(
-        1,
-        b"encode makes frames from spectra, read tells what frames hold, write makes frames from records,\n\
-          check tells which frames are good, header makes the header of an HCA file or the whole file,\n\
-          wav reads a WAV file, list tells what a list of frames holds. More: hcaframe COMMAND --help; hcaframe --version\n",
     )
 }
 
@@ -159,22 +120,29 @@ fn say_status(has_status: bool) -> bool {
         )
 }
 
-fn say_command(command: Command) -> bool {
+fn say_text(command: Command) -> bool {
     match command {
-        Command::Nothing => say_usages() && say_all(),
-        Command::Encode => say_usage(1, command) && say_encode(),
-        Command::Read => say_usage(1, command) && say_read(),
-        Command::Write => say_usage(1, command) && say_write(),
-        Command::Check => say_usage(1, command) && say_check(),
-        Command::Header => say_usage(1, command) && say_header(),
-        Command::Wav => say_usage(1, command) && say_wav(),
-        Command::List => say_usage(1, command) && say_list(),
+        Command::Nothing => say(1, &ALL),
+        Command::Encode => say(1, &ENCODE),
+        Command::Read => say(1, &READ),
+        Command::Write => say(1, &WRITE),
+        Command::Check => say(1, &CHECK),
+        Command::Header => say(1, &HEADER),
+        Command::Wav => say(1, &WAV),
+        Command::List => say(1, &LIST),
     }
+}
+
+fn say_command(command: Command) -> bool {
+    if is_known(command) {
+        return say_usage(1, command) && say_text(command);
+    }
+    say_usages() && say_text(command)
 }
 
 // On standard output; the answer is the status.
 pub fn help(command: Command, has_status: bool) -> i32 {
-    if say_command(command) && say_layout(command) && say_files() && say_status(has_status) {
+    if say_command(command) && say_layout(command) && say(1, &FILES) && say_status(has_status) {
         return 0;
     }
     complain(b"standard output");

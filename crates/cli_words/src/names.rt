@@ -1,6 +1,8 @@
 // The options.
 use crate::commands::Command;
 use crate::commands::line_of;
+use places::ahead;
+use places::at_most;
 use text::tables::entry_of;
 use text::tables::say_entry;
 
@@ -125,43 +127,54 @@ pub fn say_name(fd: i32, name: Name) -> bool {
     say_entry(fd, &NAMES, place_of(name))
 }
 
-// Is it of the five that say a layout, and may stand in a layout file?
+// Is it of the five that say a layout, and may stand in a layout file? They have the first places.
 pub fn is_of_layout(name: Name) -> bool {
-    match name {
-        Name::Kinds => true,
-        Name::Base => true,
-        Name::Stereo => true,
-        Name::Total => true,
-        Name::FrameSize => true,
-        _ => false,
-    }
+    let k = place_of(name);
+    0 < k && k < 6
+}
+
+// What is known of an option, in 24 bytes by its place: its name; its value, a number, the channels' letters, a file or none; and for each command by
+// its line n where the option is needed, here or in a layout file, m where it may be given. Of spectra and unmixed ones one is asked for, and
+// intensities once the layout is known.
+const OPTIONS: [u8; 576] = *b"\
+    none          - --------\
+    --kinds       l -nnnnn--\
+    --base        n -nnnnn--\
+    --stereo      n -nnnnn--\
+    --total       n -nnnnn--\
+    --frame-size  n -nnnnn-m\
+    --layout      f -mmmmm--\
+    --spectra     f -m------\
+    --intensities f -m------\
+    --out         f -n-n-n--\
+    --frames      f --n-nm--\
+    --records     f --mn----\
+    --quiet       - -mmmmmmm\
+    --rate        n -----n--\
+    --count       n -----n--\
+    --padding     n -----n--\
+    --loop-start  n -----m--\
+    --loop-end    n -----m--\
+    --in          f ------n-\
+    --samples     f ------m-\
+    --list        f -m-----n\
+    --frame       n -------m\
+    --svg         f -------m\
+    --unmixed     f -m------";
+
+fn letter(name: Name, column: usize) -> u8 {
+    let k = at_most(place_of(name), 23) * 24 + at_most(column, 23);
+    if k < 576 { OPTIONS[k] } else { b'-' }
 }
 
 // Is its value a number?
 pub fn is_number(name: Name) -> bool {
-    match name {
-        Name::Base => true,
-        Name::Stereo => true,
-        Name::Total => true,
-        Name::FrameSize => true,
-        Name::Rate => true,
-        Name::Count => true,
-        Name::Padding => true,
-        Name::LoopStart => true,
-        Name::LoopEnd => true,
-        Name::Frame => true,
-        _ => false,
-    }
+    letter(name, 14) == b'n'
 }
 
 // Does its value name a file?
 pub fn is_file(name: Name) -> bool {
-    match name {
-        Name::Unknown => false,
-        Name::Kinds => false,
-        Name::Quiet => false,
-        _ => !is_number(name),
-    }
+    letter(name, 14) == b'f'
 }
 
 // The option that names a command's input.
@@ -200,54 +213,9 @@ pub fn second_output_of(command: Command) -> Name {
     }
 }
 
-// Who takes an option, a digit a command, the first command's on the right: 2 where it is needed, here or in a layout file, 1 where it may be given.
-// Of spectra and unmixed ones one is asked for, and intensities once the layout is known.
-fn takers(name: Name) -> usize {
-    match name {
-        Name::Unknown => 0,
-        Name::Kinds => 22222,
-        Name::Base => 22222,
-        Name::Stereo => 22222,
-        Name::Total => 22222,
-        Name::FrameSize => 1022222,
-        Name::Layout => 11111,
-        Name::Spectra => 1,
-        Name::Intensities => 1,
-        Name::Out => 20202,
-        Name::Frames => 12020,
-        Name::Records => 210,
-        Name::Quiet => 1111111,
-        Name::Rate => 20000,
-        Name::Count => 20000,
-        Name::Padding => 20000,
-        Name::LoopStart => 10000,
-        Name::LoopEnd => 10000,
-        Name::In => 200000,
-        Name::Samples => 100000,
-        Name::List => 2000001,
-        Name::Frame => 1000000,
-        Name::Svg => 1000000,
-        Name::Unmixed => 1,
-    }
-}
-
-// The digit of the command on this line.
-fn digit(n: usize, line: usize) -> usize {
-    match line {
-        1 => n % 10,
-        2 => n / 10 % 10,
-        3 => n / 100 % 10,
-        4 => n / 1000 % 10,
-        5 => n / 10000 % 10,
-        6 => n / 100000 % 10,
-        7 => n / 1000000 % 10,
-        _ => 0,
-    }
-}
-
 // Does the command take this option?
 pub fn is_taken(command: Command, name: Name) -> bool {
-    digit(takers(name), line_of(command)) != 0
+    letter(name, ahead(16, line_of(command))) != b'-'
 }
 
 // Does it take a layout?
@@ -257,5 +225,5 @@ pub fn takes_layout(command: Command) -> bool {
 
 // Must it be given?
 pub fn is_needed(command: Command, name: Name) -> bool {
-    digit(takers(name), line_of(command)) == 2
+    letter(name, ahead(16, line_of(command))) == b'n'
 }

@@ -99,7 +99,7 @@ fn line_told(
         (now (scaled .entry)) (now (codes .entry)) (now (factors .entry)) (now (side .entry)) (now (frames .entry)) (now (answers .entry))
         before) .tally)) (now (tally .entry)) (now (answer .entry)) ⌝ }
 {
-    let end = line::encode_frames(
+    let end = line_frames::encode_frames(
         layout,
         count,
         spectra,

@@ -6,8 +6,8 @@ ghost use Rattle.rules.specs.Layout.{Sizes, spectrumLength, factorLength};
 ghost use Rattle.rules.specs.Estimate.{exceeds};
 ghost use Rattle.rules.specs.Level.{levelOf, clearTwo, clearPair};
 ghost use Rattle.rules.specs.Stage.{foundOf};
-use estimate::calculate_frame_header_length;
 use estimate::is_over;
+use estimate_header::calculate_frame_header_length;
 use rules::Layout;
 
 // 255 says that there is none.

@@ -1,3 +1,4 @@
 pub mod Placed
 pub mod Counts
 pub mod Going
+pub mod Entries

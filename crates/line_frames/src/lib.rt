@@ -1,14 +1,17 @@
-// The frames of a line one after the other, behind the line's gate.
+// The frames of a line one after the other, behind the line's gate; and the whole call, the tally by value.
 ghost use mathlib.Core.Path.{_≡_};
 ghost use Prim.Native.Nat.{_+_, _*_, _≤_};
 ghost use lib.ListN.{length};
 ghost use Rattle.rules.specs.Layout.{Sizes, roomOf};
 ghost use Rattle.rules.specs.Stage.{stageLent, stageLeft, stageRoom};
-ghost use Rattle.rules_line.specs.Line.{lineLent, lineLeft, Batch, LineRoom, OnTheWay, stageAt, lineTurn, lineAfter};
+ghost use Rattle.rules_line.specs.Line.{lineLent, lineLeft, Batch, LineRoom, OnTheWay, stageAt, lineTurn, lineAfter, line};
 ghost use Rattle.line_frames.specs.Turn.{Turn};
+use line_gate::line_gate;
 use line_gate::part_start;
 use rules::Layout;
+use rules::Room;
 use rules::StageAnswer;
+use rules::StageRoom;
 use rules_line::LineAnswer;
 use rules_line::LineEnd;
 use rules_line::Tally;
@@ -96,7 +99,7 @@ fn encode_turn(
 }
 
 // Every frame in its turn, until one is refused.
-pub fn encode_turns(
+fn encode_turns(
     layout: Layout,
     count: usize,
     spectra: &[f32],
@@ -144,4 +147,56 @@ pub fn encode_turns(
         answer: LineAnswer::Delivered,
         tally: sum,
     }
+}
+
+// A line, the tally by value. It takes any arguments: what cannot be done is refused, and the answer says why.
+pub fn encode_frames(
+    layout: Layout,
+    count: usize,
+    spectra: &[f32],
+    intensities: &[u8],
+    scaled: &mut [f32],
+    codes: &mut [i32],
+    factors: &mut [u8],
+    side: &mut [u8],
+    frames: &mut [u8],
+    answers: &mut [u32],
+    tally: Tally,
+) -> LineEnd
+    ensures { λ r. ⌜ lineLeft (r .answer) (r .tally) (now (scaled .exit)) (now (codes .exit)) (now (factors .exit)) (now (side .exit))
+        (now (frames .exit)) (now (answers .exit)) ≡ line layout count (lineLent (now (spectra .entry)) (now (intensities .entry))
+        (now (scaled .entry)) (now (codes .entry)) (now (factors .entry)) (now (side .entry)) (now (frames .entry)) (now (answers .entry)) tally) ⌝ }
+{
+    let stored = Room {
+        factors: factors.len(),
+        side: side.len(),
+        codes: codes.len(),
+        frame: frames.len(),
+    };
+    let room = StageRoom {
+        spectra: spectra.len(),
+        intensities: intensities.len(),
+        scaled: scaled.len(),
+        stored,
+    };
+    let gate = line_gate(layout, count, room, answers.len(), tally);
+    let LineAnswer::Delivered = gate else {
+        return LineEnd {
+            answer: gate,
+            tally,
+        };
+    };
+    encode_turns(
+        layout,
+        count,
+        spectra,
+        intensities,
+        scaled,
+        codes,
+        factors,
+        side,
+        frames,
+        answers,
+        tally,
+    )
 }

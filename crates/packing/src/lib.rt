@@ -15,7 +15,7 @@ use buffers::clear_u8;
 use crc::seal;
 use packing_codes::write_codes;
 use packing_header::write_channels;
-use packing_header::write_head;
+use packing_values::write_head;
 use rules::Layout;
 
 // All fields, from the first bit on; how many bits they are.

@@ -1,4 +1,4 @@
 pub mod HeaderChannels
-pub mod Heads
+pub mod Headed
 pub mod Walks
 pub mod Widths

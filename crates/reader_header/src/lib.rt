@@ -1,5 +1,4 @@
-// The strict reader's header: level, boundary, and each channel's width, factors and side values.
-pub mod head;
+// The strict reader's header: after level and boundary each channel's width, factors and side values.
 mod rows;
 
 ghost use mathlib.Core.Path.{_≡_};
@@ -12,12 +11,12 @@ ghost use Rattle.rules.specs.Reading.{readChannel};
 ghost use Rattle.reader_values.specs.Steps.{Inside};
 ghost use Rattle.reader_header.specs.Answers.{StoredChannel, StoredChannels};
 ghost use Rattle.reader_header.specs.Headed.{Headed};
-use crate::head::Head;
-use crate::head::head_after;
-use crate::head::read_head;
 use crate::rows::read_side;
 use crate::rows::read_width;
 use bits::Place;
+use reader_head::Head;
+use reader_head::head_after;
+use reader_head::read_head;
 use reader_values::faults::Step;
 use rules::Layout;
 

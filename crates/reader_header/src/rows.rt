@@ -1,8 +1,6 @@
 // A row of the header: a channel's factors with their width, or its side values, read from the part of the frame after the sync.
 ghost use mathlib.Core.Path.{_≡_};
-ghost use mathlib.Core.Bool.{_&&_, _||_};
 ghost use Prim.Native.Nat.{_≤_};
-ghost use lib.Dec.{leb, eqb};
 ghost use lib.ListN.{length};
 ghost use Rattle.bits.specs.Place.{leftAt};
 ghost use Rattle.rules.specs.Format.{each, times, number};
@@ -15,6 +13,8 @@ use reader_values::faults::Fault;
 use reader_values::faults::Step;
 use reader_values::read_factor;
 use reader_values::read_number;
+use reader_widths::is_chosen;
+use reader_widths::width_fits;
 
 // A channel's coded factors at a width up to 6; the others are set to 0.
 fn read_factors(part: &[u8], place: Place, width: u32, coded: usize, factors: &mut [u8]) -> Step
@@ -42,19 +42,6 @@ fn read_factors(part: &[u8], place: Place, width: u32, coded: usize, factors: &m
     Step::At(at)
 }
 
-// Width 7, and any width but 0 on a coded count of 0, is refused at once.
-fn width_fits(width: u32, coded: usize) -> bool
-    ensures { λ r. ⌜ r ≡ (leb width 6 && (leb 1 coded || eqb width 0)) ⌝ }
-{
-    if 6 < width {
-        return false;
-    }
-    if 1 <= coded {
-        return true;
-    }
-    width == 0
-}
-
 // A channel's width and factors. A width that is not the chosen one is refused after the factors.
 pub(crate) fn read_width(part: &[u8], place: Place, coded: usize, factors: &mut [u8]) -> Step
     requires { ⌜ Inside (now part) (place .at) ⌝ }
@@ -72,8 +59,7 @@ pub(crate) fn read_width(part: &[u8], place: Place, coded: usize, factors: &mut 
     let Step::At(after) = step else {
         return step;
     };
-    let chosen = widths::calculate_optimal_delta_length(factors, coded);
-    if chosen.bits != width as usize {
+    if !is_chosen(width, factors, coded) {
         return Step::Refused(Fault::BadWidth(place.at));
     }
     Step::At(after)

@@ -34,9 +34,10 @@ use Rattle.reader_fill.specs.declared.Fill.the-variants as fill
 use Rattle.reader_fill.specs.declared.FrameFound.{FrameFound}
 use Rattle.reader_fill.specs.declared.FrameFound.the-variants as found
 use Rattle.reader_fill.specs.Filled.{Filled, FillIn, fillFound}
-use Rattle.reader_header.specs.declared.head.Head.{Head}
-use Rattle.reader_header.specs.declared.head.Head.the-variants as head
-use Rattle.reader_header.specs.Headed.{Headed, headAfter}
+use Rattle.reader_head.specs.declared.Head.{Head}
+use Rattle.reader_head.specs.declared.Head.the-variants as head
+use Rattle.reader_head.specs.Started.{headAfter}
+use Rattle.reader_header.specs.Headed.{Headed}
 use Rattle.reader_record.specs.Scans.{FieldsRead, scanPart, foundLeft}
 
 -- a bit of the part, counted from the frame's first by the bits that are left there

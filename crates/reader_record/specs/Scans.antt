@@ -14,8 +14,8 @@ use Rattle.rules.specs.Lent.{noFactors, noSide, noCodes}
 use Rattle.rules.specs.Reader.{ReaderLeft, readerLeft}
 use Rattle.rules.specs.declared.Layout.{Layout}
 use Rattle.rules.specs.declared.ReadAnswer.the-variants as read
-use Rattle.reader_header.specs.Headed.{HeadTold}
-use Rattle.reader_header.specs.declared.head.Head.{Head}
+use Rattle.reader_head.specs.Started.{HeadTold}
+use Rattle.reader_head.specs.declared.Head.{Head}
 use Rattle.reader_fill.specs.declared.FrameFound.{FrameFound}
 use Rattle.reader_fill.specs.declared.FrameFound.the-variants as found
 

@@ -3,6 +3,9 @@ use self::frames::stage_case;
 use self::records::check_case;
 use self::records::read_case;
 use self::records::write_case;
+use binary::words::word;
+use binary::words::word_past;
+use places::ahead;
 use replay_vectors::data::bytes_at;
 use replay_vectors::lines::CaseOutcome;
 use replay_vectors::lines::Tally;
@@ -14,9 +17,6 @@ use replay_vectors::lines::say_outcome;
 use replay_vectors::lines::say_tally;
 use text::forms::say_form;
 use text::lines::say;
-use text::places::ahead;
-use text::words::word;
-use text::words::word_past;
 
 mod frames;
 mod records;
@@ -99,12 +99,7 @@ fn replay_file(path: &[u8], tally: Tally) -> Tally {
 }
 
 fn main() {
-    let none = Tally {
-        same: 0,
-        different: 0,
-        skipped: 0,
-        damaged: 0,
-    };
+    let none = Tally { counts: [0; 4] };
     let first = replay_file(b"stage.vec", none);
     let both = replay_file(b"records.vec", first);
     say_tally(both);

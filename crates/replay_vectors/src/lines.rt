@@ -2,12 +2,12 @@
 use crate::data::Numbers;
 use crate::data::are_same;
 use crate::data::numbers_at;
+use places::ahead;
+use places::more;
 use refusals::Refusal;
 use refusals::refused;
 use text::forms::say_form;
 use text::lines::say;
-use text::places::ahead;
-use text::places::more;
 use text::tables::say_entry;
 
 pub enum Verdict {
@@ -28,12 +28,9 @@ pub struct CaseOutcome {
     pub verdict: Verdict,
 }
 
-// How many cases came to what.
+// How many cases came to what, by the verdict's number.
 pub struct Tally {
-    pub same: usize,
-    pub different: usize,
-    pub skipped: usize,
-    pub damaged: usize,
+    pub counts: [usize; 4],
 }
 
 // An answer place that no call writes holds 0x5A5A5A5A.
@@ -89,21 +86,20 @@ pub fn not_run(verdict: Verdict) -> CaseOutcome {
     }
 }
 
-pub fn add_to_tally(tally: Tally, verdict: Verdict) -> Tally {
-    let mut t = tally;
+fn verdict_number(verdict: Verdict) -> usize {
     match verdict {
-        Verdict::Same => {
-            t.same = more(t.same, 1);
-        }
-        Verdict::Different => {
-            t.different = more(t.different, 1);
-        }
-        Verdict::Skipped => {
-            t.skipped = more(t.skipped, 1);
-        }
-        Verdict::Damaged => {
-            t.damaged = more(t.damaged, 1);
-        }
+        Verdict::Same => 0,
+        Verdict::Different => 1,
+        Verdict::Skipped => 2,
+        Verdict::Damaged => 3,
+    }
+}
+
+pub fn add_to_tally(tally: Tally, verdict: Verdict) -> Tally {
+    let k = verdict_number(verdict);
+    let mut t = tally;
+    if k < 4 {
+        t.counts[k] = more(t.counts[k], 1);
     }
     t
 }
@@ -130,15 +126,6 @@ fn say_answer(kind: usize, answer: Numbers) {
     say_delivered(kind, answer);
 }
 
-fn verdict_number(verdict: Verdict) -> usize {
-    match verdict {
-        Verdict::Same => 0,
-        Verdict::Different => 1,
-        Verdict::Skipped => 2,
-        Verdict::Damaged => 3,
-    }
-}
-
 pub fn is_damaged(verdict: Verdict) -> bool {
     verdict_number(verdict) == 3
 }
@@ -161,6 +148,6 @@ pub fn say_outcome(number: usize, kind: usize, outcome: CaseOutcome) {
 }
 
 pub fn say_tally(tally: Tally) {
-    let numbers = [tally.same, tally.different, tally.skipped, tally.damaged];
-    say_form(1, b"same # different # skipped # damaged #\n", &numbers);
+    let counts = tally.counts;
+    say_form(1, b"same # different # skipped # damaged #\n", &counts);
 }

@@ -1,10 +1,10 @@
 // Lists of words that are 0 but for some runs, and what the words stand for.
+use binary::values::float_of;
+use binary::words::word;
+use binary::words::word_past;
 use numbers::signed::int_of;
-use text::places::ahead;
-use text::places::at_most;
-use text::values::float_of;
-use text::words::word;
-use text::words::word_past;
+use places::ahead;
+use places::at_most;
 
 // A place past the end is passed over.
 fn put_u32(out: &mut [u32], i: usize, n: u32) {

@@ -1,6 +1,6 @@
 // FNV-1a of 32 bits over a lent buffer's bytes.
-use text::words::bits_of;
-use text::words::byte_value;
+use places::byte_value;
+use places::signed::bits_of;
 
 fn mix(sum: usize, byte: usize) -> usize {
     (((sum ^ byte) % 4294967296) * 16777619) % 4294967296

@@ -1,2 +1,1 @@
-pub mod CurveEntries
 pub mod Bands

@@ -3,30 +3,17 @@ ghost use mathlib.Core.Path.{_≡_};
 ghost use mathlib.Core.Bool.{cond};
 ghost use Prim.Native.Nat.{_*_, _≤_, min, max};
 ghost use lib.Dec.{ltb};
-ghost use lib.ListN.{length, getD, take, drop};
-ghost use Rattle.rules.specs.Tables.{resolutionCurve};
+ghost use lib.ListN.{length};
 ghost use Rattle.rules.specs.Layout.{Sizes};
 ghost use Rattle.rules.specs.Resolution.{noiseAt, heldPosition, resolutionIn, resolution, channelResolutions, allResolutions};
-ghost use Rattle.quantizer.specs.Packed.{packedRow};
 use layouts::coded_count;
+use noise_curve::curve;
+use noise_curve::noise_at;
 use quantizer::held;
-use quantizer::tables::row_entry;
 use rules::Layout;
 
 // Room for the resolutions of sixteen channels, of which a caller lends the layout's.
 pub const RESOLUTION_ROOM: usize = 2048;
-
-pub fn noise_at(level: usize, boundary: usize, band: usize) -> usize
-    ensures { λ r. ⌜ (r ≡ noiseAt level boundary band) × (r ≤ level) ⌝ }
-{
-    if band < boundary {
-        if level == 0 {
-            return 0;
-        }
-        return level - 1;
-    }
-    level
-}
 
 // The position on the curve, which is signed until it is held.
 fn held_position(noise: usize, factor: u8) -> usize
@@ -36,26 +23,6 @@ fn held_position(noise: usize, factor: u8) -> usize
     let down = 5 * (factor as usize) / 2;
     let position = noise as i64 - down as i64 + 2;
     held(position, 0, 58) as usize
-}
-
-// SCALE_TO_RESOLUTION_CURVE, sixteen entries in a number as in the quantizer's tables.
-fn curve_row(i: usize) -> u64
-    requires { ⌜ i ≤ 3 ⌝ }
-    ensures { λ r. ⌜ r ≡ packedRow (take 16 (drop (16 * i) resolutionCurve)) ⌝ }
-{
-    match i {
-        0 => 0xCCCD_DDDD_DEEE_EEEF,
-        1 => 0xAAAA_AAAB_BBBB_BCCC,
-        2 => 0x5667_8888_8899_9999,
-        _ => 0x0000_0122_2233_3444,
-    }
-}
-
-fn curve(at: usize) -> u8
-    requires { ⌜ at ≤ 58 ⌝ }
-    ensures { λ r. ⌜ (r ≡ getD resolutionCurve at 0) × (r ≤ 15) ⌝ }
-{
-    row_entry(curve_row(at / 16), at % 16) as u8
 }
 
 fn larger(a: u8, b: u8) -> u8

@@ -1,5 +1,5 @@
 // Files read a block at a time.
-use crate::places::within;
+use places::within;
 
 // What a read came to: a whole block, the file's end, some bytes of a block before the end, or a failure that errno tells.
 pub enum Block {

@@ -3,10 +3,10 @@ use crate::lines::put_column;
 use crate::lines::put_number;
 use crate::lines::put_out;
 use crate::lines::say_line;
-use crate::places::ahead;
-use crate::tables::line_end;
 use crate::tables::line_start;
-use crate::words::put_byte;
+use crate::tables::part_end;
+use places::ahead;
+use places::put_byte;
 
 fn number_at(numbers: &[usize], k: usize) -> usize {
     if k < numbers.len() { numbers[k] } else { 0 }
@@ -42,7 +42,7 @@ pub fn put_form(line: &mut [u8], place: usize, form: &[u8], numbers: &[usize]) -
 // Puts the form that is line k of a table.
 pub fn put_entry(line: &mut [u8], at: usize, table: &[u8], k: usize, numbers: &[usize]) -> usize {
     let a = line_start(table, k);
-    let e = line_end(table, a);
+    let e = part_end(table, a, b'\n');
     put_form(line, at, &table[a..e], numbers)
 }
 
@@ -53,7 +53,7 @@ pub fn say_form(fd: i32, form: &[u8], numbers: &[usize]) -> bool {
     put_out(fd, &line, n)
 }
 
-// Puts each number at the right of a column of its width.
+// Puts each number at the right of a column of its width, on a line of spaces.
 fn put_row(line: &mut [u8], numbers: &[usize], widths: &[usize]) -> usize {
     let mut at = 0;
     let mut i = 0;
@@ -66,7 +66,7 @@ fn put_row(line: &mut [u8], numbers: &[usize], widths: &[usize]) -> usize {
 
 // Writes a line of a table.
 pub fn say_row(fd: i32, numbers: &[usize], widths: &[usize]) -> bool {
-    let mut line = [0u8; 128];
+    let mut line = [b' '; 128];
     let n = put_row(&mut line, numbers, widths);
     say_line(fd, &mut line, n)
 }

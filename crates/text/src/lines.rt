@@ -1,8 +1,8 @@
 // A line of text is put together in a lent buffer, which is cut at its end, and then written with one call.
-use crate::places::ahead;
-use crate::places::within;
-use crate::words::absolute_value;
-use crate::words::put_byte;
+use places::ahead;
+use places::put_byte;
+use places::signed::absolute_value;
+use places::within;
 
 // Puts the text from a place on; answers the place past it.
 pub fn put_text(line: &mut [u8], place: usize, text: &[u8]) -> usize {
@@ -16,35 +16,20 @@ pub fn put_text(line: &mut [u8], place: usize, text: &[u8]) -> usize {
     at
 }
 
-// Puts n spaces.
-fn put_spaces(line: &mut [u8], place: usize, n: usize) -> usize {
-    let mut at = place;
-    let mut i = 0;
-    while i < n {
-        put_byte(line, at, b' ');
-        at = ahead(at, 1);
-        i += 1;
-    }
-    at
-}
-
-// Puts the number's digits.
-pub fn put_number(line: &mut [u8], at: usize, n: usize) -> usize {
-    let mut digits = [0u8; 20];
-    let k = io::decimal(n as u64, &mut digits);
-    put_text(line, at, &digits[..k])
-}
-
 fn gap(k: usize, width: usize) -> usize {
     if k < width { width - k } else { 0 }
 }
 
-// Puts the number's digits at the right of a column.
+// Puts the number's digits at the right of a column, and passes over what is left of them.
 pub(crate) fn put_column(line: &mut [u8], at: usize, n: usize, width: usize) -> usize {
     let mut digits = [0u8; 20];
     let k = io::decimal(n as u64, &mut digits);
-    let start = put_spaces(line, at, gap(k, width));
-    put_text(line, start, &digits[..k])
+    put_text(line, ahead(at, gap(k, width)), &digits[..k])
+}
+
+// Puts the number's digits.
+pub fn put_number(line: &mut [u8], at: usize, n: usize) -> usize {
+    put_column(line, at, n, 0)
 }
 
 // Puts a signed number.

@@ -1,6 +1,6 @@
 // Words of text: comparing them, and the number that one spells.
 ghost use Prim.Native.Nat.{_≤_};
-use crate::words::byte_value;
+use places::byte_value;
 
 // The number that a word spells in decimal digits, up to eighteen of them.
 pub enum Spelt {

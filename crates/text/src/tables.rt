@@ -5,7 +5,7 @@ use crate::lines::say;
 use crate::names::is_same;
 
 // Where line k begins; the table's end if there is none.
-pub(crate) fn line_start(table: &[u8], k: usize) -> usize
+pub fn line_start(table: &[u8], k: usize) -> usize
     ensures { λ r. ⌜ r ≤ length (now (table .entry)) ⌝ }
 {
     let mut left = k;
@@ -22,14 +22,14 @@ pub(crate) fn line_start(table: &[u8], k: usize) -> usize
     table.len()
 }
 
-// Where the line that begins here ends.
-pub(crate) fn line_end(table: &[u8], start: usize) -> usize
-    requires { ⌜ start ≤ length (now table) ⌝ }
-    ensures { λ r. ⌜ (start ≤ r) × (r ≤ length (now (table .entry))) ⌝ }
+// Where the part that begins here ends: at the next of this byte, or with the text.
+pub fn part_end(text: &[u8], start: usize, b: u8) -> usize
+    requires { ⌜ start ≤ length (now text) ⌝ }
+    ensures { λ r. ⌜ (start ≤ r) × (r ≤ length (now (text .entry))) ⌝ }
 {
     let mut i = start;
-    while i < table.len() {
-        if table[i] == b'\n' {
+    while i < text.len() {
+        if text[i] == b {
             return i;
         }
         i += 1;
@@ -40,13 +40,13 @@ pub(crate) fn line_end(table: &[u8], start: usize) -> usize
 // Writes line k without its line end.
 pub fn say_entry(fd: i32, table: &[u8], k: usize) -> bool {
     let a = line_start(table, k);
-    let e = line_end(table, a);
+    let e = part_end(table, a, b'\n');
     say(fd, &table[a..e])
 }
 
 fn is_entry(table: &[u8], k: usize, word: &[u8]) -> bool {
     let a = line_start(table, k);
-    let e = line_end(table, a);
+    let e = part_end(table, a, b'\n');
     is_same(&table[a..e], word)
 }
 

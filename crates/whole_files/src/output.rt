@@ -2,10 +2,10 @@
 ghost use Rattle.io.specs.Counts.{Counts};
 use crate::same::is_link;
 use crate::same::is_on_disk;
+use places::signed::bits_of;
+use places::within;
 use text::lines::put_number;
 use text::lines::put_text;
-use text::places::within;
-use text::words::bits_of;
 
 // Puts the name that the file has while it is written; answers its length. The process's number keeps two runs apart.
 pub fn put_name(name: &mut [u8], path: &[u8]) -> usize

@@ -3,12 +3,12 @@ ghost use Prim.Native.Nat.{_≤_};
 ghost use lib.ListN.{length};
 ghost use Rattle.io.specs.Counts.{Counts};
 ghost use Rattle.libc.specs.Io.{Ended};
+use places::end;
+use places::signed::bits_of;
+use places::within;
 use text::forms::put_form;
 use text::lines::put_text;
 use text::names::is_same;
-use text::places::end;
-use text::places::within;
-use text::words::bits_of;
 
 // The path with zeros behind it, as C reads it. One that is too long is cut: `os` opens none of these.
 fn ended(path: &[u8]) -> [u8; 4096]
@@ -35,15 +35,6 @@ fn put_whole_name(fd: i32, name: &mut [u8]) -> usize
     put_form(&mut link, 0, b"/proc/self/fd/#", &[bits_of(fd)]);
     let path = ended(&link);
     io::count(libc::readlink(&path, name), name)
-}
-
-// Do the two open files have one whole name?
-fn have_one_name(a: i32, b: i32) -> bool {
-    let mut x = io::buffer();
-    let mut y = io::buffer();
-    let n = put_whole_name(a, &mut x);
-    let m = put_whole_name(b, &mut y);
-    n != 0 && is_same(&x[..n], &y[..m])
 }
 
 // Does the word stand here?
@@ -94,12 +85,22 @@ fn put_file_number(fd: i32, out: &mut [u8]) -> usize
     put_end(out, &text[..n])
 }
 
-// Have they one number, as two hard links have?
-fn have_one_number(a: i32, b: i32) -> bool {
+// Puts what an open file is told by, its whole name or its number; answers the length, 0 where the system does not tell.
+fn put_mark(fd: i32, is_number: bool, out: &mut [u8]) -> usize
+    ensures { λ r. ⌜ Counts r (now (out .exit)) ⌝ }
+{
+    if is_number {
+        return put_file_number(fd, out);
+    }
+    put_whole_name(fd, out)
+}
+
+// Have the two open files one whole name, or one number, as two hard links have?
+fn have_one_mark(a: i32, b: i32, is_number: bool) -> bool {
     let mut x = io::buffer();
     let mut y = io::buffer();
-    let n = put_file_number(a, &mut x);
-    let m = put_file_number(b, &mut y);
+    let n = put_mark(a, is_number, &mut x);
+    let m = put_mark(b, is_number, &mut y);
     n != 0 && is_same(&x[..n], &y[..m])
 }
 
@@ -113,5 +114,5 @@ pub fn is_one_file(a: i32, b: i32) -> bool {
     if a < 0 || b < 0 {
         return false;
     }
-    have_one_name(a, b) || have_one_number(a, b)
+    have_one_mark(a, b, false) || have_one_mark(a, b, true)
 }

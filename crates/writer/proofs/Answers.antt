@@ -1,10 +1,9 @@
 -- How the record writer comes to each of its answers, layer by layer. Assumes nothing.
-use mathlib.Core.Path.{_≡_, sym, ap, _∙_}
-use mathlib.Core.List.{List, _++_, append-nil}
+use mathlib.Core.Path.{_≡_, refl, sym, ap, _∙_}
+use mathlib.Core.List.{List, [], _∷_, _++_, append-nil}
 use mathlib.Core.Bool.{Bool, true, false, cond, not}
-use Prim.Native.Nat.{ℕ, _*_, _≤_, _<_}
+use Prim.Native.Nat.{ℕ, _*_, _≤_}
 use native.Mathlib.Omega.{arith}
-use borrow.Author.Tests.{lt-ltb, le-ltb}
 use lib.Dec.{ltb}
 use lib.IntN.{ℤ}
 use lib.ListN.{length, take, drop, replicate, length-replicate, take-append-drop, drop-of-length-le}
@@ -13,12 +12,12 @@ use Rattle.rules.specs.Layout.{Sizes, frameSize, spectrumLength, factorLength, 
 use Rattle.rules.specs.Record.{Rec, recOf, legalRecord}
 use Rattle.rules.specs.Fields.{fields}
 use Rattle.rules.specs.Frame.{fieldEnd, frameOf}
-use Rattle.rules.specs.Refusals.{Outcome, writerOutcome}
+use Rattle.rules.specs.Refusals.{Outcome, delivered, refused, writerOutcome}
 use Rattle.rules.specs.Lent.{laid, noFrame}
 use Rattle.rules.specs.Writer.{WriterLeft, writerLent, writerLeft, lentRecord, recordWritten, written}
 use Rattle.rules.specs.declared.Layout.{Layout}
 use Rattle.rules.specs.declared.WriteAnswer.{WriteAnswer}
-use Rattle.rules.specs.declared.WriteAnswer.the-variants.{Delivered, BadLayout, ShortBuffer, NotLegal, TooLong}
+use Rattle.rules.specs.declared.WriteAnswer.the-variants.{BadLayout, ShortBuffer}
 use Rattle.rules.proofs.Stores.{record-front, legal-front}
 use Rattle.rules_demands.proofs.Demand3.{frame-length}
 
@@ -50,25 +49,32 @@ module _ (l : Layout) (level boundary : ℕ) (F S : List ℕ) (C : List ℤ) (fr
   abbrev rec : Rec
   rec = recOf l level boundary F S C
 
-  pub run-illegal : legalRecord l level boundary F S C ≡ false → writerLeft NotLegal frame ≡ recordWritten l (writerLent level boundary F S C frame)
-  unfolding recordWritten writerOutcome
-  run-illegal e = rw e
+  abbrev left : (outcome : Outcome) (bytes : List ℕ) → WriterLeft
+  left outcome bytes = record { outcome = outcome; frame = bytes }
 
-  -- what the packer answers and leaves
+  pub run-illegal : (o : Outcome) → o ≡ refused 15 0 → legalRecord l level boundary F S C ≡ false
+      → left o frame ≡ recordWritten l (writerLent level boundary F S C frame)
+  unfolding recordWritten
+  run-illegal o f e = rw (f, e)
+
+  -- what the packer answers and stores
   module _ (z : Sizes l) (n : length frame ≡ frameSize l) (e : legalRecord l level boundary F S C ≡ true)
-      (count : ℕ) (bits : count ≡ length (fields l rec)) (left : List ℕ)
-      (stored : left ≡ cond (ltb (fieldEnd l) count) (replicate (frameSize l) 0) (frameOf l rec)) where
-    pub run-long : fieldEnd l < count → writerLeft (TooLong count) left ≡ recordWritten l (writerLent level boundary F S C frame)
-    unfolding recordWritten writerOutcome lentRecord
-    run-long h =
-        let is : left ≡ laid (noFrame l) frame = stored ∙ rw (lt-ltb _ _ h) (sym (laid-exact (noFrame l) frame (omega (arith, blank-length l)))) in
-        rw (e, ← bits, lt-ltb _ _ h, is)
+      (count : ℕ) (bits : count ≡ length (fields l rec)) (bytes : List ℕ)
+      (stored : bytes ≡ cond (ltb (fieldEnd l) count) (replicate (frameSize l) 0) (frameOf l rec)) where
+    -- refusal 7 or a success, by the test that was made
+    run-by : (t : Bool) → ltb (fieldEnd l) count ≡ t → (o : Outcome) → o ≡ cond t (refused 7 count) (delivered (level ∷ boundary ∷ count ∷ []))
+        → left o bytes ≡ recordWritten l (writerLent level boundary F S C frame)
+    unfolding recordWritten lentRecord
+    run-by true h o f =
+        let is : bytes ≡ laid (noFrame l) frame = stored ∙ rw h (sym (laid-exact (noFrame l) frame (omega (arith, blank-length l)))) in
+        rw (f, e, ← bits, h, is)
+    run-by false h o f =
+        let is : bytes ≡ laid (frameOf l rec) frame = stored ∙ rw h (sym (laid-exact (frameOf l rec) frame (omega (arith, frame-length l z rec)))) in
+        rw (f, e, ← bits, h, is)
 
-    pub run-done : count ≤ fieldEnd l → writerLeft (Delivered level boundary count) left ≡ recordWritten l (writerLent level boundary F S C frame)
-    unfolding recordWritten writerOutcome lentRecord
-    run-done h =
-        let is : left ≡ laid (frameOf l rec) frame = stored ∙ rw (le-ltb _ _ h) (sym (laid-exact (frameOf l rec) frame (omega (arith, frame-length l z rec)))) in
-        rw (e, ← bits, le-ltb _ _ h, is)
+    pub run-ends : (o : Outcome) → o ≡ cond (ltb (fieldEnd l) count) (refused 7 count) (delivered (level ∷ boundary ∷ count ∷ []))
+        → left o bytes ≡ recordWritten l (writerLent level boundary F S C frame)
+    run-ends o f = run-by (ltb (fieldEnd l) count) refl o f
 
 -- ---- the cut: a longer frame's rest stays, and nothing past the stated lengths is looked at
 

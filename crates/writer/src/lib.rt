@@ -11,6 +11,8 @@ use resolutions::RESOLUTION_ROOM;
 use rules::Layout;
 use rules::Room;
 use rules::WriteAnswer;
+use writer_answers::answered;
+use writer_answers::not_legal;
 use writer_legal::is_legal;
 
 // On buffers of the stated lengths.
@@ -42,12 +44,9 @@ fn write_exact(
             resolutions,
             frame,
         );
-        if 8 * (layout.frame_size - 2) < bits {
-            return WriteAnswer::TooLong(bits);
-        }
-        return WriteAnswer::Delivered(level, boundary, bits);
+        return answered(8 * (layout.frame_size - 2), level, boundary, bits);
     }
-    WriteAnswer::NotLegal
+    not_legal()
 }
 
 // Lends the parts of the stated lengths, and room for the resolutions of up to 16 channels.

@@ -1,77 +1,19 @@
 // Document 01, **Legal record**: is a record that lies in lent buffers legal?
 ghost use mathlib.Core.Path.{_≡_};
-ghost use mathlib.Core.Bool.{true, cond};
+ghost use mathlib.Core.Bool.{true};
 ghost use Prim.Native.Nat.{_+_, _*_, _^_, _≤_, _<_};
-ghost use lib.Dec.{leb, ltb, eqb};
-ghost use lib.IntN.{pos, natAbs};
 ghost use lib.ListN.{length};
 ghost use Rattle.rules.specs.Layout.{Sizes, kindAt, sideWidth, part};
 ghost use Rattle.rules.specs.Resolution.{allResolutions};
-ghost use Rattle.rules.specs.Record.{codeRange, legalHead, legalRow, legalSubframe, legalCodes, legalChannel, legalChannels, legalRecord};
+ghost use Rattle.rules.specs.Record.{legalSubframe, legalCodes, legalChannel, legalChannels, legalRecord};
 use layouts::coded_count;
 use layouts::is_secondary;
 use layouts::side_count;
-use quantizer::tables::limit_of;
 use resolutions::calculate_frame_resolutions;
 use rules::Layout;
-
-fn legal_head(level: usize, boundary: usize) -> bool
-    ensures { λ r. ⌜ r ≡ legalHead level boundary ⌝ }
-{
-    if 511 < level {
-        return false;
-    }
-    boundary <= 127
-}
-
-fn legal_value(value: u8, written: bool, limit: u8) -> bool
-    ensures { λ r. ⌜ r ≡ cond written (ltb value limit) (eqb value 0) ⌝ }
-{
-    if written {
-        return value < limit;
-    }
-    value == 0
-}
-
-// The first n values lie below the limit, and the others are 0.
-fn legal_row(values: &[u8], n: usize, limit: u8) -> bool
-    ensures { λ r. ⌜ r ≡ legalRow n limit (length (now (values .entry))) (now (values .entry)) ⌝ }
-{
-    let mut i = 0;
-    while i < values.len() {
-        if legal_value(values[i], i < n, limit) {
-            i += 1;
-        } else {
-            return false;
-        }
-    }
-    true
-}
-
-// The largest magnitude of a code; 0 past the tables, which end at resolution 15.
-fn code_range(r: u8) -> i64
-    ensures { λ z. ⌜ z ≡ pos (codeRange r) ⌝ }
-{
-    if r < 8 {
-        return r as i64;
-    }
-    if 15 < r {
-        return 0;
-    }
-    limit_of(r)
-}
-
-// In an i64, where every i32 has its magnitude.
-fn legal_code(code: i32, r: u8) -> bool
-    ensures { λ b. ⌜ b ≡ leb (natAbs code) (codeRange r) ⌝ }
-{
-    let range = code_range(r);
-    let wide = code as i64;
-    if wide < 0 {
-        return 0 - wide <= range;
-    }
-    wide <= range
-}
+use writer_values::legal_code;
+use writer_values::legal_head;
+use writer_values::legal_row;
 
 // One subframe of a channel: its codes lie in the ranges of their bands' resolutions.
 fn legal_subframe(resolutions: &[u8], codes: &[i32]) -> bool

@@ -5,10 +5,9 @@ use native.Mathlib.Omega.{arith}
 use lib.ListN.{getD}
 use borrow.Author.Needs.{needs}
 use Rattle.buffers.specs.Walk.{sumTo}
-use Rattle.buffers.proofs.Scan.{sum-none}
+use Rattle.buffers.proofs.Scan.{sum-none, sum-turn}
 use Rattle.rules.specs.Resolution.{resolution, resolutionAt}
 use Rattle.rules.specs.Estimate.{bandBits, channelBits}
-use Rattle.estimate.proofs.Sums.{sum-turn}
 use Rattle.estimate.proofs.channel_bits.Statement.{statement}
 use Rattle.estimate.proofs.channel_bits.Tie as tie
 

@@ -5,10 +5,9 @@ use native.Mathlib.Omega.{arith}
 use borrow.Author.Needs.{needs}
 use Rattle.buffers.specs.Walk.{sumTo}
 use Rattle.buffers.proofs.Build.{back-width}
-use Rattle.buffers.proofs.Scan.{sum-none}
+use Rattle.buffers.proofs.Scan.{sum-none, sum-turn}
 use Rattle.rules.specs.Layout.{codedAt, part}
 use Rattle.rules.specs.Estimate.{channelBits, spectralBits}
-use Rattle.estimate.proofs.Sums.{sum-turn}
 use Rattle.estimate.proofs.spectral_total.Statement.{statement}
 use Rattle.estimate.proofs.spectral_total.Tie as tie
 

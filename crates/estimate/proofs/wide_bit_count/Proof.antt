@@ -6,9 +6,8 @@ use lib.Ieee.{nan}
 use lib.ListN.{getD}
 use borrow.Author.Needs.{needs}
 use Rattle.buffers.specs.Walk.{sumTo}
-use Rattle.buffers.proofs.Scan.{sum-none}
+use Rattle.buffers.proofs.Scan.{sum-none, sum-turn}
 use Rattle.rules.specs.Estimate.{valueBits, bandBits}
-use Rattle.estimate.proofs.Sums.{sum-turn}
 use Rattle.estimate.proofs.wide_bit_count.Statement.{statement}
 use Rattle.estimate.proofs.wide_bit_count.Tie as tie
 

@@ -1,6 +1,7 @@
 -- `read_header` reads level, boundary and channels, or hands on the first refusal. Assumes nothing.
 use native.Mathlib.Omega.{arith}
-use Rattle.reader_header.proofs.Heads.{head-of, head-refused, headed-after}
+use Rattle.reader_head.proofs.Heads.{head-of, head-refused}
+use Rattle.reader_header.proofs.Headed.{headed-after}
 use borrow.Author.Needs.{needs}
 use Rattle.reader_header.proofs.read_header.Statement.{statement}
 use Rattle.reader_header.proofs.read_header.Tie as tie

@@ -1,7 +1,7 @@
 -- `reader_record::read_fields` reads the header and the codes, or hands on the first refusal. Assumes nothing.
 use mathlib.Core.Path.{_∙_}
 use native.Mathlib.Omega.{arith}
-use Rattle.reader_header.proofs.Heads.{head-of, head-refused}
+use Rattle.reader_head.proofs.Heads.{head-of, head-refused}
 use Rattle.reader_record.proofs.Records.{fields-after}
 use borrow.Author.Needs.{needs}
 use Rattle.reader_record.proofs.read_fields.Statement.{statement}

@@ -1,6 +1,6 @@
 -- `reader_record::read_record` is the scan of the part: a refusal in a field, one in the fill, or the record. Assumes nothing.
 use native.Mathlib.Omega.{arith}
-use Rattle.reader_header.proofs.Heads.{head-of}
+use Rattle.reader_head.proofs.Heads.{head-of}
 use Rattle.reader_record.proofs.Records.{fill-in, fault-left, record-left}
 use borrow.Author.Needs.{needs}
 use Rattle.reader_record.proofs.read_record.Statement.{statement}

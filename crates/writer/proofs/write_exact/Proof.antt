@@ -5,7 +5,7 @@ use native.Mathlib.Omega.{arith}
 use borrow.Author.Needs.{needs}
 use Rattle.rules.specs.Record.{legalRecord, LegalHead}
 use Rattle.rules.proofs.Legality.{record-held}
-use Rattle.writer.proofs.Answers.{run-illegal, run-long, run-done}
+use Rattle.writer.proofs.Answers.{run-illegal, run-ends}
 use Rattle.writer.proofs.write_exact.Statement.{statement}
 use Rattle.writer.proofs.write_exact.Tie as tie
 
@@ -24,11 +24,14 @@ pack-frame-requires c κs =
     let h : LegalHead (s .args .level) (s .args .boundary) = record-held _ _ _ _ _ _ (s .pre .0) (legal t) .head in
     (s .pre .0, ((omega arith, omega arith), ((s .pre .1 .0, s .pre .1 .1, s .pre .1 .2), (t .before .before .before .is-legal .ensures .1 (t .if1 .taken), s .pre .1 .4))))
 
-sub-if2 : tie.Need-sub-if2
-sub-if2 c = search needs
+sub-answered : tie.Need-sub-answered
+sub-answered c = search needs
 
-mul-if2 : tie.Need-mul-if2
-mul-if2 c = search needs
+mul-answered : tie.Need-mul-answered
+mul-answered c = search needs
+
+answered-requires : tie.Need-answered-requires
+answered-requires c κs = search needs
 
 same-length : tie.Need-same-length
 same-length c = c .before .before .before .before .before .before .before .before .before .before .is-legal .kept .1 .1 .1 .1 .1 .1 .0
@@ -41,26 +44,16 @@ returns c =
     let t = c .before .before .before .before .before .before .before in
     let s = t .before .before .before .before .before .before .before .before .before in
     let p = c .before .before .before .before .pack-frame in
-    run-long _ _ _ _ _ _ _ (s .pre .0) (s .pre .1 .4) (legal t) (p .result) (p .ensures .0) _ (p .ensures .1) (c .if2 .taken)
+    run-ends _ _ _ _ _ _ _ (s .pre .0) (s .pre .1 .4) (legal t) (p .result) (p .ensures .0) _ (p .ensures .1) _ (c .answered .ensures)
+
+not-legal-requires : tie.Need-not-legal-requires
+not-legal-requires c κs = search needs
 
 same-length-3 : tie.Need-same-length-3
-same-length-3 c = c .before .before .before .before .before .before .before .before .before .before .is-legal .kept .1 .1 .1 .1 .1 .1 .0
-
-same-length-4 : tie.Need-same-length-4
-same-length-4 c = c .before .before .before .before .pack-frame .kept .1 .1 .1 .1 .1 .1 .1 .0
+same-length-3 c = c .before .before .before .before .is-legal .kept .1 .1 .1 .1 .1 .1 .0
 
 returns-2 : tie.Need-returns-2
-returns-2 c =
-    let t = c .before .before .before .before .before .before .before in
-    let s = t .before .before .before .before .before .before .before .before .before in
-    let p = c .before .before .before .before .pack-frame in
-    run-done _ _ _ _ _ _ _ (s .pre .0) (s .pre .1 .4) (legal t) (p .result) (p .ensures .0) _ (p .ensures .1) (c .if2 .left)
-
-same-length-5 : tie.Need-same-length-5
-same-length-5 c = c .before .before .before .is-legal .kept .1 .1 .1 .1 .1 .1 .0
-
-returns-3 : tie.Need-returns-3
-returns-3 c = run-illegal _ _ _ _ _ _ _ (sym (c .before .before .before .is-legal .ensures .0) ∙ c .if1 .left)
+returns-2 c = run-illegal _ _ _ _ _ _ _ _ (c .not-legal .ensures) (sym (c .before .before .before .before .is-legal .ensures .0) ∙ c .before .if1 .left)
 
 pub write-exact-spec : {M : Type 1} → statement M
 write-exact-spec =
@@ -68,13 +61,12 @@ write-exact-spec =
     (tie.spec
     is-legal-requires
     pack-frame-requires
-    sub-if2
-    mul-if2
+    sub-answered
+    mul-answered
+    answered-requires
     same-length
     same-length-2
     returns
+    not-legal-requires
     same-length-3
-    same-length-4
-    returns-2
-    same-length-5
-    returns-3)
+    returns-2)

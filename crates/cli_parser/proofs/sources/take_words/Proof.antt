@@ -24,17 +24,17 @@ word-end-requires c κs = search needs
 line-at-requires : tie.Need-line-at-requires Inv-loop μ-loop
 line-at-requires c κs = tt
 
-sub-take-word-on : tie.Need-sub-take-word-on Inv-loop μ-loop
-sub-take-word-on c = search needs
+sub-take-word : tie.Need-sub-take-word Inv-loop μ-loop
+sub-take-word c = search needs
 
-part-take-word-on-start : tie.Need-part-take-word-on-start Inv-loop μ-loop
-part-take-word-on-start c = search needs
+part-take-word-start : tie.Need-part-take-word-start Inv-loop μ-loop
+part-take-word-start c = search needs
 
-part-take-word-on-end : tie.Need-part-take-word-on-end Inv-loop μ-loop
-part-take-word-on-end c = search needs
+part-take-word-end : tie.Need-part-take-word-end Inv-loop μ-loop
+part-take-word-end c = search needs
 
-take-word-on-requires : tie.Need-take-word-on-requires Inv-loop μ-loop
-take-word-on-requires c κs = tt
+take-word-requires : tie.Need-take-word-requires Inv-loop μ-loop
+take-word-requires c κs = tt
 
 further-requires : tie.Need-further-requires Inv-loop μ-loop
 further-requires c κs = search needs
@@ -58,10 +58,10 @@ take-words-spec =
     word-start-requires
     word-end-requires
     line-at-requires
-    sub-take-word-on
-    part-take-word-on-start
-    part-take-word-on-end
-    take-word-on-requires
+    sub-take-word
+    part-take-word-start
+    part-take-word-end
+    take-word-requires
     further-requires
     loop-less
     loop-again

@@ -3,7 +3,7 @@ use mathlib.Core.Path.{_≡_, sym, _∙_}
 use mathlib.Core.Bool.{true, _&&_, _||_}
 use Prim.Native.Nat.{_≤_}
 use native.Mathlib.Omega.{arith}
-use borrow.Author.Tests.{eq-eqb, ne-eqb, leb-true, not-true, not-false}
+use borrow.Author.Tests.{leb-true, not-true, not-false}
 use lib.Dec.{leb, eqb}
 use Rattle.bits.specs.Place.{leftAt}
 use Rattle.buffers.proofs.Tests.{and-fst}
@@ -72,33 +72,30 @@ returns-3 c =
     let a = e .before .before .before .before .before .before .before .before .args in
     width-stop (a .part .now) (a .place .at) (a .coded) (omega arith) (width-read e) (fits e) (c .enum-told2 .given .1) (c .before .before .before .before .read-factors .ensures)
 
-calculate-optimal-delta-length-requires : tie.Need-calculate-optimal-delta-length-requires
-calculate-optimal-delta-length-requires c κs = search needs
-
-cast-if2 : tie.Need-cast-if2
-cast-if2 c = search needs
+is-chosen-requires : tie.Need-is-chosen-requires
+is-chosen-requires c κs = search needs
 
 same-length-2 : tie.Need-same-length-2
 same-length-2 c = search needs
 
 returns-4 : tie.Need-returns-4
 returns-4 c =
-    let e = c .before .before .before .before .before .before .before .before .before .before .before in
+    let e = c .before .before .before .before .before .before .before .before .before .before in
     let s = e .before .before .before .before .before .before .before .before in
     width-wrong (s .args .part .now) (s .args .place .at) (s .args .coded) (s .pre .0 .within) (width-read e) (fits e)
-    (stored-of (c .before .before .before .before .before .step2 .given .1) (c .before .before .before .before .before .before .before .before .before .read-factors .ensures))
-    (ne-eqb _ _ (λ z. c .if2 .taken (c .before .before .calculate-optimal-delta-length .ensures .0 ∙ z)))
+    (stored-of (c .before .before .before .before .step2 .given .1) (c .before .before .before .before .before .before .before .before .read-factors .ensures))
+    (sym (c .before .is-chosen .ensures) ∙ not-true _ (c .if2 .taken))
 
 same-length-3 : tie.Need-same-length-3
 same-length-3 c = search needs
 
 returns-5 : tie.Need-returns-5
 returns-5 c =
-    let e = c .before .before .before .before .before .before .before .before .before .before .before in
+    let e = c .before .before .before .before .before .before .before .before .before .before in
     let s = e .before .before .before .before .before .before .before .before in
     width-right (s .args .part .now) (s .args .place .at) (s .args .coded) (s .pre .0 .within) (width-read e) (fits e)
-    (stored-of (c .before .before .before .before .before .step2 .given .1) (c .before .before .before .before .before .before .before .before .before .read-factors .ensures))
-    (eq-eqb _ _ (sym (c .before .before .calculate-optimal-delta-length .ensures .0) ∙ c .if2 .left))
+    (stored-of (c .before .before .before .before .step2 .given .1) (c .before .before .before .before .before .before .before .before .read-factors .ensures))
+    (sym (c .before .is-chosen .ensures) ∙ not-false _ (c .if2 .left))
 
 pub read-width-spec : {M : Type 1} → statement M
 read-width-spec =
@@ -116,8 +113,7 @@ read-width-spec =
     enum-told-2
     same-length
     returns-3
-    calculate-optimal-delta-length-requires
-    cast-if2
+    is-chosen-requires
     same-length-2
     returns-4
     same-length-3

@@ -3,7 +3,7 @@ use mir.Syntax.{w64}
 use mir.Val.{toZ, ofZ}
 use mir.Facts.{fits-natAbs, sfits-toZ, fits-ofZ}
 use borrow.Author.Needs.{needs}
-use Rattle.text.proofs.Above.{above}
+use Rattle.places.proofs.Above.{above}
 use Rattle.text.proofs.blocks.bytes_to.Statement.{statement}
 use Rattle.text.proofs.blocks.bytes_to.Tie as tie
 

@@ -1,0 +1,3 @@
+// Numbers, floats and bytes in a file, low byte first; nothing of HCA.
+pub mod values;
+pub mod words;

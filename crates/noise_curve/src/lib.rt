@@ -1,0 +1,40 @@
+// Document 01, **Resolution**: the noise of a band, and the curve that a resolution is read from.
+ghost use mathlib.Core.Path.{_≡_};
+ghost use Prim.Native.Nat.{_*_, _≤_};
+ghost use lib.ListN.{getD, take, drop};
+ghost use Rattle.rules.specs.Tables.{resolutionCurve};
+ghost use Rattle.rules.specs.Resolution.{noiseAt};
+ghost use Rattle.quantizer.specs.Packed.{packedRow};
+use quantizer::tables::row_entry;
+
+pub fn noise_at(level: usize, boundary: usize, band: usize) -> usize
+    ensures { λ r. ⌜ (r ≡ noiseAt level boundary band) × (r ≤ level) ⌝ }
+{
+    if band < boundary {
+        if level == 0 {
+            return 0;
+        }
+        return level - 1;
+    }
+    level
+}
+
+// SCALE_TO_RESOLUTION_CURVE, sixteen entries in a number as in the quantizer's tables.
+fn curve_row(i: usize) -> u64
+    requires { ⌜ i ≤ 3 ⌝ }
+    ensures { λ r. ⌜ r ≡ packedRow (take 16 (drop (16 * i) resolutionCurve)) ⌝ }
+{
+    match i {
+        0 => 0xCCCD_DDDD_DEEE_EEEF,
+        1 => 0xAAAA_AAAB_BBBB_BCCC,
+        2 => 0x5667_8888_8899_9999,
+        _ => 0x0000_0122_2233_3444,
+    }
+}
+
+pub fn curve(at: usize) -> u8
+    requires { ⌜ at ≤ 58 ⌝ }
+    ensures { λ r. ⌜ (r ≡ getD resolutionCurve at 0) × (r ≤ 15) ⌝ }
+{
+    row_entry(curve_row(at / 16), at % 16) as u8
+}
