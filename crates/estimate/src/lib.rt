@@ -48,7 +48,7 @@ fn wide_bit_count(scaled: &[f32], band: usize, resolution: u8) -> usize
 }
 
 // At resolution 0 no value takes a bit.
-fn spectral_bit_count(scaled: &[f32], band: usize, resolution: u8) -> usize
+pub fn spectral_bit_count(scaled: &[f32], band: usize, resolution: u8) -> usize
     requires { ⌜ (length (now scaled) ≡ 1024) × (band < 128) × (resolution ≤ 15) ⌝ }
     ensures { λ r. ⌜ (r ≡ bandBits (now (scaled .entry)) band resolution) × (r ≤ 96) ⌝ }
 {
@@ -61,7 +61,7 @@ fn spectral_bit_count(scaled: &[f32], band: usize, resolution: u8) -> usize
     wide_bit_count(scaled, band, resolution)
 }
 
-// A channel's coded bands, each resolution worked out on the way.
+// A channel's coded bands, each resolution worked out on the way. A removed band takes no bit, and no call.
 fn channel_bits(
     scaled: &[f32],
     factors: &[u8],
@@ -76,8 +76,11 @@ fn channel_bits(
     let mut sum: usize = 0;
     let mut b = 0;
     while b < coded {
-        let resolution = calculate_resolution(factors[b], noise_at(level, boundary, b));
-        sum += spectral_bit_count(scaled, b, resolution);
+        let factor = factors[b];
+        if factor > 0 {
+            let resolution = calculate_resolution(factor, noise_at(level, boundary, b));
+            sum += spectral_bit_count(scaled, b, resolution);
+        }
         b += 1;
     }
     sum

@@ -1,25 +1,25 @@
 -- `boundary_search::binary_search_boundary` meets its contract. The invariant: the search from here on finds what the whole one does. Assumes nothing.
 use mathlib.Core.Path.{_≡_, sym, _∙_}
-use Prim.Native.Nat.{_≤_, _-_}
+use mathlib.Core.Bool.{Bool}
+use Prim.Native.Nat.{ℕ, _≤_, _+_, _-_, _*_}
 use native.Mathlib.Omega.{arith}
 use borrow.Author.Needs.{needs}
 use borrow.Author.Tests.{eq-eqb, ne-eqb}
-use Rattle.rules.specs.Estimate.{exceeds}
+use lib.Dec.{ltb}
+use Rattle.rules.specs.Layout.{frameSize}
 use Rattle.rules.specs.Boundary.{lastOf, narrow, searchBoundary}
 use Rattle.rules.proofs.Boundaries.{boundary-start, narrow-up, narrow-down, narrow-end}
+use Rattle.band_counts.specs.Counts.{countedBits}
 use Rattle.boundary_search.proofs.binary_search_boundary.Statement.{statement}
 use Rattle.boundary_search.proofs.binary_search_boundary.Tie as tie
 
 abbrev Inv-loop : tie.InvT-loop
-Inv-loop layout scaled factors level fixed low₀ high₀ low high =
-    (low ≤ high) × (high ≤ 127) × (low ≤ 126)
-    × (searchBoundary (exceeds layout scaled factors level) ≡ narrow (exceeds layout scaled factors level) (high - low) low high)
+Inv-loop layout below above fixed low₀ high₀ low high =
+    let over : ℕ → Bool = λ b. ltb (8 * frameSize layout) (fixed + countedBits layout below above b) in
+    (low ≤ high) × (high ≤ 127) × (low ≤ 126) × (searchBoundary over ≡ narrow over (high - low) low high)
 
 abbrev μ-loop : tie.MeasureT-loop
-μ-loop layout scaled factors level fixed low₀ high₀ low high = high - low
-
-calculate-frame-header-length-requires : tie.Need-calculate-frame-header-length-requires Inv-loop μ-loop
-calculate-frame-header-length-requires c κs = search needs
+μ-loop layout below above fixed low₀ high₀ low high = high - low
 
 loop-holds : tie.Need-loop-holds Inv-loop μ-loop
 loop-holds c = (search needs, search needs, search needs, boundary-start _)
@@ -85,7 +85,6 @@ binary-search-boundary-spec =
     (tie.spec
     Inv-loop
     μ-loop
-    calculate-frame-header-length-requires
     loop-holds
     add-loop
     add-mid
