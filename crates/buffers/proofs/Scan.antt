@@ -1,5 +1,5 @@
 -- A loop that looks for the first index with a property, one that goes on behind it, and a loop that adds up. Assumes nothing.
-use mathlib.Core.Path.{_≡_, refl, sym, ap, _∙_}
+use mathlib.Core.Path.{_≡_, refl, sym, ap, ap₂, _∙_}
 use mathlib.Core.Bool.{Bool, true, false, _||_}
 use Prim.Native.Nat.{ℕ, zero, suc, _+_, _-_, _*_, _≤_, _<_, zero-le}
 use native.Mathlib.Nat.{suc-mul, add-le-add}
@@ -50,6 +50,12 @@ sum-none f = refl
 pub sum-more : (f : ℕ → ℕ) (n : ℕ) → sumTo f (n + 1) ≡ sumTo f n + f n
 unfolding sumTo
 sum-more f n = rw add-one
+
+-- sums of functions that agree below their end
+pub sum-same : (f g : ℕ → ℕ) (n : ℕ) → ((i : ℕ) → i < n → f i ≡ g i) → sumTo f n ≡ sumTo g n
+unfolding sumTo
+sum-same f g zero h = refl
+sum-same f g (suc n) h = ap₂ _+_ (sum-same f g n (λ i lt. h i (omega arith))) (h n (omega arith))
 
 -- n numbers of at most m each
 pub sum-bound : (f : ℕ → ℕ) (n m : ℕ) → ((i : ℕ) → i < n → f i ≤ m) → sumTo f n ≤ n * m

@@ -1,4 +1,4 @@
--- The lengths of what the passes fill. Assumes nothing.
+-- A channel's codes: their length, and their place in a frame. Assumes nothing.
 use mathlib.Core.Path.{_≡_}
 use mathlib.Core.List.{List}
 use Prim.Native.Nat.{ℕ}
@@ -11,13 +11,9 @@ use Rattle.buffers.proofs.Blocks.{length-blocks}
 use Rattle.rules.specs.Layout.{part}
 use Rattle.rules.specs.Code.{subframeCodes, channelCodes}
 
-pub subframe-size : (rs : List ℕ) (sc : List Float) (s : ℕ) → length (subframeCodes rs sc s) ≡ 128
-unfolding subframeCodes
-subframe-size rs sc s = length-build _ 128
-
 pub codes-size : (rs : List ℕ) (sc : List Float) → length (channelCodes rs sc) ≡ 1024
-unfolding channelCodes
-codes-size rs sc = length-blocks (subframeCodes rs sc) 128 8 (λ s _. subframe-size rs sc s) 8 (omega arith)
+unfolding channelCodes subframeCodes
+codes-size rs sc = length-blocks (subframeCodes rs sc) 128 8 (λ s _. length-build _ 128) 8 (omega arith)
 
 -- channel c's, in a frame
 abbrev pub codesAt : (resolutions : List ℕ) (scaled : List Float) (channel : ℕ) → List ℤ

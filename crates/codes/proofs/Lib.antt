@@ -1,1 +1,2 @@
+pub mod Bands
 pub mod Channels

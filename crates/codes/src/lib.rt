@@ -4,7 +4,8 @@ ghost use Prim.Native.Nat.{_≤_, _<_};
 ghost use lib.ListN.{length};
 ghost use Rattle.buffers.specs.Walk.{AtMost};
 ghost use Rattle.rules.specs.Layout.{Sizes, spectrumLength, factorLength};
-ghost use Rattle.rules.specs.Code.{recordedCode, subframeCodes, channelCodes, allCodes};
+ghost use Rattle.rules.specs.Code.{recordedCode, channelCodes, allCodes};
+ghost use Rattle.codes.specs.Bands.{bandLaid};
 use rules::Layout;
 
 // A band of resolution 0 has code 0, and no float is touched for it.
@@ -18,17 +19,17 @@ fn recorded_code(resolution: u8, scaled: f32) -> i32
     quantizer::code(scaled, resolution)
 }
 
-// A subframe's 128 codes, of a channel's 1,024 scaled values, which stand by band and subframe.
-fn subframe_codes(resolutions: &[u8], scaled: &[f32], s: usize, codes: &mut [i32])
-    requires { ⌜ AtMost 15 (now resolutions) ⌝ }
-    requires { ⌜ s < 8 ⌝ }
-    requires { ⌜ (length (now resolutions) ≡ 128) × (length (now scaled) ≡ 1024) × (length (now codes) ≡ 128) ⌝ }
-    ensures { λ _. ⌜ now (codes .exit) ≡ subframeCodes (now (resolutions .entry)) (now (scaled .entry)) s ⌝ }
+// A band's eight codes, of a channel's 1,024: by subframe and band, while the scaled values stand by band and subframe. Its resolution is looked at
+// once, not in every subframe.
+fn band_codes(resolution: u8, scaled: &[f32], band: usize, codes: &mut [i32])
+    requires { ⌜ (resolution ≤ 15) × (band < 128) ⌝ }
+    requires { ⌜ (length (now scaled) ≡ 1024) × (length (now codes) ≡ 1024) ⌝ }
+    ensures { λ _. ⌜ now (codes .exit) ≡ bandLaid resolution (now (scaled .entry)) band 8 (now (codes .entry)) ⌝ }
 {
-    let mut b = 0;
-    while b < 128 {
-        codes[b] = recorded_code(resolutions[b], scaled[b * 8 + s]);
-        b += 1;
+    let mut s = 0;
+    while s < 8 {
+        codes[s * 128 + band] = recorded_code(resolution, scaled[band * 8 + s]);
+        s += 1;
     }
 }
 
@@ -37,11 +38,10 @@ fn channel_codes(resolutions: &[u8], scaled: &[f32], codes: &mut [i32])
     requires { ⌜ (length (now resolutions) ≡ 128) × (length (now scaled) ≡ 1024) × (length (now codes) ≡ 1024) ⌝ }
     ensures { λ _. ⌜ now (codes .exit) ≡ channelCodes (now (resolutions .entry)) (now (scaled .entry)) ⌝ }
 {
-    let mut s = 0;
-    while s < 8 {
-        let at = s * 128;
-        subframe_codes(resolutions, scaled, s, &mut codes[at..at + 128]);
-        s += 1;
+    let mut b = 0;
+    while b < 128 {
+        band_codes(resolutions[b], scaled, b, codes);
+        b += 1;
     }
 }
 

@@ -1,11 +1,10 @@
-// Document 01, **Estimate**: the values of all bands, and whether they exceed the frame with the part that is fixed.
+// Document 01, **Estimate**: the values of all bands, and the bits with the part that is fixed.
 ghost use mathlib.Core.Path.{_≡_};
-ghost use Prim.Native.Nat.{_*_, _≤_, _<_};
+ghost use Prim.Native.Nat.{_+_, _*_, _≤_, _<_};
 ghost use lib.ListN.{length};
 ghost use Rattle.rules.specs.Layout.{Sizes, spectrumLength, factorLength};
-ghost use Rattle.rules.specs.Estimate.{bandBits, channelBits, fixedBits, spectralBits, usedBits, exceeds};
+ghost use Rattle.rules.specs.Estimate.{bandBits, channelBits, fixedBits, spectralBits, usedBits};
 use layouts::coded_count;
-use noise_curve::noise_at;
 use quantizer::counts::marks_of;
 use quantizer::counts::small_bits;
 use quantizer::counts::wide_bits;
@@ -48,7 +47,7 @@ fn wide_bit_count(scaled: &[f32], band: usize, resolution: u8) -> usize
 }
 
 // At resolution 0 no value takes a bit.
-pub fn spectral_bit_count(scaled: &[f32], band: usize, resolution: u8) -> usize
+fn spectral_bit_count(scaled: &[f32], band: usize, resolution: u8) -> usize
     requires { ⌜ (length (now scaled) ≡ 1024) × (band < 128) × (resolution ≤ 15) ⌝ }
     ensures { λ r. ⌜ (r ≡ bandBits (now (scaled .entry)) band resolution) × (r ≤ 96) ⌝ }
 {
@@ -61,42 +60,30 @@ pub fn spectral_bit_count(scaled: &[f32], band: usize, resolution: u8) -> usize
     wide_bit_count(scaled, band, resolution)
 }
 
-// A channel's coded bands, each resolution worked out on the way. A removed band takes no bit, and no call.
-fn channel_bits(
-    scaled: &[f32],
-    factors: &[u8],
-    coded: usize,
-    level: usize,
-    boundary: usize,
-) -> usize
-    requires { ⌜ (length (now scaled) ≡ 1024) × (length (now factors) ≡ 128) × (coded ≤ 128) ⌝ }
-    requires { ⌜ level ≤ 511 ⌝ }
-    ensures { λ r. ⌜ (r ≡ channelBits (now (scaled .entry)) (now (factors .entry)) coded level boundary) × (r ≤ 12288) ⌝ }
+// A channel's bands from `from` on and below `to`, at one noise, each resolution worked out on the way. A removed band takes no bit, and no call.
+pub fn channel_bits(scaled: &[f32], factors: &[u8], from: usize, to: usize, noise: usize) -> usize
+    requires { ⌜ (length (now scaled) ≡ 1024) × (length (now factors) ≡ 128) × (from ≤ to) × (to ≤ 128) × (noise ≤ 511) ⌝ }
+    ensures { λ r. ⌜ (channelBits (now (scaled .entry)) (now (factors .entry)) from noise 0 + r
+        ≡ channelBits (now (scaled .entry)) (now (factors .entry)) to noise 0) × (r + 96 * from ≤ 96 * to) ⌝ }
 {
     let mut sum: usize = 0;
-    let mut b = 0;
-    while b < coded {
+    let mut b = from;
+    while b < to {
         let factor = factors[b];
         if factor > 0 {
-            let resolution = calculate_resolution(factor, noise_at(level, boundary, b));
-            sum += spectral_bit_count(scaled, b, resolution);
+            sum += spectral_bit_count(scaled, b, calculate_resolution(factor, noise));
         }
         b += 1;
     }
     sum
 }
 
-fn spectral_total(
-    layout: Layout,
-    scaled: &[f32],
-    factors: &[u8],
-    level: usize,
-    boundary: usize,
-) -> usize
+// At boundary 0 every band has the level's noise.
+fn spectral_total(layout: Layout, scaled: &[f32], factors: &[u8], level: usize) -> usize
     requires { ⌜ Sizes layout ⌝ }
     requires { ⌜ (length (now scaled) ≡ spectrumLength layout) × (length (now factors) ≡ factorLength layout) ⌝ }
     requires { ⌜ level ≤ 511 ⌝ }
-    ensures { λ r. ⌜ (r ≡ spectralBits layout (now (scaled .entry)) (now (factors .entry)) level boundary) × (r ≤ 196608) ⌝ }
+    ensures { λ r. ⌜ (r ≡ spectralBits layout (now (scaled .entry)) (now (factors .entry)) level 0) × (r ≤ 196608) ⌝ }
 {
     let channels = layout.channels;
     let mut sum: usize = 0;
@@ -105,49 +92,24 @@ fn spectral_total(
         let coded = coded_count(layout, c);
         let a = c * 1024;
         let f = c * 128;
-        sum += channel_bits(
-            &scaled[a..a + 1024],
-            &factors[f..f + 128],
-            coded,
-            level,
-            boundary,
-        );
+        sum += channel_bits(&scaled[a..a + 1024], &factors[f..f + 128], 0, coded, level);
         c += 1;
     }
     sum
 }
 
-// The bits of a level and a boundary, the fixed part being known.
-fn calculate_used_bits(
+// The bits of a level at boundary 0, the fixed part being known.
+pub fn calculate_used_bits(
     layout: Layout,
     scaled: &[f32],
     factors: &[u8],
     fixed: usize,
     level: usize,
-    boundary: usize,
 ) -> usize
     requires { ⌜ Sizes layout ⌝ }
     requires { ⌜ (length (now scaled) ≡ spectrumLength layout) × (length (now factors) ≡ factorLength layout) ⌝ }
     requires { ⌜ (fixed ≡ fixedBits layout (now factors)) × (fixed ≤ 13152) × (level ≤ 511) ⌝ }
-    ensures { λ r. ⌜ r ≡ usedBits layout (now (scaled .entry)) (now (factors .entry)) level boundary ⌝ }
+    ensures { λ r. ⌜ r ≡ usedBits layout (now (scaled .entry)) (now (factors .entry)) level 0 ⌝ }
 {
-    fixed + spectral_total(layout, scaled, factors, level, boundary)
-}
-
-// Whether they are more than 8F.
-pub fn is_over(
-    layout: Layout,
-    scaled: &[f32],
-    factors: &[u8],
-    fixed: usize,
-    level: usize,
-    boundary: usize,
-) -> bool
-    requires { ⌜ Sizes layout ⌝ }
-    requires { ⌜ (length (now scaled) ≡ spectrumLength layout) × (length (now factors) ≡ factorLength layout) ⌝ }
-    requires { ⌜ (fixed ≡ fixedBits layout (now factors)) × (fixed ≤ 13152) × (level ≤ 511) ⌝ }
-    ensures { λ r. ⌜ r ≡ exceeds layout (now (scaled .entry)) (now (factors .entry)) level boundary ⌝ }
-{
-    let available = 8 * layout.frame_size;
-    available < calculate_used_bits(layout, scaled, factors, fixed, level, boundary)
+    fixed + spectral_total(layout, scaled, factors, level)
 }

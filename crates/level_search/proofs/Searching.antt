@@ -1,5 +1,5 @@
 -- What the search of the level and the removal cite. Assumes nothing.
-use mathlib.Core.Path.{_≡_, sym, _∙_}
+use mathlib.Core.Path.{_≡_}
 use mathlib.Core.Bool.{Bool}
 use mathlib.Core.List.{List}
 use Prim.Native.Nat.{ℕ, _*_, _<_}
@@ -15,11 +15,6 @@ use Rattle.rules.proofs.Cuts.{length-part}
 -- whether a level exceeds with these factors, at boundary 0
 abbrev pub overAt : Layout → List Float → List ℕ → ℕ → Bool
 overAt l scaled factors level = exceeds l scaled factors level 0
-
--- what a probe at boundary 0 said, of it
-pub over-said : (l : Layout) (scaled : List Float) (factors : List ℕ) (level : ℕ) (r t : Bool) → r ≡ exceeds l scaled factors level 0 → r ≡ t
-    → overAt l scaled factors level ≡ t
-over-said l scaled factors level r t e h = sym e ∙ h
 
 -- channel c's factors with a pair cleared, and their length
 abbrev pub clearedAt : List ℕ → ℕ → ℕ → List ℕ

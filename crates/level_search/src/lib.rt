@@ -1,33 +1,45 @@
 // Document 01, **Level**: the halving, and the removal of pairs of bands while there is no level.
 ghost use mathlib.Core.Path.{_≡_};
-ghost use Prim.Native.Nat.{_+_, _≤_, _<_};
+ghost use Prim.Native.Nat.{_+_, _*_, _≤_, _<_};
 ghost use lib.ListN.{length};
-ghost use Rattle.rules.specs.Layout.{Sizes, spectrumLength, factorLength};
+ghost use Rattle.rules.specs.Layout.{Sizes, frameSize, spectrumLength, factorLength};
 ghost use Rattle.rules.specs.Estimate.{exceeds};
 ghost use Rattle.rules.specs.Level.{levelOf, clearTwo, clearPair};
 ghost use Rattle.rules.specs.Stage.{foundOf};
-use estimate::is_over;
+ghost use Rattle.level_search.specs.Bits.{levelBits};
+use estimate::calculate_used_bits;
 use estimate_header::calculate_frame_header_length;
 use rules::Layout;
 
-// 255 says that there is none.
-fn binary_search_level(layout: Layout, scaled: &[f32], factors: &[u8]) -> usize
+// The level, 255 where there is none, and the bits that the estimate has at it.
+struct Halving {
+    level: usize,
+    used: usize,
+}
+
+// A probe that does not exceed is the highest left: its bits are kept.
+fn binary_search_level(layout: Layout, scaled: &[f32], factors: &[u8]) -> Halving
     requires { ⌜ Sizes layout ⌝ }
     requires { ⌜ (length (now scaled) ≡ spectrumLength layout) × (length (now factors) ≡ factorLength layout) ⌝ }
-    ensures { λ r. ⌜ (r ≡ levelOf (λ level. exceeds layout (now (scaled .entry)) (now (factors .entry)) level 0)) × (r ≤ 255) ⌝ }
+    ensures { λ r. ⌜ (r .level ≡ levelOf (λ level. exceeds layout (now (scaled .entry)) (now (factors .entry)) level 0)) × (r .level ≤ 255)
+        × (r .used ≡ levelBits layout (now (scaled .entry)) (now (factors .entry)) (r .level)) × (r .used ≤ 8 * frameSize layout) ⌝ }
 {
+    let available = 8 * layout.frame_size;
     let fixed = calculate_frame_header_length(layout, factors);
     let mut low: usize = 0;
     let mut high: usize = 255;
+    let mut used: usize = 0;
     while low < high {
         let mid = (low + high) / 2;
-        if is_over(layout, scaled, factors, fixed, mid, 0) {
+        let bits = calculate_used_bits(layout, scaled, factors, fixed, mid);
+        if available < bits {
             low = mid + 1;
         } else {
             high = mid;
+            used = bits;
         }
     }
-    low
+    Halving { level: low, used }
 }
 
 fn clear_two(factors: &mut [u8], band: usize)
@@ -53,10 +65,11 @@ fn clear_pair(layout: Layout, factors: &mut [u8], band: usize)
     }
 }
 
-// The level, 255 where there is none, and the pairs removed.
+// The level, 255 where there is none, the pairs removed, and the bits that the estimate has at the level.
 pub struct Removal {
     pub level: usize,
     pub pairs: usize,
+    pub used: usize,
 }
 
 // `top` is one above the highest band. The lowest one or two bands are never cleared.
@@ -65,19 +78,28 @@ pub fn calculate_noise_level(layout: Layout, scaled: &[f32], factors: &mut [u8])
     requires { ⌜ (length (now scaled) ≡ spectrumLength layout) × (length (now factors) ≡ factorLength layout) ⌝ }
     ensures { λ r. ⌜ (r .level ≡ foundOf layout (now (scaled .entry)) (now (factors .entry)) .level)
         × (r .pairs ≡ foundOf layout (now (scaled .entry)) (now (factors .entry)) .pairs)
-        × (now (factors .exit) ≡ foundOf layout (now (scaled .entry)) (now (factors .entry)) .factors) × (r .level ≤ 255) ⌝ }
+        × (now (factors .exit) ≡ foundOf layout (now (scaled .entry)) (now (factors .entry)) .factors) × (r .level ≤ 255)
+        × (r .used ≡ levelBits layout (now (scaled .entry)) (now (factors .exit)) (r .level)) × (r .used ≤ 8 * frameSize layout) ⌝ }
 {
     let mut top = layout.base + layout.stereo;
     let mut pairs: usize = 0;
-    let mut level = binary_search_level(layout, scaled, factors);
-    while 254 < level {
+    let mut found = binary_search_level(layout, scaled, factors);
+    while 254 < found.level {
         if top < 3 {
-            return Removal { level, pairs };
+            return Removal {
+                level: found.level,
+                pairs,
+                used: found.used,
+            };
         }
         top -= 2;
         clear_pair(layout, factors, top);
         pairs += 1;
-        level = binary_search_level(layout, scaled, factors);
+        found = binary_search_level(layout, scaled, factors);
     }
-    Removal { level, pairs }
+    Removal {
+        level: found.level,
+        pairs,
+        used: found.used,
+    }
 }

@@ -7,7 +7,7 @@ use native.Mathlib.Nat.{eq-or-lt-of-le, le-of-suc-le-suc, not-suc-le-zero, max-e
 use native.Mathlib.Numerals.{add-one}
 use native.Mathlib.Omega.{arith}
 use lib.ListN.{take}
-use Rattle.buffers.specs.Walk.{sumTo}
+use Rattle.buffers.proofs.Scan.{sum-same}
 use Rattle.rules.proofs.Cuts.{by-order}
 use Rattle.rules_files.specs.List.{entryAt, maxTo, summaryOf}
 use Rattle.rules_files.specs.declared.list.Entry.{Entry}
@@ -30,11 +30,6 @@ module _ (f g : ℕ → ℕ) where
   unfolding maxTo
   max-same zero h = refl
   max-same (suc n) h = ap₂ max (max-same n (λ i l. h i (omega arith))) (h n (omega arith))
-
-  sum-same : (n : ℕ) → ((i : ℕ) → i < n → f i ≡ g i) → sumTo f n ≡ sumTo g n
-  unfolding sumTo
-  sum-same zero h = refl
-  sum-same (suc n) h = ap₂ _+_ (sum-same n (λ i l. h i (omega arith))) (h n (omega arith))
 
 -- two lists of numbers whose first n entries are the same
 pub summary-same : (n : ℕ) (xs ys : List ℕ) → ((i : ℕ) → i < n → entryAt xs i ≡ entryAt ys i) → summaryOf n xs ≡ summaryOf n ys

@@ -1,8 +1,9 @@
 // From prepared buffers of exactly document 01's lengths to the answer: level, boundary, codes and frame.
 ghost use mathlib.Core.Path.{_≡_};
-ghost use Prim.Native.Nat.{_≤_};
+ghost use Prim.Native.Nat.{_*_, _≤_};
 ghost use lib.ListN.{length};
 ghost use Rattle.rules.specs.Layout.{Sizes, frameSize, spectrumLength, factorLength, sideLength};
+ghost use Rattle.rules.specs.Estimate.{usedBits};
 ghost use Rattle.rules.specs.Stage.{foundOf, stageLeft, madeFrom, packed, settled};
 ghost use Rattle.stage_run.specs.Delivery.{Sized, Delivers, foundAs, wiped};
 use boundary_search::calculate_evaluation_boundary;
@@ -88,6 +89,7 @@ fn boundary_to_frame(
     layout: Layout,
     level: usize,
     pairs: usize,
+    used: usize,
     scaled: &[f32],
     codes: &mut [i32],
     factors: &[u8],
@@ -96,12 +98,13 @@ fn boundary_to_frame(
 ) -> StageAnswer
     requires { ⌜ Sizes layout ⌝ }
     requires { ⌜ level ≤ 254 ⌝ }
+    requires { ⌜ (used ≡ usedBits layout (now scaled) (now factors) level 0) × (used ≤ 8 * frameSize layout) ⌝ }
     requires { ⌜ Sized layout (length (now scaled)) (length (now codes)) (length (now factors)) (length (now side)) (length (now frame)) ⌝ }
     ensures { λ r. ⌜ wiped layout (stageLeft r (now (scaled .entry)) (now (codes .exit)) (now (factors .entry)) (now (side .entry))
         (now (frame .exit))) ≡ packed layout (madeFrom layout (now (scaled .entry)) (now (side .entry)) (foundAs level pairs (now (factors .entry))))
         ⌝ }
 {
-    let boundary = calculate_evaluation_boundary(layout, scaled, factors, level);
+    let boundary = calculate_evaluation_boundary(layout, scaled, factors, level, used);
     let bits = deliver(layout, level, boundary, scaled, factors, side, codes, frame);
     answered(8 * (layout.frame_size - 2), level, boundary, pairs, bits)
 }
@@ -127,5 +130,15 @@ pub(crate) fn level_to_frame(
     if is_no_level(level) {
         return no_level(pairs);
     }
-    boundary_to_frame(layout, level, pairs, scaled, codes, factors, side, frame)
+    boundary_to_frame(
+        layout,
+        level,
+        pairs,
+        removal.used,
+        scaled,
+        codes,
+        factors,
+        side,
+        frame,
+    )
 }

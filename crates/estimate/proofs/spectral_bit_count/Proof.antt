@@ -1,7 +1,7 @@
 -- `estimate::spectral_bit_count` meets its contract. Assumes nothing.
 use mathlib.Core.Path.{sym}
 use borrow.Author.Needs.{needs}
-use Rattle.estimate.proofs.Silent.{band-silent}
+use Rattle.estimate.proofs.Bands.{band-silent}
 use Rattle.estimate.proofs.spectral_bit_count.Statement.{statement}
 use Rattle.estimate.proofs.spectral_bit_count.Tie as tie
 

@@ -8,14 +8,17 @@ use Rattle.buffers.proofs.Build.{back-width}
 use Rattle.buffers.proofs.Scan.{sum-none, sum-turn}
 use Rattle.rules.specs.Layout.{codedAt, part}
 use Rattle.rules.specs.Estimate.{channelBits, spectralBits}
+use Rattle.estimate.proofs.Bands.{from-first}
 use Rattle.estimate.proofs.spectral_total.Statement.{statement}
 use Rattle.estimate.proofs.spectral_total.Tie as tie
 
 abbrev Inv-loop : tie.InvT-loop
-Inv-loop layout scaled factors level boundary channels sum₀ c₀ sum c = (c ≤ channels) × (sum ≤ 12288 * c) × (sum ≡ sumTo (λ (i : ℕ). channelBits (part 1024 scaled i) (part 128 factors i) (codedAt layout i) level boundary) c)
+Inv-loop layout scaled factors level channels sum₀ c₀ sum c =
+    (c ≤ channels) × (sum ≤ 12288 * c)
+    × (sum ≡ sumTo (λ (i : ℕ). channelBits (part 1024 scaled i) (part 128 factors i) (codedAt layout i) level 0) c)
 
 abbrev μ-loop : tie.MeasureT-loop
-μ-loop layout scaled factors level boundary channels sum₀ c₀ sum c = channels - c
+μ-loop layout scaled factors level channels sum₀ c₀ sum c = channels - c
 
 loop-holds : tie.Need-loop-holds Inv-loop μ-loop
 loop-holds c = (search needs, search needs, sym (sum-none _))
@@ -74,7 +77,7 @@ loop-again c =
       search needs,
       search needs,
       sum-turn _ _ _ _ (s .loop .inv .2)
-          (c .channel-bits .ensures .0
+          (from-first _ _ _ _ _ (c .channel-bits .ensures .0)
           ∙ rw (back-width (s .loop .c * 1024) 1024, back-width (s .loop .c * 128) 128, c .before .before .before .coded-count .ensures .0)),
     )
 

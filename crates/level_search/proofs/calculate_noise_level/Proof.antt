@@ -4,20 +4,23 @@ use Prim.Native.Nat.{_≤_, _+_, _-_, _*_}
 use native.Mathlib.Omega.{arith}
 use lib.ListN.{length}
 use borrow.Author.Needs.{needs}
+use Rattle.rules.specs.Layout.{frameSize}
 use Rattle.rules.specs.Level.{levelOf, remove, noiseLevel}
 use Rattle.rules.specs.Stage.{foundOf}
 use Rattle.rules.proofs.Levels.{remove-done, remove-stop, remove-turn}
+use Rattle.level_search.specs.Bits.{levelBits}
 use Rattle.level_search.proofs.Searching.{overAt}
 use Rattle.level_search.proofs.calculate_noise_level.Statement.{statement}
 use Rattle.level_search.proofs.calculate_noise_level.Tie as tie
 
 abbrev Inv-loop : tie.InvT-loop
-Inv-loop layout scaled factors₀ top₀ pairs₀ level₀ factors top pairs level =
-    (length factors ≡ length factors₀) × (2 * pairs + top ≤ 128) × (level ≤ 255) × (level ≡ levelOf (overAt layout scaled factors))
+Inv-loop layout scaled factors₀ top₀ pairs₀ found₀ factors top pairs found =
+    (length factors ≡ length factors₀) × (2 * pairs + top ≤ 128) × (found .level ≤ 255) × (found .level ≡ levelOf (overAt layout scaled factors))
     × (foundOf layout scaled factors₀ ≡ remove layout (overAt layout scaled) (64 - pairs) top pairs factors)
+    × (found .used ≡ levelBits layout scaled factors (found .level)) × (found .used ≤ 8 * frameSize layout)
 
 abbrev μ-loop : tie.MeasureT-loop
-μ-loop layout scaled factors₀ top₀ pairs₀ level₀ factors top pairs level = top
+μ-loop layout scaled factors₀ top₀ pairs₀ found₀ factors top pairs found = top
 
 add-top : tie.Need-add-top Inv-loop μ-loop
 add-top c = search needs
@@ -27,16 +30,18 @@ binary-search-level-requires c κs = search needs
 
 loop-holds : tie.Need-loop-holds Inv-loop μ-loop
 unfolding noiseLevel
-loop-holds c = (search needs, search needs, search needs, c .binary-search-level .ensures .0, refl)
+loop-holds c =
+    let e = c .binary-search-level .ensures in
+    (search needs, search needs, e .1, e .0, refl, e .2, e .3)
 
 same-length : tie.Need-same-length Inv-loop μ-loop
 same-length c = search needs
 
 returns : tie.Need-returns Inv-loop μ-loop
 returns c =
-    let i = c .before .before .loop .inv in
+    let i = c .before .before .before .loop .inv in
     let e = i .4 ∙ remove-stop _ _ _ _ _ _ (omega arith) in
-    rw e (i .3, refl, refl, i .2)
+    rw e (i .3, refl, refl, i .2, i .5, i .6)
 
 sub-top : tie.Need-sub-top Inv-loop μ-loop
 sub-top c = search needs
@@ -55,16 +60,19 @@ loop-less c = search needs
 
 loop-again : tie.Need-loop-again Inv-loop μ-loop
 loop-again c =
-    let s = c .before .before .before .before .before .before .before .before in
+    let s = c .before .before .before .before .before .before .before .before .before in
     let i = s .loop .inv in
     let f : 64 - s .loop .pairs - 1 ≡ 64 - (s .loop .pairs + 1) = omega arith in
-    let t = c .before .before .before .before in (
+    let t = c .before .before .before .before in
+    let e = c .binary-search-level2 .ensures in (
       t .clear-pair .kept .1 .0 ∙ i .0,
       search needs,
-      c .binary-search-level2 .ensures .1,
-      c .binary-search-level2 .ensures .0,
+      e .1,
+      e .0,
       i .4
           ∙ (remove-turn _ _ _ _ _ _ (rw (← i .3) (omega arith)) (omega arith) (omega arith) ∙ rw (f, ← t .clear-pair .ensures)),
+      e .2,
+      e .3,
     )
 
 same-length-2 : tie.Need-same-length-2 Inv-loop μ-loop
@@ -72,9 +80,9 @@ same-length-2 c = search needs
 
 returns-2 : tie.Need-returns-2 Inv-loop μ-loop
 returns-2 c =
-    let i = c .before .loop .inv in
+    let i = c .before .before .loop .inv in
     let e = i .4 ∙ remove-done _ _ _ _ _ _ (rw (← i .3) (omega arith)) in
-    rw e (i .3, refl, refl, i .2)
+    rw e (i .3, refl, refl, i .2, i .5, i .6)
 
 pub calculate-noise-level-spec : {M : Type 1} → statement M
 calculate-noise-level-spec =

@@ -8,12 +8,13 @@ use Rattle.stage_run.proofs.delivery.boundary_to_frame.Tie as tie
 calculate-evaluation-boundary-requires : tie.Need-calculate-evaluation-boundary-requires
 calculate-evaluation-boundary-requires c κs =
     let s = c .before .before .before .before in
-    (s .pre .0, ((s .pre .1 .1 .scaled, s .pre .1 .1 .factors), omega (arith, s .pre .1 .0)))
+    let z = s .pre .1 .1 .1 in
+    (s .pre .0, ((z .scaled, z .factors, omega (arith, s .pre .1 .0)), s .pre .1 .1 .0))
 
 deliver-requires : tie.Need-deliver-requires
 deliver-requires c κs =
     let s = c .before .before .before .before .before .before .before in
-    let z = s .pre .1 .1 in
+    let z = s .pre .1 .1 .1 in
     (s .pre .0, ((omega (arith, s .pre .1 .0), c .before .before .calculate-evaluation-boundary .ensures .1), ((z .scaled, z .factors, z .side), (z .codes, z .frame))))
 
 sub-answered : tie.Need-sub-answered

@@ -1,8 +1,9 @@
 -- `stage_run::delivery::level_to_frame` meets its contract. Assumes nothing.
 use mathlib.Core.Path.{sym, _∙_}
-use Rattle.stage_run.proofs.Ends.{level-none, settled-packed}
 use borrow.Author.Needs.{needs}
 use borrow.Author.Tests.{ltb-false}
+use Rattle.level_search.proofs.Bits.{bits-found}
+use Rattle.stage_run.proofs.Ends.{level-none, settled-packed}
 use Rattle.stage_run.proofs.delivery.level_to_frame.Statement.{statement}
 use Rattle.stage_run.proofs.delivery.level_to_frame.Tie as tie
 
@@ -31,7 +32,9 @@ boundary-to-frame-requires c κs =
     let z = s .pre .1 in
     let h = ltb-false 254 _ (sym (c .before .before .before .before .is-no-level .ensures) ∙ c .before .before .before .if1 .left) in
     let k = c .before .before .before .before .before .before .before .calculate-noise-level .kept .1 .1 .0 ∙ z .factors in
-    (s .pre .0, (h, record { scaled = z .scaled; codes = z .codes; factors = k; side = z .side; frame = z .frame }))
+    let n = c .before .before .before .before .before .before .before .calculate-noise-level .ensures in
+    let u = n .4 ∙ bits-found _ _ _ _ h in
+    (s .pre .0, (h, ((u, n .5), record { scaled = z .scaled; codes = z .codes; factors = k; side = z .side; frame = z .frame })))
 
 same-length-2 : tie.Need-same-length-2
 same-length-2 c = search needs

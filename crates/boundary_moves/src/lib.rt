@@ -1,0 +1,92 @@
+// Document 01, **Estimate**, from one boundary to a higher one: only the bands that it passes change their noise, and of these only some their resolution,
+// so that the other bands are not counted again.
+ghost use mathlib.Core.Path.{_≡_};
+ghost use Prim.Native.Nat.{_+_, _*_, _≤_, _<_, min};
+ghost use lib.ListN.{length};
+ghost use Rattle.rules.specs.Layout.{Sizes, frameSize, spectrumLength, factorLength};
+ghost use Rattle.rules.specs.Estimate.{channelBits, usedBits};
+use estimate::channel_bits;
+use layouts::coded_count;
+use resolutions::calculate_resolution;
+use rules::Layout;
+
+fn smaller(a: usize, b: usize) -> usize
+    ensures { λ r. ⌜ r ≡ min a b ⌝ }
+{
+    if b < a { b } else { a }
+}
+
+// What the bands that changed take at the finer noise, and what they took at the level's.
+struct Change {
+    rise: usize,
+    fall: usize,
+}
+
+// Of a channel's coded bands.
+fn channel_change(
+    scaled: &[f32],
+    factors: &[u8],
+    coded: usize,
+    level: usize,
+    from: usize,
+    to: usize,
+) -> Change
+    requires { ⌜ (length (now scaled) ≡ 1024) × (length (now factors) ≡ 128) × (coded ≤ 128) ⌝ }
+    requires { ⌜ (0 < level) × (level ≤ 511) × (from ≤ to) × (to ≤ 128) ⌝ }
+    ensures { λ r. ⌜ (channelBits (now (scaled .entry)) (now (factors .entry)) coded level to + r .fall
+        ≡ channelBits (now (scaled .entry)) (now (factors .entry)) coded level from + r .rise) × (r .rise ≤ 12288) × (r .fall ≤ 12288) ⌝ }
+{
+    let end = smaller(to, coded);
+    let finer = level - 1;
+    let mut rise: usize = 0;
+    let mut fall: usize = 0;
+    let mut b = from;
+    while b < end {
+        let factor = factors[b];
+        if calculate_resolution(factor, finer) != calculate_resolution(factor, level) {
+            rise += channel_bits(scaled, factors, b, b + 1, finer);
+            fall += channel_bits(scaled, factors, b, b + 1, level);
+        }
+        b += 1;
+    }
+    Change { rise, fall }
+}
+
+// The bits at a boundary from those at a lower one.
+pub fn move_boundary(
+    layout: Layout,
+    scaled: &[f32],
+    factors: &[u8],
+    level: usize,
+    used: usize,
+    from: usize,
+    to: usize,
+) -> usize
+    requires { ⌜ Sizes layout ⌝ }
+    requires { ⌜ (length (now scaled) ≡ spectrumLength layout) × (length (now factors) ≡ factorLength layout) ⌝ }
+    requires { ⌜ (0 < level) × (level ≤ 511) × (from ≤ to) × (to ≤ 128) ⌝ }
+    requires { ⌜ (used ≡ usedBits layout (now scaled) (now factors) level from) × (used ≤ 8 * frameSize layout) ⌝ }
+    ensures { λ r. ⌜ r ≡ usedBits layout (now (scaled .entry)) (now (factors .entry)) level to ⌝ }
+{
+    let channels = layout.channels;
+    let mut rise = used;
+    let mut fall: usize = 0;
+    let mut c = 0;
+    while c < channels {
+        let coded = coded_count(layout, c);
+        let a = c * 1024;
+        let f = c * 128;
+        let change = channel_change(
+            &scaled[a..a + 1024],
+            &factors[f..f + 128],
+            coded,
+            level,
+            from,
+            to,
+        );
+        rise += change.rise;
+        fall += change.fall;
+        c += 1;
+    }
+    rise - fall
+}
