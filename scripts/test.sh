@@ -16,7 +16,7 @@ trap 'rm -f "$log" "$log.status" "$log.beside"' EXIT
 if [ "$(cat "$log.status")" -ne 0 ]; then
     exit 1
 fi
-# the command line is tried beside the next build: one processor each
+# the command line is tried beside the next build, and beside the examples and hostile calls: one processor each
 beside=$log.beside
 # tried PROCESS: what the tests in the background said, and whether they passed
 tried() {
@@ -37,7 +37,6 @@ if can_compile; then
     sh scripts/hcaframe-test.sh >"$beside" 2>&1 &
     tests=$!
     rt staticlib hca
-    tried "$tests"
     for example in examples/*.c; do
         program=target/$(basename "$example" .c)-example
         "$x86_cc" -std=c99 -Wall -Wextra -Iinclude "$example" target/staticlib/libhca.a -o "$program"
@@ -46,6 +45,7 @@ if can_compile; then
     sh scripts/install-test.sh
     # an emulator takes twenty times as long
     if [ -z "$x86_run" ]; then sh fuzz/run.sh 20000; else sh fuzz/run.sh 2000; fi
+    tried "$tests"
 else
     echo "SKIPPED: hcaframe with an exit status, the C examples and the hostile calls (a C compiler for x86-64 is needed)"
 fi

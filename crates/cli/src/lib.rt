@@ -1,16 +1,18 @@
 // The commands of hcaframe: files of spectra, frames and records, over the three public calls.
 use self::frames::do_frames;
-use cli_header::do_header;
+use cli_files::job::Job;
+use cli_header::make_header;
 use cli_jobs::setting::ended;
 use cli_jobs::setting::opened;
-use cli_list::do_list;
+use cli_list::show_list;
 use cli_options::faults::UNKNOWN_COMMAND;
 use cli_options::faults::refuse_word;
 use cli_options::options::Options;
 use cli_options::options::none_yet;
 use cli_parser::sources::all_words;
+use cli_runs::progress::Run;
 use cli_runs::progress::last_status;
-use cli_wav::do_wav;
+use cli_wav::take_wav;
 use cli_words::commands::Command;
 use cli_words::commands::command_of;
 use cli_words::commands::is_known;
@@ -45,25 +47,25 @@ fn asks_for_help() -> bool {
     false
 }
 
-// A command that goes frame by frame.
-fn do_run(options: Options) -> i32 {
-    let job = opened(options);
-    if !job.is_ready {
-        return ended(job, 2);
+// What the command does between its files' opening and their end.
+fn do_job(job: Job, options: Options) -> Run {
+    let command = job.command;
+    match command {
+        Command::Header => make_header(job, options),
+        Command::Wav => take_wav(job),
+        Command::List => show_list(job, options),
+        _ => do_frames(job),
     }
-    let run = do_frames(job);
-    last_status(run, ended(job, run.status))
 }
 
 // The command that the words say; answers the status.
 fn do_command(options: Options) -> i32 {
-    let command = options.command;
-    match command {
-        Command::Header => do_header(options),
-        Command::Wav => do_wav(options),
-        Command::List => do_list(options),
-        _ => do_run(options),
+    let job = opened(options);
+    if !job.is_ready {
+        return ended(job, 2);
     }
+    let run = do_job(job, options);
+    last_status(run, ended(job, run.status))
 }
 
 // What the first word asks, where no word asks for help.

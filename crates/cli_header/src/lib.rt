@@ -4,13 +4,10 @@ use self::numbers::frames_size;
 use self::numbers::say_outside;
 use self::numbers::stream_of;
 use cli_files::job::Job;
-use cli_jobs::setting::ended;
-use cli_jobs::setting::opened;
 use cli_options::options::Options;
 use cli_options::options::option_number;
 use cli_runs::progress::Run;
 use cli_runs::progress::at_start;
-use cli_runs::progress::last_status;
 use cli_runs::progress::stopped;
 use cli_words::names::Name;
 use refusals_files::header::header_refusal;
@@ -19,7 +16,7 @@ mod copying;
 mod numbers;
 
 // The header, and what follows it.
-fn header_made(job: Job, options: Options) -> Run {
+pub fn make_header(job: Job, options: Options) -> Run {
     let mut header = [0u8; 96];
     let answer = file_header::write_header(job.layout, stream_of(options), &mut header);
     let told = header_refusal(answer);
@@ -29,14 +26,4 @@ fn header_made(job: Job, options: Options) -> Run {
     }
     let count = option_number(options, Name::Count);
     with_frames(job, count, frames_size(job.layout, count), &header)
-}
-
-// What the words ask; answers the status.
-pub fn do_header(options: Options) -> i32 {
-    let job = opened(options);
-    if !job.is_ready {
-        return ended(job, 2);
-    }
-    let run = header_made(job, options);
-    last_status(run, ended(job, run.status))
 }

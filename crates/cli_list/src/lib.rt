@@ -7,8 +7,6 @@ use self::rows::say_rows;
 use cli_files::job::Job;
 use cli_files::opening::Content;
 use cli_files::opening::content_of;
-use cli_jobs::setting::ended;
-use cli_jobs::setting::opened;
 use cli_options::options::Options;
 use cli_options::options::is_given;
 use cli_options::options::option_number;
@@ -17,7 +15,6 @@ use cli_reports::limits::is_outside;
 use cli_reports::reasons::say_call_refusal;
 use cli_runs::progress::Run;
 use cli_runs::progress::at_start;
-use cli_runs::progress::last_status;
 use cli_runs::progress::stopped;
 use cli_runs::progress::text_told;
 use cli_words::manual::complain;
@@ -34,6 +31,15 @@ use text::forms::say_form;
 
 pub mod rooms;
 mod rows;
+
+// What is asked for: where the text and the picture go, -1 for nowhere; one frame alone, or all; the frame's size, 0 where it is not given.
+struct View {
+    text: i32,
+    picture: i32,
+    is_one: bool,
+    frame: usize,
+    frame_size: usize,
+}
 
 fn without_list(told: Refusal) -> Run {
     say_call_refusal(told, b"\n", 0, &[0]);
@@ -63,7 +69,7 @@ fn say_list_table(fd: i32, bytes: &[u8], entries: &[u32], n: usize) -> bool {
 }
 
 // One frame alone. No list has a frame past those that 32 bits count.
-fn tell_frame(job: Job, bytes: &[u8], frame: usize) -> Run {
+fn tell_frame(text: i32, bytes: &[u8], frame: usize) -> Run {
     let answer = list::list_entry(bytes, at_most(frame, 4294967295) as u32);
     let EntryAnswer::Found(entry) = answer else {
         return without_list(entry_refusal(answer));
@@ -77,24 +83,23 @@ fn tell_frame(job: Job, bytes: &[u8], frame: usize) -> Run {
     ];
     text_told(
         stopped(at_start(), 0),
-        say_list_head(job.text) && say_list_row(job.text, &row),
+        say_list_head(text) && say_list_row(text, &row),
     )
 }
 
-fn tell_numbers(job: Job, options: Options, bytes: &[u8], entries: &[u32], n: usize) -> Run {
-    if is_given(options, Name::Frame) {
-        return tell_frame(job, bytes, option_number(options, Name::Frame));
+fn tell_numbers(view: View, bytes: &[u8], entries: &[u32], n: usize) -> Run {
+    if view.is_one {
+        return tell_frame(view.text, bytes, view.frame);
     }
     text_told(
         stopped(at_start(), 0),
-        say_list_table(job.text, bytes, entries, n),
+        say_list_table(view.text, bytes, entries, n),
     )
 }
 
 // The picture, where one is asked for.
-fn with_picture(job: Job, options: Options, run: Run, entries: &[u32], n: usize) -> Run {
-    let frame_size = option_number(options, Name::FrameSize);
-    if run.status != 0 || job.output < 0 || draw_list(job.output, entries, n, frame_size) {
+fn with_picture(view: View, run: Run, entries: &[u32], n: usize) -> Run {
+    if run.status != 0 || view.picture < 0 || draw_list(view.picture, entries, n, view.frame_size) {
         return run;
     }
     complain(b"writing");
@@ -102,15 +107,15 @@ fn with_picture(job: Job, options: Options, run: Run, entries: &[u32], n: usize)
 }
 
 // The first n bytes are the list.
-fn tell_list(job: Job, options: Options, file: &[u8], n: usize) -> Run {
+fn tell_list(view: View, file: &[u8], n: usize) -> Run {
     let k = within(n, file);
     let mut entries = entries_room();
     let answer = list::read_list(&file[..k], &mut entries);
     let ListAnswer::Delivered(frames) = answer else {
         return without_list(list_read_refusal(answer));
     };
-    let run = tell_numbers(job, options, &file[..k], &entries, frames);
-    with_picture(job, options, run, &entries, frames)
+    let run = tell_numbers(view, &file[..k], &entries, frames);
+    with_picture(view, run, &entries, frames)
 }
 
 fn too_many() -> Run {
@@ -123,11 +128,11 @@ fn too_many() -> Run {
 }
 
 // Room for the longest list, of 65,535 frames.
-fn tell_file(job: Job, options: Options) -> Run {
+fn tell_file(input: i32, view: View) -> Run {
     let mut file = list_room();
-    let got = content_of(job.input, &mut file);
+    let got = content_of(input, &mut file);
     match got {
-        Content::Bytes(n) => tell_list(job, options, &file, n),
+        Content::Bytes(n) => tell_list(view, &file, n),
         Content::TooLong => too_many(),
         Content::Failed => {
             complain(b"reading");
@@ -146,12 +151,20 @@ fn is_size_right(options: Options) -> bool {
     false
 }
 
-// What the words ask; answers the status.
-pub fn do_list(options: Options) -> i32 {
-    let job = opened(options);
-    if !job.is_ready || !is_size_right(options) {
-        return ended(job, 2);
+fn view_of(job: Job, options: Options) -> View {
+    View {
+        text: job.text,
+        picture: job.output,
+        is_one: is_given(options, Name::Frame),
+        frame: option_number(options, Name::Frame),
+        frame_size: option_number(options, Name::FrameSize),
     }
-    let run = tell_file(job, options);
-    last_status(run, ended(job, run.status))
+}
+
+// What the words ask.
+pub fn show_list(job: Job, options: Options) -> Run {
+    if is_size_right(options) {
+        return tell_file(job.input, view_of(job, options));
+    }
+    stopped(at_start(), 2)
 }

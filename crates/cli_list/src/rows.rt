@@ -1,5 +1,9 @@
 // The table of a list. Its bits may be any number of 32 bits.
-use places::at_most;
+use cli_picture::values::BITS;
+use cli_picture::values::BOUNDARY;
+use cli_picture::values::LEVEL;
+use cli_picture::values::PAIRS;
+use cli_picture::values::value;
 use text::forms::say_row;
 use text::lines::say;
 
@@ -12,26 +16,13 @@ pub(crate) fn say_list_row(fd: i32, row: &[usize; 5]) -> bool {
     say_row(fd, row, &[8, 7, 10, 7, 11])
 }
 
-pub(crate) fn number(n: u32) -> usize {
-    n as usize
-}
-
-// 0 past the end.
-fn number_in(entries: &[u32], i: usize) -> usize {
-    if i < entries.len() {
-        return number(entries[i]);
-    }
-    0
-}
-
 fn say_frame_row(fd: i32, entries: &[u32], frame: usize) -> bool {
-    let a = 4 * at_most(frame, 65535);
     let row = [
         frame,
-        number_in(entries, a),
-        number_in(entries, a + 1),
-        number_in(entries, a + 2),
-        number_in(entries, a + 3),
+        value(entries, frame, LEVEL),
+        value(entries, frame, BOUNDARY),
+        value(entries, frame, PAIRS),
+        value(entries, frame, BITS),
     ];
     say_list_row(fd, &row)
 }

@@ -2,4 +2,4 @@
 mod bars;
 mod marks;
 pub mod picture;
-mod values;
+pub mod values;

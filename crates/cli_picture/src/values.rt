@@ -2,11 +2,13 @@
 ghost use Prim.Native.Nat.{_≤_};
 use places::at_most;
 
-pub(crate) const LEVEL: usize = 0;
+pub const LEVEL: usize = 0;
 
-pub(crate) const PAIRS: usize = 2;
+pub const BOUNDARY: usize = 1;
 
-pub(crate) const BITS: usize = 3;
+pub const PAIRS: usize = 2;
+
+pub const BITS: usize = 3;
 
 // A list that is drawn has up to this many frames.
 pub(crate) const MOST_FRAMES: usize = 65535;
@@ -16,7 +18,7 @@ fn number(n: u32) -> usize {
 }
 
 // 0 where there is no such number.
-pub(crate) fn value(entries: &[u32], frame: usize, field: usize) -> usize {
+pub fn value(entries: &[u32], frame: usize, field: usize) -> usize {
     let i = at_most(frame, 65535) * 4 + at_most(field, 3);
     if i < entries.len() {
         number(entries[i])

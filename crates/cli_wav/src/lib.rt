@@ -6,13 +6,9 @@ use self::samples::write_samples;
 use cli_files::job::Job;
 use cli_files::opening::Content;
 use cli_files::opening::content_of;
-use cli_jobs::setting::ended;
-use cli_jobs::setting::opened;
-use cli_options::options::Options;
 use cli_reports::reasons::say_call_refusal;
 use cli_runs::progress::Run;
 use cli_runs::progress::at_start;
-use cli_runs::progress::last_status;
 use cli_runs::progress::stopped;
 use cli_runs::progress::text_told;
 use cli_words::manual::complain;
@@ -81,7 +77,7 @@ fn too_long() -> Run {
 }
 
 // There is no heap: the file and its samples stand on the stack, 6 MiB of the 8 that a program has by default.
-fn take_wav(job: Job) -> Run {
+pub fn take_wav(job: Job) -> Run {
     let mut file = wav_room();
     let got = content_of(job.input, &mut file);
     match got {
@@ -92,14 +88,4 @@ fn take_wav(job: Job) -> Run {
             stopped(at_start(), 2)
         }
     }
-}
-
-// What the words ask; answers the status.
-pub fn do_wav(options: Options) -> i32 {
-    let job = opened(options);
-    if !job.is_ready {
-        return ended(job, 2);
-    }
-    let run = take_wav(job);
-    last_status(run, ended(job, run.status))
 }
