@@ -747,6 +747,7 @@ says err 'hcaframe: a list has at most 65535 frames, and the spectra have 65536'
 absent x.hca
 absent y.list
 good
+# each takes a minute in an emulator: one in each form, which the tests run at different times
 if [ $form = status ]; then
     want=2 name='a list of too many frames, by a stream'
     "$program" encode $one --quiet --spectra - --out x.hca --list y.list <silent.f32 >out 2>err
@@ -754,6 +755,8 @@ if [ $form = status ]; then
     says err 'hcaframe: a list has at most 65535 frames, and the spectra have more'
     absent x.hca
     absent y.list
+    good
+else
     want=0 name='a list of 65,535 frames'
     head -c 268431360 silent.f32 | "$program" encode $one --quiet --spectra - --out x.hca --list y.list >out 2>err
     ended $?
