@@ -1,15 +1,14 @@
--- The sign of a rounded fraction, and a sum of magnitudes that looks at no bits. Assumes nothing.
-use mathlib.Core.Path.{_≡_, refl, sym, ap, ap₂, _∙_, subst}
-use Prim.Native.Nat.{ℕ, zero, suc, _+_, _-_, _*_, _^_, _<_}
-use native.Mathlib.Nat.{zero-mul, mul-pos, zero-lt-suc}
+-- The sign of a rounded fraction, and a magnitude by a comparison with 0.0. Assumes nothing.
+use mathlib.Core.Path.{_≡_, refl, sym, ap, _∙_, subst}
+use Prim.Native.Nat.{ℕ, zero, suc, _+_, _*_, _^_, _<_}
+use native.Mathlib.Nat.{zero-mul, one-mul, mul-one, zero-add, mul-pos, zero-lt-suc}
 use native.Mathlib.Omega.{arith}
-use mathlib.Core.Bool.{Bool, true, false, _&&_, Bool·beq, cond}
-use lib.Dec.{T, ltb, lt→ltb, ltb→lt}
-use lib.IntN.{ℤ}
-use lib.Ieee.{Float, nan, inf, fin, Format, binary32, prec, emax, low, up, down, odd, units, round, neg, sum, add, lt}
-use lib.Ieee.Fits.{round-is, up-pos, down-pos}
-use Rattle.floats.specs.Single.{absF, maxF, addAbs}
-use Rattle.magnitudes.specs.Signs.{Clear}
+use mathlib.Core.Bool.{Bool, true, false, cond}
+use lib.Dec.{T, ltb, lt→ltb}
+use lib.Ieee.{Float, nan, inf, fin, Format, binary32, prec, emax, low, up, down, odd, units, round, neg, sum, add, sub, lt, fits}
+use lib.Ieee.Fits.{round-is, neg-fits, up-pos}
+use Rattle.floats.specs.Single.{absF, zeroF}
+use Rattle.magnitudes.proofs.Values.{own-round}
 
 -- ---- a rounded fraction with the sign clear is no NaN, and its sign is clear
 abbrev pub Upward : Float → Type 0
@@ -52,69 +51,27 @@ neg-units f q k = go (ltb (q * 2 ^ k) (2 ^ (low f + suc (emax f))))
 pub neg-round : (f : Format) (a b : ℕ) → round f true a b ≡ neg (round f false a b)
 neg-round f a b = round-is f true a b ∙ neg-units f _ _ ∙ ap neg (sym (round-is f false a b))
 
--- ---- s + |x|
-clear-round : (a b : ℕ) → Clear (round binary32 false a b)
-clear-round a b = go (round binary32 false a b) (upward-round binary32 a b)
+-- ---- |x| by a comparison with 0.0
+false-true : false ≡ true → ⊥
+false-true h = let z : _≡_ {A = ℕ} 0 1 = cc in omega arith
+
+pub above-zero : (x : Float) → lt zeroF x ≡ true → x ≡ absF x
+unfolding lt absF
+above-zero nan h = absurd (false-true h)
+above-zero (inf true) h = absurd (false-true h)
+above-zero (inf false) h = refl
+above-zero (fin true m e) h = absurd (false-true h)
+above-zero (fin false m e) h = refl
+
+pub up-to-zero : (x : Float) → T (fits binary32 x) → lt zeroF x ≡ false → sub binary32 zeroF x ≡ absF x
+unfolding lt absF sub add neg sum
+up-to-zero nan f h = refl
+up-to-zero (inf true) f h = refl
+up-to-zero (inf false) f h = absurd (false-true (sym h))
+up-to-zero (fin true m e) f h =
+    rw (zero-mul (down e), mul-one (m * up e), one-mul (down e), zero-add (m * up e)) (own-round false m e (neg-fits binary32 (fin true m e) f))
+up-to-zero (fin false zero e) f h = rw (zero-mul (down e), zero-mul (up e), one-mul (down e)) (rw (zero-mul (up e)) at (own-round false 0 e f))
+up-to-zero (fin false (suc m) e) f h = absurd (subst T h (lt→ltb (0 * down e) (suc m * up e * 1) there))
   where
-    go : (x : Float) → Upward x → Clear x
-    go nan u = tt
-    go (inf s) u = tt
-    go (fin true m e) u = u
-    go (fin false m e) u = tt
-
-pub clear-sum : (s x : Float) → Clear s → Clear (addAbs s x)
-unfolding add sum absF
-clear-sum nan x c = tt
-clear-sum (inf s) nan c = tt
-clear-sum (inf true) (inf t) c = tt
-clear-sum (inf false) (inf t) c = tt
-clear-sum (inf s) (fin t n d) c = tt
-clear-sum (fin true m e) x c = absurd c
-clear-sum (fin false m e) nan c = tt
-clear-sum (fin false m e) (inf t) c = tt
-clear-sum (fin false m e) (fin t n d) c = clear-round (m * up e * down d + n * up d * down e) (down e * down d)
-
--- a zero's sign makes no difference
-zero-sign : (s : Float) (e : ℤ) → Clear s → add binary32 s (fin true 0 e) ≡ add binary32 s (fin false 0 e)
-unfolding add sum
-zero-sign nan e c = refl
-zero-sign (inf s) e c = refl
-zero-sign (fin true m d) e c = absurd c
-zero-sign (fin false m d) e c = rw (zero-mul (up e), zero-mul (down d)) (same (m * up d * down e) (down d * down e))
-  where
-    same : (a b : ℕ) → cond (ltb a 0) (round binary32 true (0 - a) b) (round binary32 false (a - 0) b) ≡ round binary32 false (a + 0) b
-    same a b = go (ltb a 0) (ltb→lt a 0)
-      where
-        go : (t : Bool) → (T t → a < 0) → cond t (round binary32 true (0 - a) b) (round binary32 false (a - 0) b) ≡ round binary32 false (a + 0) b
-        go true h = absurd (no a (h tt))
-          where
-            no : (a : ℕ) → a < 0 → ⊥
-            no a h = omega arith
-        go false h = let z : a - 0 ≡ a + 0 = omega arith in ap (λ (n : ℕ). round binary32 false n b) z
-
-pub larger-sum : (s x : Float) → Clear s → add binary32 s (maxF x (neg x)) ≡ addAbs s x
-unfolding maxF absF neg lt
-larger-sum s nan c = refl
-larger-sum s (inf true) c = refl
-larger-sum s (inf false) c = refl
-larger-sum s (fin false m e) c = refl
-larger-sum s (fin true zero e) c = go (ltb 0 (0 * up e * down e + 0 * up e * down e))
-  where
-    go : (b : Bool) → add binary32 s (cond b (fin false 0 e) (fin true 0 e)) ≡ add binary32 s (fin false 0 e)
-    go true = refl
-    go false = zero-sign s e c
-larger-sum s (fin true (suc m) e) c = go (ltb 0 (suc m * up e * down e + suc m * up e * down e)) (lt→ltb 0 _ there)
-  where
-    there : 0 < suc m * up e * down e + suc m * up e * down e
-    there = omega (arith, mul-pos (mul-pos (zero-lt-suc m) (up-pos e)) (down-pos e))
-
-    go : (b : Bool) → T b → add binary32 s (cond b (fin false (suc m) e) (fin true (suc m) e)) ≡ add binary32 s (fin false (suc m) e)
-    go true t = refl
-    go false t = absurd t
-
--- by the test on the way, whose larger one is added
-pub summed : (s x : Float) (b : Bool) → Clear s → lt x (neg x) ≡ b → (add binary32 s (cond b (neg x) x) ≡ addAbs s x) × Clear (add binary32 s (cond b (neg x) x))
-unfolding maxF
-summed s x b c h =
-    let e : add binary32 s (cond b (neg x) x) ≡ addAbs s x = rw h at (larger-sum s x c) in
-    (e, subst Clear (sym e) (clear-sum s x c))
+    there : 0 * down e < suc m * up e * 1
+    there = rw (zero-mul (down e), mul-one (suc m * up e)) (mul-pos (zero-lt-suc m) (up-pos e))

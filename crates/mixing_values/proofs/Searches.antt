@@ -10,28 +10,27 @@ use lib.ListN.{getD}
 use Rattle.buffers.proofs.Scan.{first-next, first-stop, first-end}
 use Rattle.buffers.specs.Walk.{firstFrom}
 use Rattle.floats.specs.Single.{addAbs, heldF, zeroF, oneF}
-use Rattle.magnitudes.specs.Signs.{Clear}
 use Rattle.rules_stereo.specs.Mixed.{ratioBounds, twoF, leftValue, rightValue, bothValues, loudness, energies, boundOf, lowRatio, highRatio, combinedOf, storedOf, intensityOf, ratioOf, mixingOf}
 use Rattle.rules_stereo.specs.declared.Energies.{Energies}
 use Rattle.mixing_values.specs.Bounds.{IsBounds}
 
 -- a sum of n magnitudes, none and one more
 abbrev pub Summed : (f : ℕ → Float) (n : ℕ) (s : Float) → Type 0
-Summed f n s = (s ≡ loudness f n) × Clear s
+Summed f n s = s ≡ loudness f n
 
 pub summed-none : (f : ℕ → Float) → Summed f 0 zeroF
 unfolding loudness
-summed-none f = (refl, tt)
+summed-none f = refl
 
-pub summed-more : (f : ℕ → Float) (n : ℕ) (s r : Float) → Summed f n s → (r ≡ addAbs s (f n)) × Clear r → Summed f (n + 1) r
+pub summed-more : (f : ℕ → Float) (n : ℕ) (s r : Float) → Summed f n s → r ≡ addAbs s (f n) → Summed f (n + 1) r
 unfolding loudness
-summed-more f n s r e d = (rw (add-one n) (d .0 ∙ ap (λ (z : Float). addAbs z (f n)) (e .0)), d .1)
+summed-more f n s r e d = rw (add-one n) (d ∙ ap (λ (z : Float). addAbs z (f n)) e)
 
 -- all of them
 pub energies-is : (xs : List Float) (at b n : ℕ) (left right total : Float) → b ≡ n → Summed (λ k. leftValue xs (at + k)) b left → Summed (λ k. rightValue xs (at + k)) b right
     → Summed (λ k. bothValues xs (at + k)) b total → record { left = left; right = right; total = mul binary32 total twoF } ≡ energies xs at n
 unfolding energies
-energies-is xs at b n left right total q e d f = rw (e .0, d .0, f .0, q)
+energies-is xs at b n left right total q e d f = rw (e, d, f, q)
 
 -- ---- the search among the bounds, in what is left of it
 module _ (stored : Float) where

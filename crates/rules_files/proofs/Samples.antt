@@ -4,7 +4,7 @@ use mathlib.Core.List.{List}
 use mathlib.Core.Logic.{_⊎_, inl, inr, ⊎-elim}
 use mathlib.Core.Bool.{Bool, true, false, not, cond, _||_}
 use Prim.Native.Nat.{ℕ, zero, suc, _+_, _-_, _*_, _/_, _%_, _^_, _≤_, _<_, min}
-use native.Mathlib.Nat.{mul-assoc, mul-right-comm, mul-one, mul-pos, mod-lt, lt-of-lt-of-le, le-of-lt, zero-lt-suc, div-mul-le-self}
+use native.Mathlib.Nat.{mul-assoc, mul-one, mul-pos, mod-lt, lt-of-lt-of-le, le-of-lt, zero-lt-suc, div-mul-le-self}
 use native.Mathlib.Omega.{arith}
 use borrow.Author.Tests.{leb-true, leb-false, le-leb, lt-leb, eqb-true, eqb-false, eq-eqb, ne-eqb, ltb-true, ltb-false}
 use lib.Count.{trailingZeros}
@@ -12,14 +12,14 @@ use lib.Dec.{T, eqb, leb, ltb}
 use lib.IntN.{ℤ, pos, negsuc, negℤ, natAbs}
 use lib.ListN.{length}
 use lib.Pow.{pow-add, pow-pos, pow-mono, shl-lt}
-use lib.Ieee.{Float, nan, inf, fin, Format, binary32, prec, low, hid, top, up, down, unlike, minus, size, odd, round, div, ofInt, fits, isNan, ofFields, ofBits, toBits, nanBits}
+use lib.Ieee.{Float, nan, inf, fin, binary32, up, down, unlike, minus, odd, round, div, ofInt, fits, isNan, ofFields, ofBits, nanBits}
 use lib.Ieee.Back.{round-whole}
-use lib.Ieee.Bits.{ofBits-toBits, nanBits-is}
+use lib.Ieee.Bits.{nanBits-is}
 use lib.Ieee.Digits.{back}
 use lib.Ieee.Exact.{HasValue, odd-sign, round-exact}
 use lib.Ieee.Fits.{down-pos, odd-fits, round-fits}
-use lib.Ieee.Nearest.{div-same}
 use lib.Ieee.Scale.{finite, round-same}
+use Rattle.magnitudes.proofs.Values.{value-unique}
 use Rattle.rules_files.specs.Wav.{isDepth, sampleWidth, wholeSamples, overPower, signedSample, sampleOf}
 use Rattle.rules_files.specs.declared.wav.WavData.{WavData}
 
@@ -43,25 +43,6 @@ width-within depth e =
 pub whole-within : (wav : List ℕ) (d : WavData) → d .body ≤ length wav → d .body + wholeSamples wav d * sampleWidth (d .format .depth) ≤ length wav
 unfolding wholeSamples
 whole-within wav d h = omega (arith, div-mul-le-self (min (d .size) (length wav - d .body)) (sampleWidth (d .format .depth)))
-
--- ---- two floats of one value are one
-
-abbrev bitsFor : Format → Bool → ℕ → ℕ
-bitsFor f s n = cond s (top f) 0 + (size n - prec f) * hid f + n / 2 ^ (size n - prec f)
-
-bits-of-value : (f : Format) (x : Float) (s : Bool) (a c : ℕ) → 0 < c → HasValue x s a c → toBits f x ≡ bitsFor f s (a * 2 ^ low f / c)
-unfolding toBits
-bits-of-value f nan s a c C v = absurd v
-bits-of-value f (inf t) s a c C v = absurd v
-bits-of-value f (fin t m e) s a c C v =
-    ap (λ (u : Bool). bitsFor f u (m * up e * 2 ^ low f / down e)) (v .0)
-    ∙ ap (bitsFor f s)
-    (div-same (m * up e * 2 ^ low f) (down e) (a * 2 ^ low f) c (down-pos e) C
-    (mul-right-comm (m * up e) (2 ^ low f) c ∙ ap (λ (z : ℕ). z * 2 ^ low f) (v .1) ∙ mul-right-comm a (down e) (2 ^ low f)))
-
-value-unique : (f : Format) (x y : Float) (s : Bool) (a c : ℕ) → T (fits f x) → T (fits f y) → 0 < c → HasValue x s a c → HasValue y s a c → x ≡ y
-value-unique f x y s a c p q C v w =
-    sym (ofBits-toBits f x p) ∙ ap (ofBits f) (bits-of-value f x s a c C v ∙ sym (bits-of-value f y s a c C w)) ∙ ofBits-toBits f y q
 
 -- ---- the exponent may be counted from any place
 

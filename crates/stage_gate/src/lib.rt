@@ -6,7 +6,7 @@ ghost use lib.ListN.{length};
 ghost use Rattle.buffers.specs.Walk.{first};
 ghost use Rattle.rules.specs.Layout.{Sizes};
 ghost use Rattle.rules.specs.Stage.{stageHasRoom, badIntensity, badSpectrum, gate};
-ghost use Rattle.stage_gate.specs.Gate.{gateOutcome};
+ghost use Rattle.stage_gate.specs.Gate.{BeforeSpectra, gateOutcome};
 use floats::finite;
 use layouts::has_room;
 use layouts::is_secondary;
@@ -74,7 +74,7 @@ fn has_bad_spectrum(spectra: &[f32], n: usize) -> bool
 }
 
 // Which; n if there is none.
-fn first_bad_spectrum(spectra: &[f32], n: usize) -> usize
+pub fn first_bad_spectrum(spectra: &[f32], n: usize) -> usize
     requires { ⌜ n ≤ length (now spectra) ⌝ }
     ensures { λ r. ⌜ r ≡ first (badSpectrum (now (spectra .entry))) n ⌝ }
 {
@@ -89,10 +89,10 @@ fn first_bad_spectrum(spectra: &[f32], n: usize) -> usize
     i
 }
 
-// The first refusal in document 01's order. The lengths come by value, so that only two slices travel.
-pub fn first_refusal(layout: Layout, room: StageRoom, spectra: &[f32], intensities: &[u8]) -> Gate
-    requires { ⌜ (room .spectra ≡ length (now spectra)) × (room .intensities ≡ length (now intensities)) ⌝ }
-    ensures { λ r. ⌜ gateOutcome r ≡ gate layout room (now (spectra .entry)) (now (intensities .entry)) ⌝ }
+// 1 to 3, which look at no spectrum.
+pub fn refusal_before_spectra(layout: Layout, room: StageRoom, intensities: &[u8]) -> Gate
+    requires { ⌜ room .intensities ≡ length (now intensities) ⌝ }
+    ensures { λ r. ⌜ BeforeSpectra layout room (now (intensities .entry)) (gateOutcome r) ⌝ }
 {
     if legal(layout) {
         if enough(layout, room) {
@@ -101,13 +101,25 @@ pub fn first_refusal(layout: Layout, room: StageRoom, spectra: &[f32], intensiti
             if i < k {
                 return Gate::BadIntensity(i);
             }
-            let n = layout.channels * 1024;
-            if has_bad_spectrum(spectra, n) {
-                return Gate::BadSpectrum(first_bad_spectrum(spectra, n));
-            }
             return Gate::Open;
         }
         return Gate::ShortBuffer;
     }
     Gate::BadLayout
+}
+
+// The first refusal in document 01's order. The lengths come by value, so that only two slices travel.
+pub fn first_refusal(layout: Layout, room: StageRoom, spectra: &[f32], intensities: &[u8]) -> Gate
+    requires { ⌜ (room .spectra ≡ length (now spectra)) × (room .intensities ≡ length (now intensities)) ⌝ }
+    ensures { λ r. ⌜ gateOutcome r ≡ gate layout room (now (spectra .entry)) (now (intensities .entry)) ⌝ }
+{
+    let early = refusal_before_spectra(layout, room, intensities);
+    let Gate::Open = early else {
+        return early;
+    };
+    let n = layout.channels * 1024;
+    if has_bad_spectrum(spectra, n) {
+        return Gate::BadSpectrum(first_bad_spectrum(spectra, n));
+    }
+    early
 }

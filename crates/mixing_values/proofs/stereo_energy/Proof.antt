@@ -41,13 +41,13 @@ shared-slice-read-y : tie.Need-shared-slice-read-y Inv-loop μ-loop
 shared-slice-read-y c = search needs
 
 add-magnitude-requires : tie.Need-add-magnitude-requires Inv-loop μ-loop
-add-magnitude-requires c κs = c .before .before .before .loop .inv .1 .1
+add-magnitude-requires c κs = search needs
 
 add-magnitude-requires-2 : tie.Need-add-magnitude-requires-2 Inv-loop μ-loop
-add-magnitude-requires-2 c κs = c .before .before .before .before .loop .inv .2 .1
+add-magnitude-requires-2 c κs = search needs
 
 add-magnitude-requires-3 : tie.Need-add-magnitude-requires-3 Inv-loop μ-loop
-add-magnitude-requires-3 c κs = c .before .before .before .before .before .loop .inv .3 .1
+add-magnitude-requires-3 c κs = search needs
 
 add-b : tie.Need-add-b Inv-loop μ-loop
 add-b c = search needs

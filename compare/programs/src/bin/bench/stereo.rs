@@ -1,6 +1,6 @@
 //! The whole stereo call against the Rust's stereo step and stage together, on the frames as they are before that step.
 //! Beside it the mixing alone: for the Rust its stereo step, for the library the stereo call less the stage's call on what
-//! is mixed, so with refusal 17's test of every spectrum.
+//! is mixed.
 use super::{clear_past_coded, mean_of_medians, rust_pass};
 use hca_frame::raw::encode_stereo_frame;
 use published::driver::{all_steps, load, Lent, StageCall};
@@ -119,7 +119,7 @@ impl Stereo {
         );
         let (low, mixing, high) = sorted(|t| t.mixing);
         if self.calls[0].layout[2] == 0 {
-            println!("  no stereo bands: refusal 17's test alone {mixing:.0} ({low:.0} to {high:.0})");
+            println!("  no stereo bands: more than the stage's call {mixing:.0} ({low:.0} to {high:.0})");
             return;
         }
         let (_, step, _) = sorted(|t| t.step);
