@@ -1,4 +1,4 @@
-// DEQUANTIZER_DEQUANTIZER_SCALING_TABLE, as decimals that round to document 01's patterns.
+// DEQUANTIZER_SCALING_TABLE, as decimals that round to document 01's patterns.
 pub const DEQUANTIZER_SCALING_TABLE: [f32; 64] = [
     1.5883833e-7,
     2.1164136e-7,

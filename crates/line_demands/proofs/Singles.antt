@@ -21,7 +21,8 @@ use Rattle.rules.specs.Stage.{StageLent, StageLeft, kept, cleared, stageLaid, g
 use Rattle.rules.specs.declared.Layout.{Layout}
 use Rattle.rules.specs.declared.StageRoom.{StageRoom}
 use Rattle.rules.proofs.Answers.{Numbered, numbered, unnumbered}
-use Rattle.rules.proofs.Made.{scaled-size, made-factors, made-side, made-codes}
+use Rattle.rules.proofs.Made.{scaled-size}
+use Rattle.rules_demands.proofs.MadeRecord.{made-factors, made-side, made-codes}
 use Rattle.rules_demands.proofs.Demand3.{frame-length}
 use Rattle.rules_demands.proofs.StageAnswers.{intensityBy, spectrumBy, madeBy, levelBy, bitsBy}
 

@@ -14,7 +14,7 @@ use Rattle.rules.specs.Refusals.{delivered}
 use Rattle.rules.specs.Stage.{StageLent, stage}
 use Rattle.rules.specs.Reader.{ReaderLent, ReaderLeft, readerRoom, read}
 use Rattle.rules.specs.declared.Layout.{Layout}
-use Rattle.rules.proofs.Stores.{record-front}
+use Rattle.rules_demands.proofs.Stores.{record-front}
 use Rattle.rules_demands.proofs.Demand3.{Framed, frame-bytes, strict-sound}
 use Rattle.rules_demands.proofs.Deliveries.{Reads, reads, front-length, reads-record}
 use Rattle.rules_demands.proofs.Calls.{Packed}

@@ -15,7 +15,7 @@ use Rattle.rules.specs.Format.{eachBits, times}
 use Rattle.rules.specs.Fields.{deltaBits, factorBits, asPrevious, allFactorBits}
 use Rattle.deltas.specs.Previous.{factorBefore}
 use Rattle.rules.proofs.Cuts.{blocks-same}
-use Rattle.rules.proofs.Written.{foldl-snoc, walk-blocks, front, times-blocks}
+use Rattle.rules_formats.proofs.Written.{foldl-snoc, walk-blocks, front, times-blocks}
 
 pub side-blocks : (w : ℕ → List Bool) (ys : List ℕ) (n : ℕ) → n ≤ length ys → eachBits (λ _. w) (times n) (take n ys) ≡ blocks (λ i. w (getD ys i 0)) n
 side-blocks w ys n h = rw (front 0 ys n h) (times-blocks w (λ i. getD ys i 0) n)

@@ -20,10 +20,10 @@ use Rattle.rules.specs.Format.{Read, ok, bad, strip, orElse, oneOf}
 use Rattle.rules.specs.Tables.{maxBitTable}
 use Rattle.rules.specs.Fields.{smallBits}
 use Rattle.rules.specs.Reading.{codesTo}
-use Rattle.rules.proofs.Formats.{ahead-yes, ahead-no}
-use Rattle.rules.proofs.Numbers.{leb-case}
-use Rattle.rules.proofs.Prefix.{isRead, oneOf-full}
-use Rattle.rules.proofs.Codes.{tables-full, word-fits}
+use Rattle.rules_formats.proofs.Formats.{ahead-yes, ahead-no}
+use Rattle.rules_formats.proofs.Numbers.{leb-case}
+use Rattle.rules_formats.proofs.Prefix.{isRead, oneOf-full}
+use Rattle.rules_formats.proofs.Codes.{tables-full, word-fits}
 use Rattle.reader_lookup.specs.Seen.{wordBits, codeOfRead, leftOfRead, codeSeen, lengthSeen}
 
 -- ---- MAX_BIT_TABLE, at most 4 below resolution 8

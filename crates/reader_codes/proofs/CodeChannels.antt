@@ -15,7 +15,7 @@ use Rattle.resolutions.specs.Coded.{codedResolutions}
 use Rattle.rules.specs.Reading.{readCode}
 use Rattle.rules.specs.declared.Layout.{Layout}
 use Rattle.rules.proofs.Cuts.{by-order, build-same, renewed, renewed-length, row-new, row-old}
-use Rattle.rules.proofs.Turns.{onto, onto-none, each-turn, each-stop, each-end}
+use Rattle.rules_formats.proofs.Turns.{onto, onto-none, each-turn, each-stop, each-end}
 use Rattle.reader_codes.specs.Rows.{Blank, StoredCodes, codedRows, readSubframe, rowOf, Subframe}
 use Rattle.reader_values.specs.Steps.{faultNumber}
 use Rattle.reader_values.specs.declared.faults.Fault.{Fault}

@@ -14,7 +14,7 @@ use Rattle.rules.specs.Layout.{codedAt, part, spectrumLength}
 use Rattle.rules.specs.Record.{codesIn, pad}
 use Rattle.rules.specs.declared.Layout.{Layout}
 use Rattle.rules.proofs.Cuts.{by-order, build-same, blocks-same, length-part, parts-all, subframe-cut}
-use Rattle.rules.proofs.Turns.{onto, onto-none, each-turn, each-stop, each-end}
+use Rattle.rules_formats.proofs.Turns.{onto, onto-none, each-turn, each-stop, each-end}
 use Rattle.reader_codes.specs.Rows.{Blank, readSubframe, readSubframes, rowOf, subframeIn, Subframe, Subframes}
 use Rattle.reader_values.specs.Steps.{faultNumber}
 use Rattle.reader_values.specs.declared.faults.Fault.{Fault}

@@ -19,7 +19,7 @@ use Rattle.rules.specs.Record.{Chan, Rec, chanIn, chanOf, pad, noChan, storeFac
 use Rattle.rules.specs.Reading.{readWidth, readChannel}
 use Rattle.rules.specs.declared.Layout.{Layout}
 use Rattle.rules.proofs.Cuts.{build-same, blocks-same, parts-all, renewed, renewed-length, row-new, row-old}
-use Rattle.rules.proofs.Turns.{onto, onto-none, walk-turn, walk-stop}
+use Rattle.rules_formats.proofs.Turns.{onto, onto-none, walk-turn, walk-stop}
 use Rattle.reader_values.specs.declared.faults.Fault.{Fault}
 use Rattle.reader_values.specs.Steps.{faultNumber, faultBit}
 use Rattle.reader_values.specs.declared.faults.Step.{Step}

@@ -15,7 +15,7 @@ use Rattle.rules.specs.Format.{Read, ok, Reader, walk, times}
 use Rattle.rules.specs.Fields.{asPrevious}
 use Rattle.deltas.specs.Previous.{factorBefore}
 use Rattle.rules.specs.Reading.{readFactor, readFactors}
-use Rattle.rules.proofs.Turns.{onto, onto-none, walk-turn, walk-stop}
+use Rattle.rules_formats.proofs.Turns.{onto, onto-none, walk-turn, walk-stop}
 use Rattle.rules.proofs.Cuts.{getD-copies, pad-back, set-keeps}
 use Rattle.reader_values.specs.declared.faults.Fault.{Fault}
 use Rattle.reader_values.specs.Steps.{faultNumber, faultBit}

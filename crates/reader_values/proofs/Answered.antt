@@ -18,7 +18,7 @@ use Rattle.rules.specs.Format.{Read, ok, bad, Reader, keep, require, number}
 use Rattle.rules.specs.Width.{near}
 use Rattle.deltas.specs.Previous.{factorBefore}
 use Rattle.rules.specs.Reading.{deltaFactor, readDelta, readFactor}
-use Rattle.rules.proofs.Numbers.{number-got, number-past}
+use Rattle.rules_formats.proofs.Numbers.{number-got, number-past}
 use Rattle.buffers.proofs.Tests.{and-snd}
 use Rattle.reader_values.specs.declared.faults.Fault.{Fault}
 use Rattle.reader_values.specs.declared.faults.Fault.the-variants as fault

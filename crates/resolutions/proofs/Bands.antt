@@ -20,7 +20,7 @@ use Rattle.resolutions.specs.Coded.{codedResolutions}
 use Rattle.rules.specs.declared.Layout.{Layout}
 use Rattle.rules.proofs.Bands.{resolutionsAt, resolutions-part}
 use Rattle.rules.proofs.Cuts.{build-same, length-part}
-use Rattle.rules.proofs.Stores.{coded-few}
+use Rattle.rules.proofs.Layouts.{coded-few}
 
 pub resolution-le : (noise factor : ℕ) → resolution noise factor ≤ 15
 unfolding resolution resolutionIn

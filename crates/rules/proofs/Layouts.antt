@@ -95,3 +95,7 @@ groups-are l g n p q h =
 pub sides-le : (l : Layout) (c : ℕ) → sidesAt l c ≤ 8
 unfolding sidesAt
 sides-le l c = cond-bound (isSecondary (kindAt l c)) (λ _. omega arith) (λ _. groups-le l)
+
+-- a coded count fits its row
+pub coded-few : (l : Layout) → Sizes l → (c : ℕ) → codedAt l c ≤ 128
+coded-few l z c = omega (arith, coded-le l c)

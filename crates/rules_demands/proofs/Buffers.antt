@@ -15,7 +15,8 @@ use Rattle.rules.specs.Refusals.{delivered}
 use Rattle.rules.specs.Stage.{StageLent, stageLaid, made, madeFrom, finished, stage}
 use Rattle.rules.specs.declared.Layout.{Layout}
 use Rattle.rules.proofs.Cuts.{part-of-front}
-use Rattle.rules.proofs.Made.{scaled-size, side-at, made-side}
+use Rattle.rules.proofs.Made.{scaled-size}
+use Rattle.rules_demands.proofs.MadeRecord.{side-at, made-side}
 use Rattle.rules_demands.proofs.Deliveries.{laid-front}
 use Rattle.rules_demands.proofs.StageAnswers.{madeBy, passes, ends-done, delivers}
 use Rattle.rules_demands.proofs.Pairs.{factorsOf, scaledOf}

@@ -18,7 +18,7 @@ use Rattle.rules.specs.Writer.{WriterLent, WriterLeft, writerRoom, lentRecord, 
 use Rattle.rules.specs.Reader.{ReaderLent, ReaderLeft, readerRoom, read}
 use Rattle.rules.specs.declared.Layout.{Layout}
 use Rattle.rules_demands.proofs.Demand3.{Framed, strict-complete, injective}
-use Rattle.rules.proofs.Stores.{record-front, legal-front}
+use Rattle.rules_demands.proofs.Stores.{record-front, legal-front}
 use Rattle.rules_demands.proofs.Deliveries.{writes, writes-this, writes-legal, writes-frame, writes-stored, RecordWith, reads, reads-this, framed-reads, reads-framed, reads-record, reads-legal}
 
 -- ---- what the statements name

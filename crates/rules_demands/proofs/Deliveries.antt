@@ -22,8 +22,8 @@ use Rattle.rules.specs.Reader.{ReaderLent, ReaderLeft, readerRoom, scannedLeft,
 use Rattle.rules.specs.declared.Layout.{Layout}
 use Rattle.rules.proofs.Layouts.{legal-true, legal-sizes, room-facts}
 use Rattle.rules_demands.proofs.Demand3.{bytes-take, Framed, frame-length, strict-complete, strict-sound}
-use Rattle.rules.proofs.Stores.{stored, record-front, legal-front}
-use Rattle.rules.proofs.Legality.{record-legal, stored-legal, restored}
+use Rattle.rules_demands.proofs.Stores.{stored, record-front, legal-front}
+use Rattle.rules_demands.proofs.LegalRecords.{record-legal, stored-legal, restored}
 
 -- a refusal is no delivery
 refusal : {A : Type 0} {k p : ℕ} {ns : List ℕ} → refused k p ≡ delivered ns → A

@@ -17,7 +17,7 @@ use Rattle.rules.specs.Fields.{fields}
 use Rattle.rules.specs.Frame.{fieldEnd, filledFields, frameOf}
 use Rattle.rules.specs.Reading.{accepted, faulty, scan, strict}
 use Rattle.rules.specs.declared.Layout.{Layout}
-use Rattle.rules.proofs.Numbers.{bool-case}
+use Rattle.rules_formats.proofs.Numbers.{bool-case}
 use Rattle.rules_demands.proofs.Frames.{payload-length, complete, sound}
 
 pub bytes-take : (n : ℕ) (f : List ℕ) → Bytes f → Bytes (take n f)

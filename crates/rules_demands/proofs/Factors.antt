@@ -16,11 +16,11 @@ use Rattle.rules.specs.Format.{keep, require, stay, Each, times, number, Lawful
 use Rattle.rules.specs.Width.{reachOf, near, allZero, width}
 use Rattle.rules.specs.Fields.{deltaSymbol, deltaBits, factorBits, asPrevious, allFactorBits}
 use Rattle.rules.specs.Reading.{deltaFactor, readDelta, readFactor, readFactors, readWidth}
-use Rattle.rules.proofs.Formats.{pure-fits, iff-fits, same-fits, here-fits, bind-fits, keep-fits, check-fits, walk-fits, walked-any}
-use Rattle.rules.proofs.Numbers.{bool-case, eqb-case, number-fits}
-use Rattle.rules.proofs.Prefix.{both}
-use Rattle.rules.proofs.Widths.{width-silent, width-le, width-zero}
-use Rattle.rules.proofs.Deltas.{near-is, near-yes, ones-are, symbol-is, within, factor-is, within-is, within-yes}
+use Rattle.rules_formats.proofs.Formats.{pure-fits, iff-fits, same-fits, here-fits, bind-fits, keep-fits, check-fits, walk-fits, walked-any}
+use Rattle.rules_formats.proofs.Numbers.{bool-case, eqb-case, number-fits}
+use Rattle.rules_formats.proofs.Prefix.{both}
+use Rattle.rules_demands.proofs.Widths.{width-silent, width-le, width-zero}
+use Rattle.rules_formats.proofs.Deltas.{near-is, near-yes, ones-are, symbol-is, within, factor-is, within-is, within-yes}
 
 module _ (e p : ℕ) where
   -- a delta's symbol is below all ones, which stand for what is no delta

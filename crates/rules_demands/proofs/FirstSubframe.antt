@@ -27,10 +27,10 @@ use Rattle.rules.specs.Refusals.{delivered}
 use Rattle.rules.specs.Writer.{WriterLent, lentRecord, written}
 use Rattle.rules.specs.declared.Layout.{Layout}
 use Rattle.rules.proofs.Cuts.{by-order}
-use Rattle.rules.proofs.Numbers.{bool-case}
-use Rattle.rules.proofs.Prefix.{both}
-use Rattle.rules.proofs.Codes.{below-at, codes-are}
-use Rattle.rules.proofs.Legality.{row-code, record-blank}
+use Rattle.rules_formats.proofs.Numbers.{bool-case}
+use Rattle.rules_formats.proofs.Prefix.{both}
+use Rattle.rules_formats.proofs.Codes.{below-at, codes-are}
+use Rattle.rules_demands.proofs.LegalRecords.{row-code, record-blank}
 use Rattle.rules_demands.proofs.Demand3.{injective}
 use Rattle.rules_demands.proofs.Deliveries.{writes, writes-legal, writes-frame}
 

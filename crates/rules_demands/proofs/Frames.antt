@@ -16,9 +16,9 @@ use Rattle.rules.specs.Frame.{fieldEnd, filledFields}
 use Rattle.rules.specs.Reading.{readChannel, readRecord, readFields, firstOne, accepted, afterFill, afterFields, scan}
 use Rattle.rules.specs.declared.ChannelType.{ChannelType}
 use Rattle.rules.specs.declared.Layout.{Layout}
-use Rattle.rules.proofs.Formats.{iff-fits, here-fits, bind-fits, check-fits, map-fits, pair-fits, walk-fits}
-use Rattle.rules.proofs.Numbers.{number-fits}
-use Rattle.rules.proofs.Codes.{code-fits}
+use Rattle.rules_formats.proofs.Formats.{iff-fits, here-fits, bind-fits, check-fits, map-fits, pair-fits, walk-fits}
+use Rattle.rules_formats.proofs.Numbers.{number-fits}
+use Rattle.rules_formats.proofs.Codes.{code-fits}
 use Rattle.rules_demands.proofs.Factors.{width-fits}
 
 pub each-fits : {X A : Type 0} {L : X → A → Type 0} {w : X → A → List Bool} {f : X → Reader A} → ((x : X) → Lawful (L x) (w x) (f x))

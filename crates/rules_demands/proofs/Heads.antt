@@ -18,8 +18,8 @@ use Rattle.rules.specs.Writer.{WriterLent, WriterLeft, writerRoom, written}
 use Rattle.rules.specs.Reader.{ReaderLent, readerRoom, read}
 use Rattle.rules.specs.declared.Layout.{Layout}
 use Rattle.rules.proofs.Layouts.{legal-sizes, sides-le}
-use Rattle.rules.proofs.Stores.{coded-few}
-use Rattle.rules.proofs.Legality.{Held, Blank, held-record, record-legal}
+use Rattle.rules.proofs.Layouts.{coded-few}
+use Rattle.rules_demands.proofs.LegalRecords.{Held, Blank, held-record, record-legal}
 use Rattle.rules_demands.proofs.Calls.{Holds, handed, packed-written, read-after-write}
 
 -- every value of a part of equal values is that value

@@ -22,7 +22,7 @@ use Rattle.rules.specs.Record.{Chan, Rec, chanOf, codesIn, recOf, resolutions}
 use Rattle.rules.specs.Fields.{deltaSymbol, deltaBits, factorBits, asPrevious, allFactorBits, channelFields, smallBits, signBits, codeBits, fields}
 use Rattle.rules.specs.declared.ChannelType.{ChannelType}
 use Rattle.rules.specs.declared.Layout.{Layout}
-use Rattle.rules.proofs.Widths.{width-le}
+use Rattle.rules_demands.proofs.Widths.{width-le}
 
 -- ---- what a walk takes, from what each of its steps does
 

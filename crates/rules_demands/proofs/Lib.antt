@@ -1,4 +1,9 @@
+-- records in buffers, and the stage's
+pub mod Stores
+pub mod LegalRecords
+pub mod MadeRecord
 -- demand 3 on bits and bytes
+pub mod Widths
 pub mod Factors
 pub mod Frames
 pub mod Demand3

@@ -15,8 +15,8 @@ use Rattle.rules.specs.Writer.{WriterLent, writerRoom, written}
 use Rattle.rules.specs.Reader.{ReaderLent, read}
 use Rattle.rules.specs.declared.Layout.{Layout}
 use Rattle.rules.proofs.Layouts.{legal-sizes}
-use Rattle.rules.proofs.Stores.{stored, record-front}
-use Rattle.rules.proofs.Legality.{stored-legal}
+use Rattle.rules_demands.proofs.Stores.{stored, record-front}
+use Rattle.rules_demands.proofs.LegalRecords.{stored-legal}
 use Rattle.rules_demands.proofs.Deliveries.{reads, reads-framed, reads-record}
 use Rattle.rules_demands.proofs.Calls.{Holds, packed-written}
 

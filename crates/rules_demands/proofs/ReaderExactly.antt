@@ -20,7 +20,7 @@ use Rattle.rules.specs.Lent.{laid, noCodes, noFactors, noSide}
 use Rattle.rules.specs.Reader.{ReaderLent, ReaderLeft, readerRoom, scannedLeft, read}
 use Rattle.rules.specs.declared.Layout.{Layout}
 use Rattle.rules.proofs.Layouts.{legal-sizes}
-use Rattle.rules.proofs.Numbers.{eqb-case}
+use Rattle.rules_formats.proofs.Numbers.{eqb-case}
 use Rattle.rules.proofs.Refused.{read-keeps, read-clears}
 use Rattle.rules_demands.proofs.Demand3.{bytes-take}
 use Rattle.rules_demands.proofs.Deliveries.{front-length}

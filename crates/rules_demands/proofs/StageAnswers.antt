@@ -21,7 +21,7 @@ use Rattle.rules.proofs.Layouts.{legal-sizes}
 use Rattle.rules.proofs.Cuts.{by-order}
 use Rattle.rules.proofs.Answers.{Numbered, numbered, unnumbered, stageNumbers}
 use Rattle.rules.proofs.Refused.{settled-none, settled-long}
-use Rattle.rules.proofs.Made.{made-level, made-none, made-pairs, made-boundary}
+use Rattle.rules_demands.proofs.MadeRecord.{made-level, made-none, made-pairs, made-boundary}
 use Rattle.rules_demands.proofs.Lengths.{fields-short}
 
 -- ---- what the statements name

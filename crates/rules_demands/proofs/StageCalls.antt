@@ -23,8 +23,8 @@ use Rattle.rules.specs.declared.Layout.{Layout}
 use Rattle.rules.proofs.Layouts.{legal-sizes}
 use Rattle.rules.proofs.Cuts.{part-of-front}
 use Rattle.rules_demands.proofs.Demand3.{frame-length}
-use Rattle.rules.proofs.Stores.{record-front, legal-front}
-use Rattle.rules.proofs.Made.{front-small, made-factors, made-side, made-codes, made-silent, made-legal}
+use Rattle.rules_demands.proofs.Stores.{record-front, legal-front}
+use Rattle.rules_demands.proofs.MadeRecord.{front-small, made-factors, made-side, made-codes, made-silent, made-legal}
 use Rattle.rules_demands.proofs.Deliveries.{laid-front}
 use Rattle.rules_demands.proofs.Calls.{Holds, handed, Packed, packed-written, read-after-write}
 use Rattle.rules_demands.proofs.StageAnswers.{Passes, madeBy, levelBy, boundaryBy, bitsBy, passes, boundary-small, ends-done, delivers}

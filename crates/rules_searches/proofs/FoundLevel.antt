@@ -11,7 +11,8 @@ use lib.Dec.{ltb}
 use Rattle.buffers.proofs.Tests.{cond-same, cond-both}
 use Rattle.rules.specs.Level.{halve, levelOf}
 use Rattle.rules.proofs.Cuts.{by-order}
-use Rattle.rules.proofs.Levels.{level-le, probes, levelProbes}
+use Rattle.rules.proofs.Levels.{level-le}
+use Rattle.rules_searches.proofs.Probes.{probes, levelProbes}
 
 -- nothing both fits and exceeds; what does not fit exceeds
 pub not-both : {b : Bool} → b ≡ false → b ≡ true → ⊥

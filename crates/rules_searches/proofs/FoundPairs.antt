@@ -18,7 +18,7 @@ use Rattle.rules.specs.Level.{levelOf, clearTwo, clearPair, Found, remove, nois
 use Rattle.rules.specs.declared.Layout.{Layout}
 use Rattle.rules.proofs.Cuts.{by-order, length-part, block-part, set-keeps}
 use Rattle.rules.proofs.Levels.{level-le}
-use Rattle.rules.proofs.Searches.{found-level, found-none}
+use Rattle.rules_searches.proofs.Searches.{found-level, found-none}
 use Rattle.rules_searches.specs.Pairs.{afterPairs}
 
 -- ---- the stages

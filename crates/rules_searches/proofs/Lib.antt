@@ -1,3 +1,5 @@
+pub mod Searches
+pub mod Probes
 pub mod FoundLevel
 pub mod FoundBoundary
 pub mod FoundPairs

@@ -31,7 +31,7 @@ use Rattle.rules.specs.Lent.{noFloats, noCodes, noFactors, noSide, noFrame, lai
 use Rattle.rules.specs.Stage.{StageLent, Made, cleared, stageLaid, gated, lentRoom, stageHasRoom, badIntensity, badSpectrum, gate, foundOf, boundaryFor, madeFrom, made, madeRecord, finished, packed, settled, stage}
 use Rattle.rules.specs.declared.Layout.{Layout}
 use Rattle.rules.proofs.Cuts.{getD-copies}
-use Rattle.rules.proofs.Made.{finished-outcome}
+use Rattle.rules_demands.proofs.MadeRecord.{finished-outcome}
 use Rattle.rules.proofs.Refused.{settled-none}
 
 -- ---- the searches, branch by branch

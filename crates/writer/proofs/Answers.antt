@@ -18,7 +18,7 @@ use Rattle.rules.specs.Writer.{WriterLeft, writerLent, writerLeft, lentRecord, 
 use Rattle.rules.specs.declared.Layout.{Layout}
 use Rattle.rules.specs.declared.WriteAnswer.{WriteAnswer}
 use Rattle.rules.specs.declared.WriteAnswer.the-variants.{BadLayout, ShortBuffer}
-use Rattle.rules.proofs.Stores.{record-front, legal-front}
+use Rattle.rules_demands.proofs.Stores.{record-front, legal-front}
 use Rattle.rules_demands.proofs.Demand3.{frame-length}
 
 -- ---- the gate

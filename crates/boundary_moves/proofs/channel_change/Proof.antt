@@ -19,6 +19,19 @@ Inv-loop scaled factors coded level from to end finer rise₀ fall₀ b₀ rise 
 abbrev μ-loop : tie.MeasureT-loop
 μ-loop scaled factors coded level from to end finer rise₀ fall₀ b₀ rise fall b = end - b
 
+-- A band's turn, from x to z bits over y at the start: what it adds, or nothing, keeps the two sums even and in their bounds.
+module _ (x y z rise fall coarse fine b : ℕ) (even : x + fall ≡ y + rise) (passed : z + coarse ≡ x + fine) (low : rise ≤ 96 * b)
+    (short : fall ≤ 96 * b) where
+  abbrev Turned : ℕ → ℕ → Type 0
+  Turned up down = (up ≤ 96 * (b + 1)) × (down ≤ 96 * (b + 1)) × (z + down ≡ y + up)
+
+  changed : (u v up down : ℕ) → u ≡ fine → v ≡ coarse → u + 96 * b ≤ 96 * (b + 1) → v + 96 * b ≤ 96 * (b + 1)
+      → up ≡ rise + u → down ≡ fall + v → Turned up down
+  changed u v up down p q h k r f = (omega arith, omega arith, omega arith)
+
+  unchanged : (up down : ℕ) → fine ≡ coarse → up ≡ rise → down ≡ fall → Turned up down
+  unchanged up down p r f = (omega arith, omega arith, omega arith)
+
 smaller-requires : tie.Need-smaller-requires Inv-loop μ-loop
 smaller-requires c κs = search needs
 
@@ -68,7 +81,8 @@ loop-again c =
     let b = s .loop .b in
     let fine = c .before .before .calculate-resolution .ensures .0 in
     let coarse = c .before .calculate-resolution2 .ensures .0 in
-    let e = s .loop .inv .4 in
+    let i = s .loop .inv in
+    let e = i .4 in
     let p = passes (a .scaled .now) (a .factors .now) (a .coded) (a .level) b (search needs) in
     let turn : (c .if1 .rise ≤ 96 * (b + 1)) × (c .if1 .fall ≤ 96 * (b + 1))
     × (channelBits (a .scaled .now) (a .factors .now) (a .coded) (a .level) (b + 1) + c .if1 .fall
@@ -77,10 +91,10 @@ loop-again c =
     (λ w.
     let n = of-one (a .scaled .now) (a .factors .now) (a .level - 1) b _ (w .1 .ensures .0) in
     let m = of-one (a .scaled .now) (a .factors .now) (a .level) b _ (w .2 .ensures .0) in
-    (omega (arith, w .1 .ensures .1, w .3), omega (arith, w .2 .ensures .1, w .4), omega (arith, n, m, w .3, w .4, p, e)))
+    changed _ _ _ _ _ _ _ b e p (i .2) (i .3) _ _ _ _ n m (w .1 .ensures .1) (w .2 .ensures .1) (w .3) (w .4))
     (λ w.
     let q = ap (bandBits (a .scaled .now) b) (sym fine ∙ (w .0 .left ∙ coarse)) in
-    (omega (arith, w .1), omega (arith, w .2), omega (arith, q, w .1, w .2, p, e)))
+    unchanged _ _ _ _ _ _ _ b e p (i .2) (i .3) _ _ q (w .1) (w .2))
     (c .if1 .came) in
     (search needs, search needs, turn .0, turn .1, turn .2)
 

@@ -7,6 +7,7 @@ use Rattle.buffers.specs.Walk.{sumTo}
 use Rattle.buffers.proofs.Build.{back-width}
 use Rattle.rules.specs.Layout.{codedAt, part}
 use Rattle.rules.specs.Estimate.{channelBits, spectralBits, usedBits}
+use Rattle.rules.proofs.LentRows.{next-le, nearer, next-fits}
 use Rattle.boundary_moves.proofs.Passed.{even-start, even-turn, all-moved}
 use Rattle.boundary_moves.proofs.move_boundary.Statement.{statement}
 use Rattle.boundary_moves.proofs.move_boundary.Tie as tie
@@ -18,6 +19,13 @@ Inv-loop layout scaled factors level used from to channels rise₀ fall₀ c₀ 
 
 abbrev μ-loop : tie.MeasureT-loop
 μ-loop layout scaled factors level used from to channels rise₀ fall₀ c₀ rise fall c = channels - c
+
+-- the bounds, with one channel more
+risen : (used rise change c : ℕ) → rise ≤ used + 12288 * c → change ≤ 12288 → rise + change ≤ used + 12288 * (c + 1)
+risen used rise change c h k = omega arith
+
+fallen : (fall change c : ℕ) → fall ≤ 12288 * c → change ≤ 12288 → fall + change ≤ 12288 * (c + 1)
+fallen fall change c h k = omega arith
 
 loop-holds : tie.Need-loop-holds Inv-loop μ-loop
 loop-holds c = (search needs, search needs, search needs, even-start _ _ _)
@@ -68,10 +76,12 @@ add-fall : tie.Need-add-fall Inv-loop μ-loop
 add-fall c = search needs
 
 add-c : tie.Need-add-c Inv-loop μ-loop
-add-c c = search needs
+add-c c =
+    let start = c .before .before .before .before .before .before .before .before .before .before in
+    next-fits _ _ (c .before .before .before .before .before .before .loop-test .taken) 16 refl (start .pre .0 .few)
 
 loop-less : tie.Need-loop-less Inv-loop μ-loop
-loop-less c = search needs
+loop-less c = nearer _ _ (c .before .before .before .before .before .before .loop-test .taken)
 
 loop-again : tie.Need-loop-again Inv-loop μ-loop
 loop-again c =
@@ -79,9 +89,9 @@ loop-again c =
     let n = s .loop .c in
     let coded = c .before .before .before .before .before .coded-count .ensures .0 in
     let e = c .before .before .channel-change .ensures in (
-      search needs,
-      omega (arith, e .1, s .loop .inv .1),
-      omega (arith, e .2, s .loop .inv .2),
+      next-le _ _ (c .before .before .before .before .before .before .loop-test .taken),
+      risen _ _ _ n (s .loop .inv .1) (e .1),
+      fallen _ _ n (s .loop .inv .2) (e .2),
       even-turn _ _ _ _ _ _ _ _ _ _ (s .loop .inv .3) (e .0) (rw (back-width (n * 1024) 1024, back-width (n * 128) 128, coded))
           (rw (back-width (n * 1024) 1024, back-width (n * 128) 128, coded)),
     )

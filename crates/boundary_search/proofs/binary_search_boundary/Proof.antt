@@ -1,7 +1,7 @@
 -- `boundary_search::binary_search_boundary` meets its contract. The invariant: the search from here on finds what the whole one does, and the bits are those
 -- of low. Assumes nothing.
 use mathlib.Core.Path.{_≡_, sym, _∙_}
-use Prim.Native.Nat.{_≤_, _+_, _-_, _*_}
+use Prim.Native.Nat.{ℕ, _≤_, _<_, _+_, _-_, _*_, _/_}
 use native.Mathlib.Omega.{arith}
 use borrow.Author.Needs.{needs}
 use borrow.Author.Tests.{eq-eqb, ne-eqb}
@@ -21,6 +21,17 @@ Inv-loop layout scaled factors level used available bits₀ low₀ high₀ bits 
 
 abbrev μ-loop : tie.MeasureT-loop
 μ-loop layout scaled factors level used available bits₀ low₀ high₀ bits low high = high - low
+
+-- the upper half of what is left
+module _ (low high : ℕ) (h : low + 1 < high) where
+  upper : (low + high) / 2 ≤ high
+  upper = omega arith
+
+  upper-short : high - (low + high) / 2 < high - low
+  upper-short = omega arith
+
+  upper-low : high ≤ 127 → (low + high) / 2 ≤ 126
+  upper-low top = omega arith
 
 mul-available : tie.Need-mul-available Inv-loop μ-loop
 mul-available c = search needs
@@ -45,27 +56,28 @@ loop-less c = search needs
 
 loop-again : tie.Need-loop-again Inv-loop μ-loop
 loop-again c =
-    let i = c .before .before .before .loop .inv in (
+    let i = c .before .before .before .loop .inv in
+    let h = c .before .before .loop-test .taken in (
       omega arith,
       omega arith,
-      omega arith,
-      i .3
-          ∙ narrow-down _ _ _ (c .before .before .loop-test .taken) (probe-over _ _ _ _ _ _ (c .before .move-boundary .ensures) (c .if1 .taken)),
+      i .2,
+      i .3 ∙ narrow-down _ _ _ h (probe-over _ _ _ _ _ _ (c .before .move-boundary .ensures) (c .if1 .taken)),
       i .4,
       i .5,
     )
 
 loop-less-2 : tie.Need-loop-less-2 Inv-loop μ-loop
-loop-less-2 c = search needs
+loop-less-2 c = upper-short _ _ (c .before .before .loop-test .taken)
 
 loop-again-2 : tie.Need-loop-again-2 Inv-loop μ-loop
 loop-again-2 c =
     let i = c .before .before .before .loop .inv in
+    let h = c .before .before .loop-test .taken in
     let e = c .before .move-boundary .ensures in (
-      omega arith,
-      omega arith,
-      omega arith,
-      i .3 ∙ narrow-up _ _ _ (c .before .before .loop-test .taken) (probe-fits _ _ _ _ _ _ e (c .if1 .left)),
+      upper _ _ h,
+      i .1,
+      upper-low _ _ h (i .1),
+      i .3 ∙ narrow-up _ _ _ h (probe-fits _ _ _ _ _ _ e (c .if1 .left)),
       e,
       c .if1 .left,
     )

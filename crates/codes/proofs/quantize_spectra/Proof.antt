@@ -1,11 +1,11 @@
 -- `codes::quantize_spectra` meets its contract. The invariant: the first c channels are stored. Assumes nothing.
-use mathlib.Core.Path.{_∙_}
+use mathlib.Core.Path.{refl, _∙_}
 use Prim.Native.Nat.{_≤_, _+_, _-_, _*_}
-use native.Mathlib.Omega.{arith}
 use borrow.Author.Needs.{needs}
 use Rattle.buffers.proofs.Build.{back-width}
 use Rattle.buffers.proofs.Most.{part-most}
 use Rattle.rules.specs.Code.{allCodes}
+use Rattle.rules.proofs.LentRows.{next-le, nearer, next-fits, next-ends, lent-long}
 use Rattle.buffers.proofs.Blocks.{Blocked, blocked-none, blocked-more, blocked-exact}
 use Rattle.codes.proofs.Channels.{codesAt, codes-size}
 use Rattle.codes.proofs.quantize_spectra.Statement.{statement}
@@ -72,24 +72,33 @@ channel-codes-requires : tie.Need-channel-codes-requires Inv-loop μ-loop
 channel-codes-requires c κs =
     let s = c .before .before .before .before in
     let start = s .before .before .before in
-    let a = start .args in (
+    let a = start .args in
+    let h = c .before .before .before .loop-test .taken in (
       part-most 15 (s .loop .c * 128) (s .loop .c * 128 + 128 - s .loop .c * 128) (a .resolutions .now) (start .pre .1 .0),
-      search needs,
+      (
+        lent-long 128 _ _ _ h (start .pre .1 .1 .0),
+        lent-long 1024 _ _ _ h (start .pre .1 .1 .1),
+        lent-long 1024 _ _ _ h (s .loop .inv .1 .0 ∙ start .pre .1 .1 .2),
+      ),
     )
 
 add-c : tie.Need-add-c Inv-loop μ-loop
-add-c c = search needs
+add-c c =
+    let start = c .before .before .before .before .before .before .before .before .before in
+    next-fits _ _ (c .before .before .before .before .before .loop-test .taken) 16 refl (start .pre .0 .few)
 
 loop-less : tie.Need-loop-less Inv-loop μ-loop
-loop-less c = search needs
+loop-less c = nearer _ _ (c .before .before .before .before .before .loop-test .taken)
 
 loop-again : tie.Need-loop-again Inv-loop μ-loop
 loop-again c =
     let s = c .before .before .before .before .before .before in
-    let a = s .before .before .before .args in (
-      search needs,
+    let start = s .before .before .before in
+    let a = start .args in
+    let h = c .before .before .before .before .before .loop-test .taken in (
+      next-le _ _ h,
       blocked-more (codesAt (a .resolutions .now) (a .scaled .now)) 1024 (a .layout .channels) (a .codes .now) (λ i h. codes-size _ _) (s .loop .c) (s .loop .codes)
-          (c .before .before .before .before .before .loop-test .taken) (s .loop .inv .1) (c .before .channel-codes .last .1 .1 .0) (omega arith)
+          h (s .loop .inv .1) (c .before .channel-codes .last .1 .1 .0) (next-ends 1024 _ _ _ h (start .pre .1 .1 .2))
           (c .before .channel-codes .ensures ∙ rw (back-width (s .loop .c * 1024) 1024, back-width (s .loop .c * 128) 128)),
     )
 

@@ -1,6 +1,6 @@
 -- `level_search::calculate_noise_level` meets its contract. The invariant: the removal from here on finds what the whole one does. Assumes nothing.
 use mathlib.Core.Path.{_≡_, refl, _∙_}
-use Prim.Native.Nat.{_≤_, _+_, _-_, _*_}
+use Prim.Native.Nat.{ℕ, _≤_, _<_, _+_, _-_, _*_}
 use native.Mathlib.Omega.{arith}
 use lib.ListN.{length}
 use borrow.Author.Needs.{needs}
@@ -22,6 +22,17 @@ Inv-loop layout scaled factors₀ top₀ pairs₀ found₀ factors top pairs fou
 abbrev μ-loop : tie.MeasureT-loop
 μ-loop layout scaled factors₀ top₀ pairs₀ found₀ factors top pairs found = top
 
+-- a removal more, of those that 128 bands allow
+module _ (pairs top : ℕ) (few : 2 * pairs + top ≤ 128) (more : 3 ≤ top) where
+  still-few : 2 * (pairs + 1) + (top - 2) ≤ 128
+  still-few = omega arith
+
+  one-left : 0 < 64 - pairs
+  one-left = omega arith
+
+  one-less : 64 - pairs - 1 ≡ 64 - (pairs + 1)
+  one-less = omega arith
+
 add-top : tie.Need-add-top Inv-loop μ-loop
 add-top c = search needs
 
@@ -40,7 +51,7 @@ same-length c = search needs
 returns : tie.Need-returns Inv-loop μ-loop
 returns c =
     let i = c .before .before .before .loop .inv in
-    let e = i .4 ∙ remove-stop _ _ _ _ _ _ (omega arith) in
+    let e = i .4 ∙ remove-stop _ _ _ _ _ _ (c .if2 .taken) in
     rw e (i .3, refl, refl, i .2, i .5, i .6)
 
 sub-top : tie.Need-sub-top Inv-loop μ-loop
@@ -62,15 +73,17 @@ loop-again : tie.Need-loop-again Inv-loop μ-loop
 loop-again c =
     let s = c .before .before .before .before .before .before .before .before .before in
     let i = s .loop .inv in
-    let f : 64 - s .loop .pairs - 1 ≡ 64 - (s .loop .pairs + 1) = omega arith in
+    let l = s .loop in
+    let more = c .before .before .before .before .before .before .if2 .left in
     let t = c .before .before .before .before in
     let e = c .binary-search-level2 .ensures in (
       t .clear-pair .kept .1 .0 ∙ i .0,
-      search needs,
+      still-few (l .pairs) (l .top) (i .1) more,
       e .1,
       e .0,
       i .4
-          ∙ (remove-turn _ _ _ _ _ _ (rw (← i .3) (omega arith)) (omega arith) (omega arith) ∙ rw (f, ← t .clear-pair .ensures)),
+          ∙ (remove-turn _ _ _ _ _ _ (rw (← i .3) (c .before .before .before .before .before .before .before .if1 .taken)) more
+          (one-left (l .pairs) (l .top) (i .1) more) ∙ rw (one-less (l .pairs) (l .top) (i .1) more, ← t .clear-pair .ensures)),
       e .2,
       e .3,
     )
@@ -81,7 +94,7 @@ same-length-2 c = search needs
 returns-2 : tie.Need-returns-2 Inv-loop μ-loop
 returns-2 c =
     let i = c .before .before .loop .inv in
-    let e = i .4 ∙ remove-done _ _ _ _ _ _ (rw (← i .3) (omega arith)) in
+    let e = i .4 ∙ remove-done _ _ _ _ _ _ (rw (← i .3) (c .if1 .left)) in
     rw e (i .3, refl, refl, i .2, i .5, i .6)
 
 pub calculate-noise-level-spec : {M : Type 1} → statement M

@@ -7,7 +7,7 @@ use Rattle.rules.specs.Format.{eachBits}
 use Rattle.rules.specs.Record.{codesIn}
 use Rattle.resolutions.specs.Coded.{codedResolutions}
 use Rattle.rules.specs.Fields.{codeBits}
-use Rattle.rules.proofs.Written.{Wrote, wrote-none, wrote-more, wrote-all, times-blocks}
+use Rattle.rules_formats.proofs.Written.{Wrote, wrote-none, wrote-more, wrote-all, times-blocks}
 use Rattle.packing_codes.proofs.write_codes.Statement.{statement}
 use Rattle.packing_codes.proofs.write_codes.Tie as tie
 

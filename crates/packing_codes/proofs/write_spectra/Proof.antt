@@ -7,7 +7,7 @@ use lib.ListN.{getD}
 use mir.Syntax.{w32}
 use mir.ValLaws.{toZ-ofZ}
 use Rattle.rules.specs.Fields.{codeBits}
-use Rattle.rules.proofs.Written.{Wrote, wrote-none, wrote-more, wrote-all, front-blocks}
+use Rattle.rules_formats.proofs.Written.{Wrote, wrote-none, wrote-more, wrote-all, front-blocks}
 use Rattle.packing_codes.proofs.write_spectra.Statement.{statement}
 use Rattle.packing_codes.proofs.write_spectra.Tie as tie
 

@@ -1,4 +1,5 @@
 -- `packing_codes::write_subframe` meets its contract. The invariant: the first c channels are written. Assumes nothing.
+use mathlib.Core.Path.{refl}
 use Prim.Native.Nat.{_+_, _-_, _*_, _≤_}
 use native.Mathlib.Omega.{arith}
 use borrow.Author.Needs.{needs}
@@ -9,7 +10,8 @@ use Rattle.rules.specs.Record.{codesIn}
 use Rattle.resolutions.specs.Coded.{codedResolutions}
 use Rattle.rules.specs.Fields.{codeBits}
 use Rattle.rules.proofs.Cuts.{subframe-cut}
-use Rattle.rules.proofs.Written.{Wrote, wrote-none, wrote-more, wrote-all, each-blocks}
+use Rattle.rules.proofs.LentRows.{next-le, nearer, next-fits}
+use Rattle.rules_formats.proofs.Written.{Wrote, wrote-none, wrote-more, wrote-all, each-blocks}
 use Rattle.packing_codes.proofs.write_subframe.Statement.{statement}
 use Rattle.packing_codes.proofs.write_subframe.Tie as tie
 
@@ -72,10 +74,12 @@ write-spectra-requires c κs =
     (search needs, part-most 15 at (at + 128 - at) (s .args .resolutions .now) (s .pre .1 .1))
 
 add-c : tie.Need-add-c Inv-loop μ-loop
-add-c c = search needs
+add-c c =
+    let start = c .before .before .before .before .before .before .before .before .before .before .before in
+    next-fits _ _ (c .before .before .before .before .before .before .before .loop-test .taken) 16 refl (start .pre .0 .few)
 
 loop-less : tie.Need-loop-less Inv-loop μ-loop
-loop-less c = search needs
+loop-less c = nearer _ _ (c .before .before .before .before .before .before .before .loop-test .taken)
 
 loop-again : tie.Need-loop-again Inv-loop μ-loop
 loop-again c =
@@ -84,7 +88,8 @@ loop-again c =
     let w = c .before .before .write-spectra .ensures in
     let at = l .c * 1024 + s .args .subframe * 128 in
     let h = rw (back-width (l .c * 128) 128, back-width at 128, c .before .before .before .before .before .before .coded-count .ensures .0) at (w .0) in
-    (search needs, wrote-more _ _ _ _ (l .inv .1) (rw (subframe-cut (s .args .codes .now) (l .c) (s .args .subframe) (s .pre .1 .0 .1)) h) (w .1))
+    let next = next-le _ _ (c .before .before .before .before .before .before .before .loop-test .taken) in
+    (next, wrote-more _ _ _ _ (l .inv .1) (rw (subframe-cut (s .args .codes .now) (l .c) (s .args .subframe) (s .pre .1 .0 .1)) h) (w .1))
 
 same-length : tie.Need-same-length Inv-loop μ-loop
 same-length c = c .before .loop .inv .1 .run .same

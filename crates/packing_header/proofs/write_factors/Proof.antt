@@ -5,7 +5,7 @@ use borrow.Author.Needs.{needs}
 use lib.ListN.{getD}
 use Rattle.rules.specs.Fields.{factorBits}
 use Rattle.deltas.specs.Previous.{factorBefore}
-use Rattle.rules.proofs.Written.{Wrote, wrote-none, wrote-more, wrote-all}
+use Rattle.rules_formats.proofs.Written.{Wrote, wrote-none, wrote-more, wrote-all}
 use Rattle.packing_header.proofs.Walks.{factors-blocks}
 use Rattle.packing_header.proofs.write_factors.Statement.{statement}
 use Rattle.packing_header.proofs.write_factors.Tie as tie

@@ -4,7 +4,7 @@ use native.Mathlib.Omega.{arith}
 use borrow.Author.Needs.{needs}
 use lib.ListN.{getD}
 use Rattle.bits.specs.Bits.{bits}
-use Rattle.rules.proofs.Written.{Wrote, wrote-none, wrote-more, wrote-all}
+use Rattle.rules_formats.proofs.Written.{Wrote, wrote-none, wrote-more, wrote-all}
 use Rattle.packing_header.proofs.Walks.{side-blocks}
 use Rattle.packing_header.proofs.write_side.Statement.{statement}
 use Rattle.packing_header.proofs.write_side.Tie as tie

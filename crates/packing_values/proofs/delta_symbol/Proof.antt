@@ -10,7 +10,7 @@ use mir.Val.{SFits, Fits, toZ, ofZ}
 use mir.Facts.{toZ-pos}
 use mir.ValLaws.{toZ-ofZ}
 use Rattle.rules.specs.Fields.{deltaSymbol}
-use Rattle.rules.proofs.Deltas.{near-is, shift-up, symbol-is}
+use Rattle.rules_formats.proofs.Deltas.{near-is, shift-up, symbol-is}
 use borrow.Author.Needs.{needs}
 use Rattle.packing_values.proofs.delta_symbol.Statement.{statement}
 use Rattle.packing_values.proofs.delta_symbol.Tie as tie

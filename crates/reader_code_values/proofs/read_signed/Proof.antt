@@ -10,7 +10,7 @@ use Rattle.bits.specs.declared.Field.the-variants as field
 use Rattle.bits.proofs.Fields.{Got, got}
 use Rattle.rules.specs.Format.{ok, number}
 use Rattle.rules.specs.Code.{magnitudeBits}
-use Rattle.rules.proofs.Numbers.{number-got, number-past}
+use Rattle.rules_formats.proofs.Numbers.{number-got, number-past}
 use Rattle.reader_code_values.proofs.Telling.{field-small, signed-cut, signed-none, signed-past, signed-in}
 use Rattle.reader_code_values.proofs.read_signed.Statement.{statement}
 use Rattle.reader_code_values.proofs.read_signed.Tie as tie

@@ -8,7 +8,7 @@ use mir.Val.{toZ, ofZ}
 use mir.ValLaws.{toZ-ofZ}
 use Rattle.bits.specs.Place.{leftAt}
 use Rattle.rules.specs.Reading.{deltaFactor}
-use Rattle.rules.proofs.Deltas.{delta-cut}
+use Rattle.rules_formats.proofs.Deltas.{delta-cut}
 use Rattle.reader_values.specs.Values.{judged}
 use Rattle.reader_values.proofs.Answered.{told-of, told-on, delta-escape, delta-named}
 use borrow.Author.Needs.{needs}

@@ -4,7 +4,7 @@ use mathlib.Core.Bool.{true}
 use native.Mathlib.Omega.{arith}
 use borrow.Author.Needs.{needs}
 use Rattle.rules.specs.Record.{legalRecord, LegalHead}
-use Rattle.rules.proofs.Legality.{record-held}
+use Rattle.rules_demands.proofs.LegalRecords.{record-held}
 use Rattle.writer.proofs.Answers.{run-illegal, run-ends}
 use Rattle.writer.proofs.write_exact.Statement.{statement}
 use Rattle.writer.proofs.write_exact.Tie as tie

@@ -7,7 +7,7 @@ with-requires : tie.Need-with-requires
 with-requires c κs = search needs
 
 returns : tie.Need-returns
-returns c = cc
+returns c = rw (c .before .with .ensures)
 
 pub with-spec : {M : Type 1} → statement M
 with-spec = tie.close (tie.spec with-requires returns)

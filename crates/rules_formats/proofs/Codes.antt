@@ -11,22 +11,19 @@ use lib.ListN.{length, getD}
 use lib.Dec.{T, ltb, eqb}
 use lib.Pow.{pow-pos}
 use Rattle.bits.specs.Bits.{bits}
 use Rattle.rules.specs.Format.{Read, ok, bad, pure, _>>=_, strip, number, oneOf, asOne, Lawful}
 use Rattle.rules.specs.Tables.{spectrumBits, spectrumValue, maxBitTable}
 use Rattle.rules.specs.Signed.{heldZ}
 use Rattle.rules.specs.Code.{codePlace, magnitudeBits, codeLimit}
 use Rattle.rules.specs.Record.{codeRange, LegalCode}
 use Rattle.rules.specs.Fields.{smallBits, signBits, codeBits}
 use Rattle.rules.specs.Reading.{codesTo, signed, readCode}
-use Rattle.rules.proofs.Formats.{twice, pure-fits, iff-fits, bind-fits, whole-fits}
-use Rattle.rules.proofs.Numbers.{bool-case, leb-case, eqb-case, number-fits}
-use Rattle.rules.proofs.Prefix.{both, free, every, isRead, oneOf-fits, oneOf-full}
+use Rattle.rules.proofs.Words.{free, below, words-free}
+use Rattle.rules_formats.proofs.Formats.{twice, pure-fits, iff-fits, bind-fits, whole-fits}
+use Rattle.rules_formats.proofs.Numbers.{bool-case, leb-case, eqb-case, number-fits}
+use Rattle.rules_formats.proofs.Prefix.{both, every, isRead, oneOf-fits, oneOf-full}
 
--- a test at each number below n
-abbrev pub below : (ℕ → Bool) → ℕ → Bool
-below f zero = true
-below f (suc n) = f n && below f n
-
+-- a test at each number below n holds at one of them
 pub below-at : (f : ℕ → Bool) (n : ℕ) → T (below f n) → (k : ℕ) → k < n → T (f k)
 below-at f zero h k l = absurd (omega arith)
 below-at f (suc n) h k l =
@@ -37,8 +34,7 @@ below-at f (suc n) h k l =
 
 -- THE TABLES: at each resolution below 8 no word of the code begins another
 pub tables-free : (r : ℕ) → r < 8 → T (free (smallBits r) (codesTo r))
-unfolding smallBits codePlace heldZ spectrumBits spectrumValue bits strip
-tables-free r h = below-at (λ r. free (smallBits r) (codesTo r)) 8 tt r h
+tables-free r h = below-at (λ r. free (smallBits r) (codesTo r)) 8 words-free r h
 
 -- .. and each run of as many bits as MAX_BIT_TABLE says begins with a word
 pub tables-full : (r : ℕ) → r < 8 → T (every (getD maxBitTable r 0) (λ s. isRead (oneOf (smallBits r) (codesTo r) s)))

@@ -8,24 +8,9 @@ use native.Mathlib.Omega.{arith}
 use lib.ListN.{length, take, drop, take-append-drop}
 use lib.Seq.{length-take-le}
 use lib.Dec.{T}
 use Rattle.rules.specs.Format.{Read, ok, bad, strip, orElse, oneOf, Lawful}
-use Rattle.rules.proofs.Formats.{bad≢ok}
-
-abbrev is : {A : Type 0} → Option A → Bool
-is none = false
-is (some a) = true
-
--- one of the two begins the other
-abbrev clash : List Bool → List Bool → Bool
-clash u v = is (strip u v) || is (strip v u)
-
-abbrev apart : {A : Type 0} → (A → List Bool) → A → List A → Bool
-apart w c [] = true
-apart w c (d ∷ ds) = not (clash (w c) (w d)) && apart w c ds
-
-abbrev pub free : {A : Type 0} → (A → List Bool) → List A → Bool
-free w [] = true
-free w (c ∷ cs) = apart w c cs && free w cs
+use Rattle.rules.proofs.Words.{clash, apart, free}
+use Rattle.rules_formats.proofs.Formats.{bad≢ok}
 
 pub both : (a b : Bool) → T (a && b) → T a × T b
 both true b h = (tt, h)

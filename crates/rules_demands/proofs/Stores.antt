@@ -1,25 +1,21 @@
 -- A legal record lies in the buffers that it is stored in, and a record lies in its buffers' stated lengths alone. Assumes nothing.
 use mathlib.Core.Path.{_≡_, sym, _∙_, ap}
 use mathlib.Core.List.{List, [], _++_}
-use Prim.Native.Nat.{ℕ, _^_, _≤_, _<_}
+use Prim.Native.Nat.{ℕ, _^_, _<_}
 use native.Mathlib.Omega.{arith}
 use lib.IntN.{ℤ, pos}
 use lib.ListN.{length, take, getD, length-map, List·getD-map}
 use Rattle.buffers.specs.Walk.{build, blocks}
 use Rattle.buffers.proofs.Build.{length-build, build-at, build-of}
 use Rattle.buffers.proofs.Blocks.{length-blocks, blocks-at}
 use Rattle.rules.specs.Format.{Each}
 use Rattle.rules.specs.Layout.{Sizes, kindAt, kindsOf, codedCount, codedAt, sideCount, sidesAt, sideWidth, spectrumLength, factorLength, sideLength, part}
 use Rattle.rules.specs.Resolution.{resolutionAt, resolutionsOf, allResolutions}
 use Rattle.rules.specs.Record.{Chan, Rec, LegalCode, LegalChan, resolutions, Legal, chanOf, codesIn, recOf, pad, noChan, storeFactors, storeSide, storeCodes, legalChannel, legalChannels, legalRecord}
 use Rattle.rules.specs.declared.Layout.{Layout}
-use Rattle.rules.proofs.Layouts.{coded-le, sides-le}
+use Rattle.rules.proofs.Layouts.{sides-le, coded-few}
 use Rattle.rules.proofs.Bands.{resolutions-front}
 use Rattle.rules.proofs.Cuts.{build-same, every-same, part-of-front, block-part, length-pad, pad-take, each-length, each-at, times-length, times-at}
-
--- a coded count fits its row
-pub coded-few : (l : Layout) → Sizes l → (c : ℕ) → codedAt l c ≤ 128
-coded-few l z c = omega (arith, coded-le l c)
 
 -- the kind of channel c
 kind-of : (l : Layout) (c : ℕ) → c < l .channels → getD (kindsOf l) c (kindAt l c) ≡ kindAt l c

@@ -10,11 +10,11 @@ use lib.IntN.{ℤ, pos, negsuc, subℕ, _+ℤ_, _-ℤ_, natAbs}
 use lib.Signed.{leZ}
 use lib.Pow.{pow-pos}
 use lib.Dec.{T, leb, leb→le, leb·zero}
 use Rattle.rules.specs.Format.{bad, number}
 use Rattle.rules.specs.Width.{reachOf, deltaOf, near}
 use Rattle.rules.specs.Reading.{deltaFactor, readDelta}
-use Rattle.rules.proofs.Numbers.{leb-case}
-use Rattle.rules.proofs.Prefix.{both}
+use Rattle.rules_formats.proofs.Numbers.{leb-case}
+use Rattle.rules_formats.proofs.Prefix.{both}
 
 -- DIFFERENCES
 sub-up : (a b : ℕ) → b ≤ a → subℕ a b ≡ pos (a - b)

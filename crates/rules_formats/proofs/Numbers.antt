@@ -15,8 +15,8 @@ use Rattle.bits.specs.declared.Place.{Place}
 use Rattle.bits.specs.declared.Field.the-variants.{Of, Past}
 use Rattle.bits.proofs.Numbers.{length-bits, value-back, value-lt, bits-value}
 use Rattle.bits.proofs.Fields.{length-left, got, past}
 use Rattle.rules.specs.Format.{ok, bad, number, Lawful}
-use Rattle.rules.proofs.Formats.{bad≢ok}
+use Rattle.rules_formats.proofs.Formats.{bad≢ok}
 
 pub bool-case {ℓ} : (P : Bool → Type ℓ) (b : Bool) → (b ≡ true → P true) → (b ≡ false → P false) → P b
 bool-case P true f g = f refl
