@@ -2,7 +2,7 @@
 ghost use Prim.Native.Nat.{_<_};
 use places::ahead;
 use places::byte;
-use places::put_byte;
+use text::lines::put_text;
 
 // The 32-bit number at a place.
 pub fn word(data: &[u8], at: usize) -> usize
@@ -22,14 +22,15 @@ pub fn word_past(data: &[u8], at: usize, n: usize) -> usize
     word(data, ahead(at, n))
 }
 
-pub(crate) fn low(n: usize) -> u8 {
+fn low(n: usize) -> u8 {
     (n % 256) as u8
 }
 
 // The low 32 bits of n, from a place on.
 pub fn put_word(out: &mut [u8], at: usize, n: usize) {
-    put_byte(out, at, low(n));
-    put_byte(out, ahead(at, 1), low(n / 256));
-    put_byte(out, ahead(at, 2), low(n / 65536));
-    put_byte(out, ahead(at, 3), low(n / 16777216));
+    put_text(
+        out,
+        at,
+        &[low(n), low(n / 256), low(n / 65536), low(n / 16777216)],
+    );
 }

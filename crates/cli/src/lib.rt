@@ -11,6 +11,7 @@ use cli_options::options::Options;
 use cli_options::options::none_yet;
 use cli_parser::sources::all_words;
 use cli_runs::progress::Run;
+use cli_runs::progress::at_start;
 use cli_runs::progress::last_status;
 use cli_wav::take_wav;
 use cli_words::commands::Command;
@@ -19,7 +20,6 @@ use cli_words::commands::is_known;
 use cli_words::manual::help;
 use cli_words::manual::say_usage;
 use cli_words::manual::say_version;
-use text::names::is_same;
 use text::tables::entry_of;
 use whole_files::standard::take_standard;
 
@@ -48,13 +48,13 @@ fn asks_for_help() -> bool {
 }
 
 // What the command does between its files' opening and their end.
-fn do_job(job: Job, options: Options) -> Run {
+fn do_job(job: Job, run: Run, options: Options) -> Run {
     let command = job.command;
     match command {
-        Command::Header => make_header(job, options),
-        Command::Wav => take_wav(job),
-        Command::List => show_list(job, options),
-        _ => do_frames(job),
+        Command::Header => make_header(job, run, options),
+        Command::Wav => take_wav(job, run),
+        Command::List => show_list(job, run, options),
+        _ => do_frames(job, run),
     }
 }
 
@@ -64,24 +64,26 @@ fn do_command(options: Options) -> i32 {
     if !job.is_ready {
         return ended(job, 2);
     }
-    let run = do_job(job, options);
+    let run = do_job(job, at_start(job.text), options);
     last_status(run, ended(job, run.status))
 }
 
-// What the first word asks, where no word asks for help.
-fn run_word(word: &[u8], has_status: bool) -> i32 {
-    if is_same(word, b"help") {
-        return help(Command::Nothing, has_status);
-    }
-    if is_same(word, b"--version") {
-        return say_version();
-    }
-    let command = command_of(word);
+// The word is the command's.
+fn run_command(command: Command, word: &[u8]) -> i32 {
     if is_known(command) {
         return do_command(all_words(command));
     }
     refuse_word(none_yet(command), word, UNKNOWN_COMMAND);
     2
+}
+
+// What the first word asks, where no word asks for help.
+fn run_word(word: &[u8], has_status: bool) -> i32 {
+    match entry_of(b"\nhelp\n--version\n", word) {
+        1 => help(Command::Nothing, has_status),
+        2 => say_version(),
+        _ => run_command(command_of(word), word),
+    }
 }
 
 // Does what the arguments ask; answers the status: 0 all is well, 1 something was refused, 2 the words or a file were wrong. The help says whether

@@ -2,14 +2,12 @@
 ghost use Prim.Native.Nat.{_≤_};
 use cli_files::job::Job;
 use cli_list::rooms::list_room;
-use cli_reports::reasons::say_call_refusal;
 use cli_runs::progress::Run;
-use cli_runs::progress::stopped;
-use cli_words::manual::complain;
+use cli_runs::progress::refused_by;
+use cli_runs::progress::written;
 use places::at_most;
 use refusals_files::list::list_write_refusal;
 use rules_files::list::Entry;
-use text::forms::say_form;
 use text::lines::put_out;
 
 // A place past the end is passed over.
@@ -38,39 +36,21 @@ pub(crate) fn keep_entry(entries: &mut [u32], done: usize, last: Entry) {
     put_u32(entries, i + 3, last.bits);
 }
 
-// Has the list no room for another frame? If so, that is said. A file whose length is known does not come this far.
+// Has the list no room for another frame?
 pub(crate) fn is_list_full(job: Job, run: Run) -> bool {
-    if job.list < 0 || run.done < 65535 {
-        return false;
-    }
-    say_form(
-        2,
-        b"hcaframe: a list has at most # frames, and the spectra have more\n",
-        &[65535],
-    );
-    true
+    0 <= job.list && 65535 <= run.done
 }
 
-// Writes the list of the frames that are done.
-fn written(job: Job, run: Run, entries: &[u32]) -> Run {
+// Writes the list of the frames that are done, where one is asked for and all are made.
+pub(crate) fn with_list(job: Job, run: Run, entries: &[u32]) -> Run {
+    if run.status != 0 || job.list < 0 {
+        return run;
+    }
     let n = at_most(run.done, 65535);
     let mut bytes = list_room();
     let told = list_write_refusal(list::write_list(n as u32, entries, &mut bytes));
     if told.number != 0 {
-        say_call_refusal(told, b"\n", 0, &[0]);
-        return stopped(run, 1);
+        return refused_by(run, told);
     }
-    if !put_out(job.list, &bytes, 9 + 8 * n) {
-        complain(b"writing");
-        return stopped(run, 2);
-    }
-    run
-}
-
-// Behind the last frame, if all are made.
-pub(crate) fn with_list(job: Job, run: Run, entries: &[u32]) -> Run {
-    if run.status != 0 {
-        return run;
-    }
-    written(job, run, entries)
+    written(run, put_out(job.list, &bytes, 9 + 8 * n))
 }

@@ -1,6 +1,8 @@
 // No file of a call may be another one of its files: an output would take an input's place.
 use crate::job::Job;
 use cli_options::options::Options;
+use cli_options::options::is_given;
+use cli_options::options::value_of;
 use cli_options::said::is_same_name;
 use cli_options::said::put_path;
 use cli_words::commands::Command;
@@ -15,48 +17,54 @@ use text::lines::say;
 use whole_files::same::is_one_file;
 use whole_files::standard::close_file;
 
+// A file by its option. Standard output, where the text goes, has none.
+fn say_file(name: Name) {
+    match name {
+        Name::Unknown => say(2, b"standard output"),
+        _ => say_name(2, name),
+    }
+    ;
+}
+
 fn say_same(a: Name, b: Name) {
     say(2, b"hcaframe: ");
-    say_name(2, a);
+    say_file(a);
     say(2, b" and ");
-    say_name(2, b);
+    say_file(b);
     say(2, b" are the same file\n");
 }
 
-// Do both of these places name files?
-fn are_files(j: usize, k: usize) -> bool {
-    is_file(name_at(j)) && is_file(name_at(k))
+// Is a file given by this option?
+fn has_file(options: Options, name: Name) -> bool {
+    is_file(name) && is_given(options, name)
 }
 
-// Does this place name an output?
-fn is_output_place(command: Command, place: usize) -> bool {
-    place == place_of(output_of(command)) || place == place_of(second_output_of(command))
+fn is_output(command: Command, name: Name) -> bool {
+    let k = place_of(name);
+    k == place_of(output_of(command)) || k == place_of(second_output_of(command))
 }
 
-// Does one of these places name an output, and the other an input?
-fn is_one_output(command: Command, j: usize, k: usize) -> bool {
-    if is_output_place(command, j) {
-        return !is_output_place(command, k);
-    }
-    is_output_place(command, k)
-}
-
-// Are the options of these places two names that differ, as far as they are given?
-fn differ(options: Options, j: usize, k: usize) -> bool {
+// Do the two options name two files that differ, as far as they are given?
+fn differ(options: Options, a: Name, b: Name) -> bool {
     let command = options.command;
-    let is_output = is_one_output(command, j, k);
-    if j < k && are_files(j, k) && is_same_name(options, name_at(j), name_at(k), is_output) {
-        say_same(name_at(j), name_at(k));
+    let is_one_output = is_output(command, a) != is_output(command, b);
+    if has_file(options, a)
+        && has_file(options, b)
+        && is_same_name(value_of(options, a), value_of(options, b), is_one_output)
+    {
+        say_same(a, b);
         return false;
     }
     true
 }
 
-// Have all of the call's files names of their own?
+// Have all of the call's files names of their own? Each is taken with those before it.
 pub fn have_own_names(options: Options) -> bool {
     let mut c = 0;
     while c < 576 {
-        if !differ(options, c / 24, c % 24) {
+        let j = c / 24;
+        let k = c % 24;
+        if j < k && !differ(options, name_at(j), name_at(k)) {
             return false;
         }
         c += 1;
@@ -65,7 +73,7 @@ pub fn have_own_names(options: Options) -> bool {
 }
 
 // Are the two open files two?
-fn are_two(a: i32, a_name: Name, b: i32, b_name: Name) -> bool {
+pub(crate) fn are_two(a: i32, a_name: Name, b: i32, b_name: Name) -> bool {
     if is_one_file(a, b) {
         say_same(a_name, b_name);
         return false;
@@ -94,21 +102,15 @@ fn is_input_apart(job: Job, name: Name, fd: i32) -> bool {
         && are_two(job.layout_file, Name::Layout, fd, name)
 }
 
-// Is it not the first output, where that is begun already?
-pub(crate) fn is_first_apart(job: Job, name: Name, fd: i32) -> bool {
-    let command = job.command;
-    are_two(job.output, output_of(command), fd, name)
-}
-
-// Nor what stands under the first output's name?
+// Nor what stands under the first output's name, where that is begun already?
 fn is_old_apart(job: Job, name: Name, fd: i32) -> bool {
     if job.output < 3 {
         return true;
     }
+    let command = job.command;
     let mut path = io::buffer();
     let n = put_path(job.output_file, &mut path);
     let old = os::open_read(&path[..n]);
-    let command = job.command;
     let is_other = are_two(old, output_of(command), fd, name);
     close_file(old);
     is_other
@@ -116,16 +118,8 @@ fn is_old_apart(job: Job, name: Name, fd: i32) -> bool {
 
 // Is it none of the call's other files?
 pub(crate) fn is_output_apart(job: Job, name: Name, fd: i32) -> bool {
-    is_input_apart(job, name, fd) && is_first_apart(job, name, fd) && is_old_apart(job, name, fd)
-}
-
-// Is it not where the text goes?
-pub(crate) fn is_text_apart(job: Job, name: Name, fd: i32) -> bool {
-    if job.text < 0 || !is_one_file(1, fd) {
-        return true;
-    }
-    say(2, b"hcaframe: ");
-    say_name(2, name);
-    say(2, b" and standard output are the same file\n");
-    false
+    let command = job.command;
+    is_input_apart(job, name, fd)
+        && are_two(job.output, output_of(command), fd, name)
+        && is_old_apart(job, name, fd)
 }

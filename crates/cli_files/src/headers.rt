@@ -1,7 +1,6 @@
 // Whole HCA files, which are not what this program takes: it takes the frames alone.
 use binary::words::word;
 use places::byte;
-use places::more;
 use text::forms::say_form;
 use text::lines::say;
 
@@ -10,21 +9,16 @@ pub fn is_whole_hca(bytes: &[u8]) -> bool {
     word(bytes, 0) == 0x0041_4348
 }
 
-// The header's length, as it says itself.
-fn header_size(bytes: &[u8]) -> usize {
-    byte(bytes, 6) * 256 + byte(bytes, 7)
-}
-
-// Says so, and what to do.
+// Says so, with the header's length, as it says itself, and what to do.
 pub fn say_whole_hca(name: &[u8], bytes: &[u8]) {
-    let n = header_size(bytes);
+    let n = byte(bytes, 6) * 256 + byte(bytes, 7);
     say(2, b"hcaframe: ");
     say(2, name);
     say_form(
         2,
         b" is a whole HCA file, with a header of # bytes; hcaframe takes the frames alone.\n\
           hcaframe: take them out with tail -c +# FILE; the layout's numbers stand in the header.\n",
-        &[n, more(n, 1)],
+        &[n, n + 1],
     );
 }
 

@@ -1,5 +1,5 @@
 // What a command works on.
-use cli_options::said::FileName;
+use cli_options::options::Value;
 use cli_words::commands::Command;
 use cli_words::names::Name;
 use rules::Layout;
@@ -15,9 +15,9 @@ pub struct Job {
     pub input_name: Name,
     pub intensities: i32,
     pub output: i32,
-    pub output_file: FileName,
+    pub output_file: Value,
     pub list: i32,
-    pub list_file: FileName,
+    pub list_file: Value,
     pub text: i32,
     pub is_ready: bool,
     pub is_watched: bool,

@@ -1,28 +1,22 @@
 // Files of whole frames, opened.
 use crate::headers::begins_with_header;
-use cli_options::said::FileName;
+use cli_options::options::Value;
 use cli_options::said::put_path;
 use cli_words::manual::complain;
-use text::blocks::Block;
 use text::blocks::Length;
 use text::blocks::is_at_end;
 use text::blocks::length_of;
-use text::blocks::next_block;
 use text::forms::say_form;
 use text::lines::say;
 use whole_files::standard::close_file;
 use whole_files::standard::open_input;
 
-fn is_multiple(length: usize, size: usize) -> bool {
-    if size == 0 {
-        return false;
-    }
-    length % size == 0
-}
-
-// Of a file that ends within a frame.
-fn say_over(path: &[u8], length: usize, size: usize) {
+// Is the length one of whole blocks? If not, that is said.
+fn is_whole(path: &[u8], length: usize, size: usize) -> bool {
     let over = if size == 0 { length } else { length % size };
+    if over == 0 {
+        return true;
+    }
     say(2, b"hcaframe: ");
     say(2, path);
     say_form(
@@ -30,23 +24,7 @@ fn say_over(path: &[u8], length: usize, size: usize) {
         b": # bytes are no whole number of frames of # bytes; bytes over: #\n",
         &[length, size, over],
     );
-}
-
-fn holds_whole_blocks(path: &[u8], length: Length, size: usize) -> bool {
-    match length {
-        Length::Unknown => true,
-        Length::Failed => {
-            complain(path);
-            false
-        }
-        Length::Bytes(n) => {
-            if is_multiple(n, size) {
-                return true;
-            }
-            say_over(path, n, size);
-            false
-        }
-    }
+    false
 }
 
 // Standard input is taken from where it stands, as a stream of any length.
@@ -62,7 +40,14 @@ fn is_fit(path: &[u8], fd: i32, size: usize, holds_frames: bool) -> bool {
     if holds_frames && 0 < fd && begins_with_header(path, fd) {
         return false;
     }
-    holds_whole_blocks(path, length(fd), size)
+    match length(fd) {
+        Length::Unknown => true,
+        Length::Failed => {
+            complain(path);
+            false
+        }
+        Length::Bytes(n) => is_whole(path, n, size),
+    }
 }
 
 fn open_path(path: &[u8], size: usize, holds_frames: bool) -> i32 {
@@ -79,7 +64,7 @@ fn open_path(path: &[u8], size: usize, holds_frames: bool) -> i32 {
 }
 
 // Opens a file of blocks of this size; -1 where that fails, which is said.
-pub fn open_blocks(file: FileName, size: usize, holds_frames: bool) -> i32 {
+pub fn open_blocks(file: Value, size: usize, holds_frames: bool) -> i32 {
     let mut path = io::buffer();
     let n = put_path(file, &mut path);
     open_path(&path[..n], size, holds_frames)
@@ -104,23 +89,14 @@ pub enum Content {
     Failed,
 }
 
-// A file that fills its room may go on.
-fn filled(fd: i32, n: usize) -> Content {
-    if is_at_end(fd) {
-        Content::Bytes(n)
-    } else {
-        Content::TooLong
-    }
-}
-
 // Reads a whole file into the lent room.
 pub fn content_of(fd: i32, room: &mut [u8]) -> Content {
-    let n = room.len();
-    let got = next_block(fd, n, room);
-    match got {
-        Block::Whole => filled(fd, n),
-        Block::End => Content::Bytes(0),
-        Block::Short(k) => Content::Bytes(k),
-        Block::Failed => Content::Failed,
+    let n = io::read_full(fd, room);
+    if is_at_end(fd) {
+        return Content::Bytes(n);
     }
+    if n == room.len() {
+        return Content::TooLong;
+    }
+    Content::Failed
 }

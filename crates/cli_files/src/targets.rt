@@ -1,12 +1,12 @@
 // Outputs, begun and ended.
-use crate::clashes::is_first_apart;
+use crate::clashes::are_two;
 use crate::clashes::is_output_apart;
-use crate::clashes::is_text_apart;
 use crate::job::Job;
-use cli_options::said::FileName;
+use cli_options::options::Value;
 use cli_options::said::put_path;
 use cli_words::manual::complain;
 use cli_words::names::Name;
+use cli_words::names::output_of;
 use cli_words::names::say_name;
 use text::lines::say;
 use text::tables::say_entry;
@@ -51,26 +51,22 @@ fn is_free(name: Name, path: &[u8], target: Target) -> bool {
     }
 }
 
-// Is the file that stands here now, if there is one, none of the call's others?
+// Is the file that stands here now, if there is one, none of the call's others, and not where the text goes?
 fn is_apart(job: Job, name: Name, path: &[u8]) -> bool {
     let fd = os::open_update(path);
-    if fd < 0 {
-        return true;
-    }
-    let is_other = is_output_apart(job, name, fd) && is_text_apart(job, name, fd);
-    libc::close(fd);
+    let is_other = is_output_apart(job, name, fd)
+        && (job.text < 0 || are_two(fd, name, 1, Name::Unknown));
+    close_file(fd);
     is_other
 }
 
 // Is its temporary name not the first output's? Two names of a file that is not there yet differ by their letters alone.
 fn is_new(job: Job, name: Name, path: &[u8]) -> bool {
-    if job.output < 3 {
-        return true;
-    }
+    let command = job.command;
     let mut temporary = io::buffer();
     let n = output::put_name(&mut temporary, path);
     let fd = os::open_read(&temporary[..n]);
-    let is_other = is_first_apart(job, name, fd);
+    let is_other = are_two(job.output, output_of(command), fd, name);
     close_file(fd);
     is_other
 }
@@ -92,17 +88,14 @@ fn create(name: Name, path: &[u8]) -> i32 {
     fd
 }
 
-// Standard output, which a file may stand behind, too.
-fn begin_standard(job: Job, name: Name) -> i32 {
-    if is_on_disk(1) && !is_output_apart(job, name, 1) {
-        return -1;
-    }
-    1
-}
-
+// A file may stand behind standard output, too.
 fn begin_path(job: Job, name: Name, path: &[u8]) -> i32 {
     if is_standard(path) {
-        return begin_standard(job, name);
+        return if is_on_disk(1) && !is_output_apart(job, name, 1) {
+            -1
+        } else {
+            1
+        };
     }
     if is_free(name, path, output::target_of(path))
         && is_apart(job, name, path)
@@ -114,14 +107,14 @@ fn begin_path(job: Job, name: Name, path: &[u8]) -> i32 {
 }
 
 // Begins the output that the option names; -1 where that fails, which is said.
-pub fn begin_output(job: Job, name: Name, file: FileName) -> i32 {
+pub fn begin_output(job: Job, name: Name, file: Value) -> i32 {
     let mut path = io::buffer();
     let n = put_path(file, &mut path);
     begin_path(job, name, &path[..n])
 }
 
 // Ends it: it is there if all went well, else it never was. Answers the status.
-pub fn end_output(file: FileName, fd: i32, status: i32) -> i32 {
+pub fn end_output(file: Value, fd: i32, status: i32) -> i32 {
     let mut path = io::buffer();
     let n = put_path(file, &mut path);
     if status != 0 {

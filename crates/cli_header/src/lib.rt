@@ -1,13 +1,11 @@
 // The command header of hcaframe: the header of an HCA file, alone or in front of its frames.
 use self::copying::with_frames;
-use self::numbers::frames_size;
 use self::numbers::say_outside;
 use self::numbers::stream_of;
 use cli_files::job::Job;
 use cli_options::options::Options;
 use cli_options::options::option_number;
 use cli_runs::progress::Run;
-use cli_runs::progress::at_start;
 use cli_runs::progress::stopped;
 use cli_words::names::Name;
 use refusals_files::header::header_refusal;
@@ -16,14 +14,13 @@ mod copying;
 mod numbers;
 
 // The header, and what follows it.
-pub fn make_header(job: Job, options: Options) -> Run {
+pub fn make_header(job: Job, run: Run, options: Options) -> Run {
     let mut header = [0u8; 96];
     let answer = file_header::write_header(job.layout, stream_of(options), &mut header);
     let told = header_refusal(answer);
     if told.number != 0 {
         say_outside(options, told);
-        return stopped(at_start(), 2);
+        return stopped(run, 2);
     }
-    let count = option_number(options, Name::Count);
-    with_frames(job, count, frames_size(job.layout, count), &header)
+    with_frames(job, run, option_number(options, Name::Count), &header)
 }

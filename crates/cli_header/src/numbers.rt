@@ -48,41 +48,22 @@ const LIMITS: [u8; 235] = *b"\n\
     : --loop-start is #; it is at most 4294967167\n\
     : --loop-end is #; it is at most 4294967167\n";
 
-// The limit of a loop's end, on this line.
-fn broken_end(options: Options, name: Name, line: usize) -> Broken {
-    let n = option_number(options, name);
-    if 4294967167 < n {
+// What is broken already; else this number, by its line, if it is outside.
+fn or_outside(first: Broken, line: usize, n: usize, least: usize, most: usize) -> Broken {
+    if first.line == 0 && is_outside(n, least, most) {
         return broken_by(line, n, 0);
     }
-    broken_by(0, 0, 0)
-}
-
-fn broken_loop(options: Options) -> Broken {
-    let start = broken_end(options, Name::LoopStart, 5);
-    if start.line != 0 {
-        return start;
-    }
-    broken_end(options, Name::LoopEnd, 6)
+    first
 }
 
 // The first number that does not fit.
 fn broken_number(options: Options) -> Broken {
-    let rate = option_number(options, Name::Rate);
-    let count = option_number(options, Name::Count);
-    let padding = option_number(options, Name::Padding);
-    if 8 < options.channels {
-        return broken_by(1, options.channels, 0);
-    }
-    if is_outside(rate, 1, 8388607) {
-        return broken_by(2, rate, 0);
-    }
-    if 4294967295 < count {
-        return broken_by(3, count, 0);
-    }
-    if 65535 < padding {
-        return broken_by(4, padding, 0);
-    }
-    broken_loop(options)
+    let a = or_outside(broken_by(0, 0, 0), 1, options.channels, 1, 8);
+    let b = or_outside(a, 2, option_number(options, Name::Rate), 1, 8388607);
+    let c = or_outside(b, 3, option_number(options, Name::Count), 0, 4294967295);
+    let d = or_outside(c, 4, option_number(options, Name::Padding), 0, 65535);
+    let e = or_outside(d, 5, option_number(options, Name::LoopStart), 0, 4294967167);
+    or_outside(e, 6, option_number(options, Name::LoopEnd), 0, 4294967167)
 }
 
 // Of a refused header.

@@ -9,13 +9,12 @@ use cli_files::targets::end_output;
 use cli_options::faults::MISSING_FOR_S;
 use cli_options::faults::refuse_option;
 use cli_options::options::Options;
+use cli_options::options::Value;
 use cli_options::options::is_given;
-use cli_options::said::FileName;
-use cli_options::said::file_of;
+use cli_options::options::value_of;
 use cli_options::said::layout_from_words;
 use cli_reports::limits::is_possible;
 use cli_words::commands::Command;
-use cli_words::commands::is_encode;
 use cli_words::counts::has_secondary;
 use cli_words::counts::record_size;
 use cli_words::counts::side_value_count;
@@ -37,9 +36,7 @@ fn block_size(command: Command, layout: Layout) -> usize {
     match command {
         Command::Encode => spectra_size(layout),
         Command::Write => record_size(layout),
-        Command::Header => 1,
-        Command::Wav => 1,
-        Command::List => 1,
+        Command::Header | Command::Wav | Command::List => 1,
         _ => layout.frame_size,
     }
 }
@@ -47,23 +44,30 @@ fn block_size(command: Command, layout: Layout) -> usize {
 // Is the input made of frames?
 fn takes_frames(command: Command) -> bool {
     match command {
-        Command::Read => true,
-        Command::Check => true,
-        Command::Header => true,
+        Command::Read | Command::Check | Command::Header => true,
         _ => false,
     }
 }
 
-// Is the layout within its limits, where one is taken?
-fn has_layout(command: Command, layout: Layout) -> bool {
-    !takes_layout(command) || is_possible(layout)
+// Are the intensities there, where a channel of mixed spectra needs them? If not, that is said.
+fn has_intensities(options: Options, layout: Layout) -> bool {
+    if is_given(options, Name::Spectra)
+        && !is_given(options, Name::Intensities)
+        && has_secondary(layout)
+    {
+        refuse_option(options, Name::Intensities, MISSING_FOR_S);
+        return false;
+    }
+    true
 }
 
-// Are intensities needed, and not there? Mixing makes its own.
-fn lacks_intensities(options: Options, layout: Layout) -> bool {
-    has_secondary(layout)
-        && !is_given(options, Name::Intensities)
-        && !is_given(options, Name::Unmixed)
+// Can the command be done with these words and this layout? If not, that is said.
+fn is_sound(options: Options, layout: Layout) -> bool {
+    let command = options.command;
+    !options.is_bad
+        && (!takes_layout(command) || is_possible(layout))
+        && have_own_names(options)
+        && has_intensities(options, layout)
 }
 
 // The option of the input.
@@ -75,32 +79,12 @@ fn input_name(options: Options) -> Name {
     input_of(command)
 }
 
-// Can the command be done with these words and this layout? If not, that is said.
-fn is_sound(options: Options, layout: Layout) -> bool {
-    let command = options.command;
-    if options.is_bad || !has_layout(command, layout) || !have_own_names(options) {
-        return false;
-    }
-    if is_encode(command) && lacks_intensities(options, layout) {
-        refuse_option(options, Name::Intensities, MISSING_FOR_S);
-        return false;
-    }
-    true
-}
-
 // Where the text goes: nowhere, or to standard output.
 fn text_of(options: Options) -> i32 {
     if is_given(options, Name::Quiet) {
         -1
     } else {
         1
-    }
-}
-
-fn no_file() -> FileName {
-    FileName {
-        argument: 0,
-        start: 0,
     }
 }
 
@@ -115,9 +99,9 @@ fn unopened(options: Options, layout: Layout) -> Job {
         input_name: input_name(options),
         intensities: -1,
         output: -1,
-        output_file: no_file(),
+        output_file: value_of(options, output_of(command)),
         list: -1,
-        list_file: no_file(),
+        list_file: value_of(options, second_output_of(command)),
         text: text_of(options),
         is_ready: false,
         is_watched: libc::isatty(2) == 1,
@@ -126,15 +110,15 @@ fn unopened(options: Options, layout: Layout) -> Job {
 
 // With its input. Where that may be left out, the parser has let it pass.
 fn with_input(options: Options, job: Job) -> Job {
-    let mut j = job;
     let command = job.command;
-    let file = file_of(options, input_name(options));
-    if file.argument == 0 {
-        j.is_ready = true;
-        return j;
+    let name = job.input_name;
+    let file = value_of(options, name);
+    let mut j = job;
+    j.is_ready = true;
+    if file.argument != 0 {
+        j.input = open_blocks(file, job.size, takes_frames(command));
+        j.is_ready = 0 <= j.input;
     }
-    j.input = open_blocks(file, job.size, takes_frames(command));
-    j.is_ready = 0 <= j.input;
     j
 }
 
@@ -154,13 +138,49 @@ fn is_even(job: Job) -> bool {
 
 // With the intensities, if they are given.
 fn with_intensities(options: Options, job: Job) -> Job {
-    if !job.is_ready || !is_given(options, Name::Intensities) {
-        return job;
-    }
+    let file = value_of(options, Name::Intensities);
     let mut j = job;
-    let file = file_of(options, Name::Intensities);
-    j.intensities = open_blocks(file, side_value_count(job.layout), false);
-    j.is_ready = 0 <= j.intensities && is_even(j);
+    if job.is_ready && file.argument != 0 {
+        j.intensities = open_blocks(file, side_value_count(job.layout), false);
+        j.is_ready = 0 <= j.intensities && is_even(j);
+    }
+    j
+}
+
+// With its output, if there is one. Nothing has been read yet.
+fn with_output(job: Job) -> Job {
+    let command = job.command;
+    let file = job.output_file;
+    let mut j = job;
+    if job.is_ready && file.argument != 0 {
+        j.output = begin_output(job, output_of(command), file);
+        j.is_ready = 0 <= j.output;
+    }
+    j
+}
+
+// Begins the list beside the frames; -1 where that fails, which is said. It has room for 65,535 frames, as far as their number is known.
+fn begin_list(job: Job) -> i32 {
+    let n = blocks_in(job.input, job.size);
+    if n == usize::MAX || n <= 65535 {
+        return begin_output(job, Name::List, job.list_file);
+    }
+    say_form(
+        2,
+        b"hcaframe: a list has at most 65535 frames, and the spectra have #\n",
+        &[n],
+    );
+    -1
+}
+
+// With the list, if there is one.
+fn with_list(job: Job) -> Job {
+    let file = job.list_file;
+    let mut j = job;
+    if job.is_ready && file.argument != 0 {
+        j.list = begin_list(job);
+        j.is_ready = 0 <= j.list;
+    }
     j
 }
 
@@ -176,54 +196,6 @@ fn with_text(job: Job) -> Job {
     j
 }
 
-// With its output, if there is one. Nothing has been read yet.
-fn with_output(options: Options, job: Job) -> Job {
-    let command = job.command;
-    let name = output_of(command);
-    let mut j = job;
-    j.is_ready = job.is_ready && are_inputs_apart(job);
-    if !j.is_ready || !is_given(options, name) {
-        return j;
-    }
-    let file = file_of(options, name);
-    j.output = begin_output(job, name, file);
-    j.output_file = file;
-    j.is_ready = 0 <= j.output;
-    with_text(j)
-}
-
-// Can a list have as many frames, as far as that is known? If not, that is said.
-fn is_listable(job: Job) -> bool {
-    let n = blocks_in(job.input, job.size);
-    if n == usize::MAX || n <= 65535 {
-        return true;
-    }
-    say_form(
-        2,
-        b"hcaframe: a list has at most 65535 frames, and the spectra have #\n",
-        &[n],
-    );
-    false
-}
-
-// With the list beside the frames, if there is one.
-fn with_second(options: Options, job: Job) -> Job {
-    let command = job.command;
-    let name = second_output_of(command);
-    if !job.is_ready || !is_given(options, name) {
-        return job;
-    }
-    let mut j = job;
-    j.is_ready = is_listable(job);
-    if j.is_ready {
-        let file = file_of(options, name);
-        j.list = begin_output(job, name, file);
-        j.list_file = file;
-        j.is_ready = 0 <= j.list;
-    }
-    with_text(j)
-}
-
 // The job that the words say; what keeps it from being ready is said.
 pub fn opened(options: Options) -> Job {
     let layout = layout_from_words(options);
@@ -231,12 +203,13 @@ pub fn opened(options: Options) -> Job {
     if !is_sound(options, layout) {
         return job;
     }
-    let begun = with_output(options, with_intensities(options, with_input(options, job)));
-    with_second(options, begun)
+    let mut read = with_intensities(options, with_input(options, job));
+    read.is_ready = read.is_ready && are_inputs_apart(read);
+    with_text(with_list(with_output(read)))
 }
 
 // Ends an output, which is whole or not there unless it is standard output. Answers the status.
-fn ended_output(file: FileName, fd: i32, status: i32) -> i32 {
+fn ended_output(file: Value, fd: i32, status: i32) -> i32 {
     if fd < 3 {
         return status;
     }
@@ -244,8 +217,8 @@ fn ended_output(file: FileName, fd: i32, status: i32) -> i32 {
 }
 
 // The list has to be on the disk before the frames take their name.
-fn listed(job: Job, status: i32) -> i32 {
-    if status != 0 || job.list < 3 || is_on_disk(job.list) {
+fn listed(list: i32, status: i32) -> i32 {
+    if status != 0 || list < 3 || is_on_disk(list) {
         return status;
     }
     complain(b"writing");
@@ -254,7 +227,7 @@ fn listed(job: Job, status: i32) -> i32 {
 
 // Ends the outputs, and closes the inputs. Answers the status.
 pub fn ended(job: Job, status: i32) -> i32 {
-    let first = ended_output(job.output_file, job.output, listed(job, status));
+    let first = ended_output(job.output_file, job.output, listed(job.list, status));
     let last = ended_output(job.list_file, job.list, first);
     close_file(job.intensities);
     close_file(job.input);

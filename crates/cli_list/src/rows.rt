@@ -12,11 +12,7 @@ pub(crate) fn say_list_head(fd: i32) -> bool {
 }
 
 // Frame, level, boundary, pairs and bits.
-pub(crate) fn say_list_row(fd: i32, row: &[usize; 5]) -> bool {
-    say_row(fd, row, &[8, 7, 10, 7, 11])
-}
-
-fn say_frame_row(fd: i32, entries: &[u32], frame: usize) -> bool {
+pub(crate) fn say_frame_row(fd: i32, entries: &[u32], frame: usize) -> bool {
     let row = [
         frame,
         value(entries, frame, LEVEL),
@@ -24,7 +20,7 @@ fn say_frame_row(fd: i32, entries: &[u32], frame: usize) -> bool {
         value(entries, frame, PAIRS),
         value(entries, frame, BITS),
     ];
-    say_list_row(fd, &row)
+    say_row(fd, &row, &[8, 7, 10, 7, 11])
 }
 
 // A line a frame; false where something could not be written.

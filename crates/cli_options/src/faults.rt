@@ -1,7 +1,7 @@
 // What is wrong with a word, an option or a value.
 use crate::options::Options;
 use crate::options::spoilt;
-use crate::said::file_of;
+use crate::options::value_of;
 use crate::said::put_path;
 use cli_words::manual::say_usage;
 use cli_words::names::Name;
@@ -79,7 +79,7 @@ fn begin(options: Options) {
     say(2, b"hcaframe: ");
     if options.line != 0 {
         let mut path = io::buffer();
-        let n = put_path(file_of(options, Name::Layout), &mut path);
+        let n = put_path(value_of(options, Name::Layout), &mut path);
         say(2, &path[..n]);
         say_form(2, b", line #: ", &[options.line]);
     }

@@ -1,7 +1,5 @@
 // The words of a command. One parser takes those of the command line and those of a layout file.
-ghost use Prim.Native.Nat.{_≤_};
-ghost use lib.ListN.{length};
-use crate::kinds::kinds_of;
+use crate::kinds::channel;
 use crate::kinds::letters_fault;
 use cli_options::faults::EMPTY_NAME;
 use cli_options::faults::GIVEN_TWICE;
@@ -23,7 +21,7 @@ use cli_options::faults::refuse_word;
 use cli_options::options::Options;
 use cli_options::options::is_given;
 use cli_options::options::with_option;
-use cli_words::commands::is_encode;
+use cli_words::commands::Command;
 use cli_words::names::Name;
 use cli_words::names::is_needed;
 use cli_words::names::is_number;
@@ -32,7 +30,6 @@ use cli_words::names::is_taken;
 use cli_words::names::name_at;
 use cli_words::names::name_of;
 use cli_words::names::place_of;
-use cli_words::names::takes_layout;
 use places::more;
 use places::within;
 use text::names::Spelt;
@@ -46,6 +43,7 @@ fn take_number(options: Options, name: Name, word: &[u8]) -> Options {
     }
 }
 
+// A letter a channel.
 fn take_kinds(options: Options, word: &[u8]) -> Options {
     let fault = letters_fault(word);
     if fault != 0 {
@@ -53,8 +51,11 @@ fn take_kinds(options: Options, word: &[u8]) -> Options {
     }
     let mut o = with_option(options, Name::Kinds, 1);
     o.channels = word.len();
-    let kinds = kinds_of(word);
-    o.kinds = kinds;
+    let mut i = 0;
+    while i < 16 && i < word.len() {
+        o.kinds[i] = channel(word[i]);
+        i += 1;
+    }
     o
 }
 
@@ -66,17 +67,16 @@ fn take_file(options: Options, name: Name, word: &[u8]) -> Options {
     with_option(options, name, options.argument)
 }
 
-// The value begins at this byte of its argument.
-fn take_value(options: Options, start: usize, word: &[u8]) -> Options {
-    let mut o = options;
-    o.start = start;
+// The value of the option that waits for one. The one without a value never waits.
+fn take_value(options: Options, word: &[u8]) -> Options {
     let name = name_at(options.waiting);
     if is_number(name) {
-        return take_number(o, name, word);
+        return take_number(options, name, word);
     }
     match name {
-        Name::Kinds => take_kinds(o, word),
-        _ => take_file(o, name, word),
+        Name::Kinds => take_kinds(options, word),
+        Name::Quiet => refuse_option(options, name, TAKES_NO_VALUE),
+        _ => take_file(options, name, word),
     }
 }
 
@@ -98,30 +98,7 @@ fn option_fault(options: Options, name: Name) -> usize {
     0
 }
 
-// The one option without a value.
-fn take_quiet(options: Options, has_value: bool) -> Options {
-    if has_value {
-        return refuse_option(options, Name::Quiet, TAKES_NO_VALUE);
-    }
-    with_option(options, Name::Quiet, 1)
-}
-
-// An option that may be taken, with the value that stands behind its =, or that comes next.
-fn take_named(options: Options, name: Name, word: &[u8], end: usize) -> Options
-    requires { ⌜ end ≤ length (now word) ⌝ }
-{
-    if place_of(name) == place_of(Name::Quiet) {
-        return take_quiet(options, end < word.len());
-    }
-    let mut o = options;
-    o.waiting = place_of(name);
-    if end < word.len() {
-        let start = end + 1;
-        return take_value(o, start, &word[start..]);
-    }
-    o
-}
-
+// An option, with the value that stands behind its =, or that comes next.
 fn take_option(options: Options, word: &[u8]) -> Options {
     let end = within(part_end(word, 0, b'='), word);
     let name = name_of(&word[..end]);
@@ -129,15 +106,26 @@ fn take_option(options: Options, word: &[u8]) -> Options {
     if fault != 0 {
         return refuse_word(options, &word[..end], fault);
     }
-    take_named(options, name, word, end)
+    let mut o = options;
+    o.waiting = place_of(name);
+    if end < word.len() {
+        let start = end + 1;
+        o.start = start;
+        return take_value(o, &word[start..]);
+    }
+    match name {
+        Name::Quiet => with_option(o, name, 1),
+        _ => o,
+    }
 }
 
 // A word of this line of a layout file, or with line 0 of the command line.
 pub(crate) fn take_word(options: Options, line: usize, word: &[u8]) -> Options {
     let mut o = options;
     o.line = line;
+    o.start = 0;
     if o.waiting != 0 {
-        return take_value(o, 0, word);
+        return take_value(o, word);
     }
     take_option(o, word)
 }
@@ -150,79 +138,69 @@ pub(crate) fn closed(options: Options) -> Options {
     refuse_option(options, name_at(options.waiting), NO_VALUE)
 }
 
-// Is the option needed, and not there?
-fn lacks(options: Options, name: Name) -> bool {
+// Why an option that is needed is not there; 0 if it is, or is not needed.
+fn missing_fault(options: Options, name: Name) -> usize {
     let command = options.command;
-    is_needed(command, name) && !is_given(options, name)
-}
-
-fn without(options: Options, name: Name) -> Options {
-    if is_of_layout(name) && !is_given(options, Name::Layout) {
-        return refuse_option(options, name, MISSING_FOR_LAYOUT);
+    if !is_needed(command, name) || is_given(options, name) {
+        return 0;
     }
-    refuse_option(options, name, MISSING)
+    if is_of_layout(name) && !is_given(options, Name::Layout) {
+        return MISSING_FOR_LAYOUT;
+    }
+    MISSING
 }
 
 // Everything that the command needs must be there.
 fn complete(options: Options) -> Options {
     let mut k = 1;
-    while k < 24 {
+    while k < 24 && !options.is_bad {
         let name = name_at(k);
-        if lacks(options, name) {
-            return without(options, name);
+        let fault = missing_fault(options, name);
+        if fault != 0 {
+            return refuse_option(options, name, fault);
         }
         k += 1;
     }
     options
 }
 
-// Is one of the two given without the other?
-fn is_half(options: Options, name: Name, other: Name) -> bool {
-    is_given(options, name) && !is_given(options, other)
-}
-
-// A size alone, of which no layout speaks, is for a picture.
-fn with_drawn_size(options: Options) -> Options {
-    let command = options.command;
-    if !takes_layout(command) && is_half(options, Name::FrameSize, Name::Svg) {
-        return refuse_option(options, Name::FrameSize, WITHOUT_SVG);
+// The option, if it is given, must have the other beside it.
+fn with_other(options: Options, name: Name, other: Name, fault: usize) -> Options {
+    if is_given(options, name) && !is_given(options, other) {
+        return refuse_option(options, name, fault);
     }
     options
 }
 
 // A loop has both of its ends.
-fn paired(options: Options) -> Options {
-    if is_half(options, Name::LoopStart, Name::LoopEnd) {
-        return refuse_option(options, Name::LoopStart, WITHOUT_LOOP_END);
-    }
-    if is_half(options, Name::LoopEnd, Name::LoopStart) {
-        return refuse_option(options, Name::LoopEnd, WITHOUT_LOOP_START);
-    }
-    with_drawn_size(options)
+fn with_both_ends(options: Options) -> Options {
+    let o = with_other(options, Name::LoopStart, Name::LoopEnd, WITHOUT_LOOP_END);
+    with_other(o, Name::LoopEnd, Name::LoopStart, WITHOUT_LOOP_START)
 }
 
 // The stage takes spectra or unmixed ones.
 fn with_one_input(options: Options) -> Options {
-    let command = options.command;
-    if !is_encode(command) {
+    let is_mixed = is_given(options, Name::Spectra);
+    if is_mixed != is_given(options, Name::Unmixed) {
         return options;
     }
-    if is_half(options, Name::Spectra, Name::Unmixed)
-        || is_half(options, Name::Unmixed, Name::Spectra)
-    {
-        return options;
-    }
-    if is_given(options, Name::Spectra) {
+    if is_mixed {
         return refuse_option(options, Name::Spectra, TWO_SPECTRA);
     }
     refuse_option(options, Name::Spectra, NO_SPECTRA)
 }
 
-// All that is there must be whole.
+// All that is there must be whole. The size of a frame, where no layout speaks of it, is for a picture.
 pub(crate) fn whole_words(options: Options) -> Options {
     let o = complete(options);
     if o.is_bad {
         return o;
     }
-    with_one_input(paired(o))
+    let command = options.command;
+    match command {
+        Command::Encode => with_one_input(o),
+        Command::Header => with_both_ends(o),
+        Command::List => with_other(o, Name::FrameSize, Name::Svg, WITHOUT_SVG),
+        _ => o,
+    }
 }

@@ -1,5 +1,5 @@
 // Where the words come from: the command line, and a layout file.
-ghost use Prim.Native.Nat.{_≤_, _<_};
+ghost use Prim.Native.Nat.{_≤_};
 ghost use lib.ListN.{length};
 use crate::parser::closed;
 use crate::parser::take_word;
@@ -10,13 +10,14 @@ use cli_options::options::Options;
 use cli_options::options::is_given;
 use cli_options::options::none_yet;
 use cli_options::options::spoilt;
-use cli_options::said::file_of;
+use cli_options::options::value_of;
 use cli_options::said::put_path;
 use cli_words::commands::Command;
 use cli_words::manual::complain;
 use cli_words::names::Name;
 use places::more;
 use text::blocks::is_at_end;
+use text::tables::part_end;
 use whole_files::standard::open_input;
 
 fn take_argument(options: Options, i: usize) -> Options {
@@ -43,88 +44,48 @@ fn from_arguments(command: Command) -> Options {
     closed(o)
 }
 
-fn is_blank(b: u8) -> bool {
-    b == b' ' || b == b'\t' || b == b'\r' || b == b'\n'
-}
-
-// Does a comment begin here? It begins a line.
-fn is_comment(text: &[u8], i: usize) -> bool
-    requires { ⌜ i < length (now text) ⌝ }
-{
-    if text[i] != b'#' {
-        return false;
-    }
-    if i == 0 {
-        return true;
-    }
-    text[i - 1] == b'\n'
-}
-
-// Where the next word begins, past blanks and comments; the text's end if there is none.
-fn word_start(text: &[u8], at: usize) -> usize
-    ensures { λ r. ⌜ r ≤ length (now (text .entry)) ⌝ }
-{
-    let mut is_passed = false;
-    let mut i = at;
-    while i < text.len() {
-        if is_passed {
-            is_passed = text[i] != b'\n';
-        } else if is_comment(text, i) {
-            is_passed = true;
-        } else if !is_blank(text[i]) {
-            return i;
-        }
-        i += 1;
-    }
-    text.len()
-}
-
-// Where the word that begins here ends.
+// Where the word that begins here ends: here, where a blank stands.
 fn word_end(text: &[u8], start: usize) -> usize
     requires { ⌜ start ≤ length (now text) ⌝ }
     ensures { λ r. ⌜ (start ≤ r) × (r ≤ length (now (text .entry))) ⌝ }
 {
     let mut i = start;
     while i < text.len() {
-        if is_blank(text[i]) {
-            return i;
+        let b = text[i];
+        match b {
+            b' ' | b'\t' | b'\r' => return i,
+            _ => i += 1,
         }
-        i += 1;
     }
     i
 }
 
-// The next place to look: each turn goes on by a byte at least.
-fn further(at: usize, end: usize, len: usize) -> usize
-    requires { ⌜ at < len ⌝ }
-    ensures { λ r. ⌜ at < r ⌝ }
-{
-    if at < end { end } else { at + 1 }
-}
-
-// The line that a place of the text is on, from 1 on.
-fn line_at(text: &[u8], at: usize) -> usize {
-    let mut line = 1;
-    let mut i = 0;
-    while i < text.len() {
-        if i < at && text[i] == b'\n' {
-            line = more(line, 1);
-        }
-        i += 1;
-    }
-    line
-}
-
-fn take_words(options: Options, text: &[u8]) -> Options {
+// The words of this line of a layout file.
+fn take_words(options: Options, line: usize, text: &[u8]) -> Options {
     let mut o = options;
     let mut at = 0;
     while at < text.len() {
-        let a = word_start(text, at);
-        let e = word_end(text, a);
-        if a < e && !o.is_bad {
-            o = take_word(o, line_at(text, a), &text[a..e]);
+        let end = word_end(text, at);
+        if at < end && !o.is_bad {
+            o = take_word(o, line, &text[at..end]);
         }
-        at = further(at, e, text.len());
+        at = end + 1;
+    }
+    o
+}
+
+// The lines of a layout file. One that begins with # is a comment.
+fn take_lines(options: Options, text: &[u8]) -> Options {
+    let mut o = options;
+    let mut line = 1;
+    let mut at = 0;
+    while at < text.len() {
+        let end = part_end(text, at, b'\n');
+        if text[at] != b'#' {
+            o = take_words(o, line, &text[at..end]);
+        }
+        line = more(line, 1);
+        at = end + 1;
     }
     o
 }
@@ -138,14 +99,14 @@ fn from_open(options: Options, path: &[u8], fd: i32) -> Options {
     if !is_at_end(fd) {
         return refuse_word(o, path, NO_LAYOUT_FILE);
     }
-    let mut all = closed(take_words(o, &text[..n]));
+    let mut all = closed(take_lines(o, &text[..n]));
     all.line = 0;
     all
 }
 
 fn from_layout(options: Options) -> Options {
     let mut path = io::buffer();
-    let n = put_path(file_of(options, Name::Layout), &mut path);
+    let n = put_path(value_of(options, Name::Layout), &mut path);
     let fd = open_input(&path[..n]);
     if fd < 0 {
         complain(&path[..n]);
@@ -156,16 +117,9 @@ fn from_layout(options: Options) -> Options {
 
 // The words of a command, from wherever they come.
 pub fn all_words(command: Command) -> Options {
-    let o = from_arguments(command);
-    if o.is_bad {
-        return o;
+    let mut o = from_arguments(command);
+    if !o.is_bad && is_given(o, Name::Layout) {
+        o = from_layout(o);
     }
-    if !is_given(o, Name::Layout) {
-        return whole_words(o);
-    }
-    let all = from_layout(o);
-    if all.is_bad {
-        return all;
-    }
-    whole_words(all)
+    whole_words(o)
 }

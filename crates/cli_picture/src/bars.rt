@@ -1,9 +1,9 @@
 // Bars of one value a frame. A long line's frames are gathered into a thousand columns, and a column shows the most of its frames.
-use crate::values::less;
 use crate::values::most_of;
 use crate::values::per;
 use crate::values::thousandths;
 use places::at_most;
+use places::less;
 use places::more;
 use text::forms::say_form;
 
@@ -14,7 +14,7 @@ fn say_bar(fd: i32, column: usize, columns: usize, height: usize) -> bool {
     }
     let left = at_most(column, 1000) * 10000;
     let x = per(left, columns);
-    let width = at_most(less(per(left + 10000, columns), x), 10000);
+    let width = less(per(left + 10000, columns), x);
     // a tenth is left free between two bars
     say_form(
         fd,

@@ -14,12 +14,12 @@ use text::lines::say;
 // The picture is lower where no bits are drawn.
 fn say_head(fd: i32, has_bits: bool) -> bool {
     let height = if has_bits { 600 } else { 450 };
-    say(fd, b"<?xml version='1.0' encoding='UTF-8'?>\n")
-        && say_form(
-            fd,
-            b"<svg xmlns='http://www.w3.org/2000/svg' width='1200' height='#' viewBox='0 0 1200 #'>\n",
-            &[height, height],
-        )
+    say_form(
+        fd,
+        b"<?xml version='1.0' encoding='UTF-8'?>\n\
+          <svg xmlns='http://www.w3.org/2000/svg' width='1200' height='#' viewBox='0 0 1200 #'>\n",
+        &[height, height],
+    )
         && say(
             fd,
             b"<style>text { font: 13px sans-serif; fill: #333 } .number { text-anchor: end } .worst { text-anchor: middle; fill: #a40000 }\n\
@@ -31,43 +31,33 @@ fn say_head(fd: i32, has_bits: bool) -> bool {
 fn say_title(fd: i32, frames: usize, level: usize, pairs: usize) -> bool {
     say_form(
         fd,
-        b"<text x='60' y='24'>Frames: #. Highest level: #. Most pairs of bands removed: #.</text>\n",
+        b"<text x='60' y='24'>Frames: #. Highest level: #. Most pairs of bands removed: #.</text>\n\
+          <text x='60' y='46'>Level of each frame: the higher, the coarser. The frames that were starved most have their number.</text>\n",
         &[frames, level, pairs],
     )
-        && say(
-            fd,
-            b"<text x='60' y='46'>Level of each frame: the higher, the coarser. The frames that were starved most have their number.</text>\n",
-        )
 }
 
-// A line across the field, with its number on the left.
-fn say_tick(fd: i32, y: usize, number: usize) -> bool {
+// A field has lines across it with their numbers on the left, and then its bars as a group.
+fn say_levels(fd: i32, entries: &[u32], frames: usize, top: usize) -> bool {
     say_form(
         fd,
-        b"<line x1='60' y1='#' x2='1160' y2='#'/><text class='number' x='52' y='#'>#</text>\n",
-        &[y, y, at_most(y, 600) + 4, number],
+        b"<line x1='60' y1='80' x2='1160' y2='80'/><text class='number' x='52' y='84'>#</text>\n\
+          <line x1='60' y1='200' x2='1160' y2='200'/><text class='number' x='52' y='204'>#</text>\n\
+          <line x1='60' y1='320' x2='1160' y2='320'/><text class='number' x='52' y='324'>0</text>\n\
+          <g class='level' transform='translate(60 320) scale(0.11 -0.24)'>\n",
+        &[top, top / 2],
     )
-}
-
-fn say_levels(fd: i32, entries: &[u32], frames: usize, top: usize) -> bool {
-    say_tick(fd, 80, top)
-        && say_tick(fd, 200, top / 2)
-        && say_tick(fd, 320, 0)
-        && say(
-            fd,
-            b"<g class='level' transform='translate(60 320) scale(0.11 -0.24)'>\n",
-        )
         && say_bars(fd, entries, frames, LEVEL, top)
         && say(fd, b"</g>\n")
         && say_worst(fd, entries, frames, top)
 }
 
 fn say_pairs(fd: i32, entries: &[u32], frames: usize) -> bool {
-    say_tick(fd, 410, 63)
-        && say(
-            fd,
-            b"<g class='pairs' transform='translate(60 330) scale(0.11 0.08)'>\n",
-        )
+    say(
+        fd,
+        b"<line x1='60' y1='410' x2='1160' y2='410'/><text class='number' x='52' y='414'>63</text>\n\
+          <g class='pairs' transform='translate(60 330) scale(0.11 0.08)'>\n",
+    )
         && say_bars(fd, entries, frames, PAIRS, 63)
         && say(
             fd,
@@ -82,12 +72,13 @@ fn say_bits(fd: i32, entries: &[u32], frames: usize, frame_size: usize) -> bool 
         return true;
     }
     let room = 8 * (f - 2);
-    say_tick(fd, 560, 0)
-        && say_tick(fd, 460, room)
-        && say(
-            fd,
-            b"<g class='bits' transform='translate(60 560) scale(0.11 -0.1)'>\n",
-        )
+    say_form(
+        fd,
+        b"<line x1='60' y1='560' x2='1160' y2='560'/><text class='number' x='52' y='564'>0</text>\n\
+          <line x1='60' y1='460' x2='1160' y2='460'/><text class='number' x='52' y='464'>#</text>\n\
+          <g class='bits' transform='translate(60 560) scale(0.11 -0.1)'>\n",
+        &[room],
+    )
         && say_bars(fd, entries, frames, BITS, room)
         && say_form(
             fd,
@@ -96,14 +87,14 @@ fn say_bits(fd: i32, entries: &[u32], frames: usize, frame_size: usize) -> bool 
         )
 }
 
-// The time axis: first and last frame.
-fn say_ends(fd: i32, frames: usize) -> bool {
+// The time axis, first and last frame, and the picture's end.
+fn say_end(fd: i32, frames: usize) -> bool {
     if frames == 0 {
-        return say(fd, b"<text x='560' y='200'>no frames</text>\n");
+        return say(fd, b"<text x='560' y='200'>no frames</text>\n</svg>\n");
     }
     say_form(
         fd,
-        b"<text class='number' x='1160' y='434'>frames 0 to #</text>\n",
+        b"<text class='number' x='1160' y='434'>frames 0 to #</text>\n</svg>\n",
         &[frames - 1],
     )
 }
@@ -119,6 +110,5 @@ pub fn draw_list(fd: i32, entries: &[u32], frames: usize, frame_size: usize) -> 
         && say_levels(fd, entries, n, top)
         && say_pairs(fd, entries, n)
         && say_bits(fd, entries, n, frame_size)
-        && say_ends(fd, n)
-        && say(fd, b"</svg>\n")
+        && say_end(fd, n)
 }

@@ -46,9 +46,9 @@ pub(crate) fn per(n: usize, divisor: usize) -> usize {
     if divisor == 0 { 0 } else { n / divisor }
 }
 
-// 0 where there is less.
-pub(crate) fn less(n: usize, m: usize) -> usize {
-    if n < m { 0 } else { n - m }
+// How far apart two frames are.
+pub(crate) fn distance(a: usize, b: usize) -> usize {
+    if a < b { b - a } else { a - b }
 }
 
 // The value's share of the top, in thousandths, never above it.

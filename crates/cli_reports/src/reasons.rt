@@ -6,9 +6,9 @@ use text::forms::put_form;
 use text::lines::put_text;
 use text::lines::say_line;
 
-// A line for each refusal by its number, one that no call gives too, with that number and, where document 01 has one, the number beside it. The last
-// line is for any other.
-const FORMS: [u8; 1515] = *b"refusal #: unknown\n\
+// A line for each refusal by its number, one that no call gives too, with that number and, where document 01 has one, the number beside it. The first
+// line is for none, the last for any other.
+const FORMS: [u8; 1501] = *b"good\n\
     refusal #: the layout is outside its limits\n\
     refusal #: a lent buffer is too short\n\
     refusal # at #: a secondary's intensity is above 15\n\
@@ -48,7 +48,7 @@ fn put_told(line: &mut [u8], at: usize, told: Refusal) -> usize {
     put_entry(line, at, &FORMS, at_most(told.number, 32), &numbers)
 }
 
-// A frame's refusal, on the descriptor.
+// A frame's refusal, or that it is good, on the descriptor.
 pub fn say_refusal(fd: i32, frame: usize, told: Refusal) -> bool {
     let mut line = [0u8; 256];
     let at = put_form(&mut line, 0, b"frame #: ", &[frame]);

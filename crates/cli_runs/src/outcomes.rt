@@ -3,7 +3,6 @@ use crate::progress::Run;
 use crate::progress::ended_by;
 use crate::progress::entry_of_frame;
 use crate::progress::frame_done;
-use crate::progress::text_to;
 use crate::progress::text_told;
 use crate::records::keep_record;
 use cli_files::job::Job;
@@ -15,10 +14,10 @@ use cli_reports::table::say_stage_head;
 use cli_reports::table::say_stage_row;
 use cli_words::commands::Command;
 use cli_words::commands::is_check;
+use places::at_most;
 use places::more;
 use refusals::Refusal;
 use refusals::read_refusal;
-use refusals::stage_refusal;
 use refusals::stereo::stereo_refusal;
 use refusals::write_refusal;
 use rules::ReadAnswer;
@@ -33,21 +32,17 @@ fn with_bytes(job: Job, run: Run, frame: &[u8]) -> Run {
     frame_done(job, run, put_out(job.output, frame, job.layout.frame_size))
 }
 
-pub fn after_encode(job: Job, run: Run, answer: StageAnswer, frame: &[u8]) -> Run {
-    let StageAnswer::Delivered(level, boundary, pairs, bits) = answer else {
-        return ended_by(run, stage_refusal(answer));
-    };
-    let row = [run.done, level, boundary, pairs, bits];
-    let mut r = text_told(run, say_stage_row(text_to(job, run), &row));
-    r.last = entry_of_frame(level, boundary, pairs, bits);
-    with_bytes(job, r, frame)
-}
-
-pub fn after_mixing(job: Job, run: Run, answer: StereoAnswer, frame: &[u8]) -> Run {
+pub fn after_encode(job: Job, run: Run, answer: StereoAnswer, frame: &[u8]) -> Run {
     let StereoAnswer::Of(stage) = answer else {
         return ended_by(run, stereo_refusal(answer));
     };
-    after_encode(job, run, stage, frame)
+    let StageAnswer::Delivered(level, boundary, pairs, bits) = stage else {
+        return ended_by(run, stereo_refusal(answer));
+    };
+    let row = [run.done, level, boundary, pairs, bits];
+    let mut r = text_told(run, say_stage_row(run.text, &row));
+    r.last = entry_of_frame(level, boundary, pairs, bits);
+    with_bytes(job, r, frame)
 }
 
 pub fn after_write(job: Job, run: Run, answer: WriteAnswer, frame: &[u8]) -> Run {
@@ -55,33 +50,10 @@ pub fn after_write(job: Job, run: Run, answer: WriteAnswer, frame: &[u8]) -> Run
         return ended_by(run, write_refusal(answer));
     };
     let row = [run.done, level, boundary, bits];
-    with_bytes(
-        job,
-        text_told(run, say_record_row(text_to(job, run), &row)),
-        frame,
-    )
+    with_bytes(job, text_told(run, say_record_row(run.text, &row)), frame)
 }
 
-// What a frame holds, told in words and kept as a record. The head is frame, level, boundary and bits.
-fn say_and_keep(
-    job: Job,
-    run: Run,
-    head: &[usize; 4],
-    factors: &[u8],
-    side: &[u8],
-    codes: &[i32],
-) -> Run {
-    let r = text_told(
-        run,
-        say_frame(text_to(job, run), head, job.layout, factors, side, codes),
-    );
-    frame_done(
-        job,
-        r,
-        keep_record(job, head[1], head[2], factors, side, codes),
-    )
-}
-
+// What a frame holds, told in words and kept as a record.
 fn found(
     job: Job,
     run: Run,
@@ -94,18 +66,15 @@ fn found(
         return ended_by(run, read_refusal(answer));
     };
     let head = [run.done, level, boundary, bits];
-    say_and_keep(job, run, &head, factors, side, codes)
+    let is_told = say_frame(run.text, &head, job.layout, factors, side, codes);
+    let r = text_told(run, is_told);
+    frame_done(job, r, keep_record(job, &head, factors, side, codes))
 }
 
 // Whether a frame is good. A refused one is counted, and the run goes on.
 fn checked(job: Job, run: Run, answer: Refusal) -> Run {
-    let text = text_to(job, run);
-    if answer.number == 0 {
-        let is_told = say_form(text, b"frame #: good\n", &[run.done]);
-        return frame_done(job, text_told(run, is_told), true);
-    }
-    let mut r = text_told(run, say_refusal(text, run.done, answer));
-    r.refused = more(run.refused, 1);
+    let mut r = text_told(run, say_refusal(run.text, run.done, answer));
+    r.refused = more(run.refused, at_most(answer.number, 1));
     frame_done(job, r, true)
 }
 
@@ -134,19 +103,12 @@ pub fn say_first(job: Job) -> bool {
     }
 }
 
-fn good(run: Run) -> usize {
-    if run.done < run.refused {
-        return 0;
-    }
-    run.done - run.refused
-}
-
 // The last line.
 pub fn say_last(job: Job, run: Run) -> bool {
-    let text = text_to(job, run);
     let command = job.command;
     if is_check(command) {
-        return say_form(text, b"# good, # refused\n", &[good(run), run.refused]);
+        let good = run.done - at_most(run.refused, run.done);
+        return say_form(run.text, b"# good, # refused\n", &[good, run.refused]);
     }
-    say_form(text, b"# frames, # bytes\n", &[run.done, run.bytes])
+    say_form(run.text, b"# frames, # bytes\n", &[run.done, run.bytes])
 }

@@ -1,6 +1,7 @@
-// How far a command is.
+// How far a command is, and how it ends.
 use cli_files::headers::say_whole_hca;
 use cli_files::job::Job;
+use cli_reports::reasons::say_call_refusal;
 use cli_reports::reasons::say_refusal;
 use cli_words::counts::side_value_count;
 use cli_words::manual::complain;
@@ -13,16 +14,16 @@ use text::blocks::next_block;
 use text::forms::say_form;
 use text::lines::say;
 
-// Frames done, their bytes, and how many were refused; the last frame's numbers as a list has them; the status so far; whether there is more to do;
-// whether the text has ended before the work, and whether by a fault.
+// Where the text goes, -1 for nowhere; frames done, their bytes, and how many were refused; the last frame's numbers as a list has them; the status so
+// far; whether there is more to do; whether the text has ended by a fault.
 pub struct Run {
+    pub text: i32,
     pub done: usize,
     pub bytes: usize,
     pub refused: usize,
     pub last: Entry,
     pub status: i32,
     pub is_going: bool,
-    pub is_mute: bool,
     pub is_text_lost: bool,
 }
 
@@ -36,15 +37,15 @@ pub(crate) fn entry_of_frame(level: usize, boundary: usize, pairs: usize, bits: 
     }
 }
 
-pub fn at_start() -> Run {
+pub fn at_start(text: i32) -> Run {
     Run {
+        text: text,
         done: 0,
         bytes: 0,
         refused: 0,
         last: entry_of_frame(0, 0, 0, 0),
         status: 0,
         is_going: true,
-        is_mute: false,
         is_text_lost: false,
     }
 }
@@ -56,18 +57,13 @@ pub fn stopped(run: Run, status: i32) -> Run {
     r
 }
 
-// Where the text goes now.
-pub(crate) fn text_to(job: Job, run: Run) -> i32 {
-    if run.is_mute { -1 } else { job.text }
-}
-
 // The text ends where it cannot be written, and the work goes on. A reader who has had enough is no fault.
 pub fn text_told(run: Run, is_told: bool) -> Run {
     if is_told {
         return run;
     }
     let mut r = run;
-    r.is_mute = true;
+    r.text = -1;
     if os::errno() != libc::EPIPE {
         complain(b"standard output");
         r.is_text_lost = true;
@@ -86,6 +82,45 @@ pub fn last_status(run: Run, status: i32) -> i32 {
     if run.refused == 0 { 0 } else { 1 }
 }
 
+// The run ends where its file could not be written.
+pub fn written(run: Run, is_written: bool) -> Run {
+    if is_written {
+        return run;
+    }
+    complain(b"writing");
+    stopped(run, 2)
+}
+
+// Of an input that could not be read.
+pub fn unread(run: Run) -> Run {
+    complain(b"reading");
+    stopped(run, 2)
+}
+
+// Of an input that cannot be taken: the text says why.
+pub fn unfit(run: Run, text: &[u8]) -> Run {
+    say(2, text);
+    stopped(run, 2)
+}
+
+// A refused frame ends the run.
+pub(crate) fn ended_by(run: Run, told: Refusal) -> Run {
+    say_refusal(2, run.done, told);
+    stopped(run, 1)
+}
+
+// So does a refused call on a whole file.
+pub fn refused_by(run: Run, told: Refusal) -> Run {
+    say_call_refusal(told, b"\n", 0, &[0]);
+    stopped(run, 1)
+}
+
+// A stream that begins with the header of a whole HCA file.
+pub fn without_frames(run: Run, head: &[u8]) -> Run {
+    say_whole_hca(b"the input", head);
+    stopped(run, 2)
+}
+
 // On a terminal only, every 64 frames. The next line that is written there covers it.
 fn say_progress(job: Job, done: usize) {
     if job.is_watched && done % 64 == 0 {
@@ -102,51 +137,29 @@ pub fn end_progress(job: Job, run: Run) {
 
 // A frame is done, if its bytes could be written.
 pub(crate) fn frame_done(job: Job, run: Run, is_written: bool) -> Run {
-    if !is_written {
-        complain(b"writing");
-        return stopped(run, 2);
+    let mut r = written(run, is_written);
+    if is_written {
+        r.done = more(run.done, 1);
+        r.bytes = more(run.bytes, job.layout.frame_size);
+        say_progress(job, r.done);
     }
-    let mut r = run;
-    r.done = more(run.done, 1);
-    r.bytes = more(run.bytes, job.layout.frame_size);
-    say_progress(job, r.done);
     r
 }
 
-// A stream that begins with the header of a whole HCA file.
-pub fn without_frames(run: Run, head: &[u8]) -> Run {
-    say_whole_hca(b"the input", head);
-    stopped(run, 2)
-}
-
-// A refused frame ends the run.
-pub(crate) fn ended_by(run: Run, told: Refusal) -> Run {
-    say_refusal(2, run.done, told);
-    stopped(run, 1)
-}
-
-// Of a file whose length was not known before.
-fn say_cut(frame: usize, n: usize, size: usize) {
-    say_form(
-        2,
-        b"hcaframe: the input ends within frame #; bytes of it: # of #\n",
-        &[frame, n, size],
-    );
-}
-
-// A block that is not whole: the file's end, a short one, or a failed read.
+// A block that is not whole: the file's end, a short one of a file whose length was not known before, or a failed read.
 fn at_end(run: Run, block: Block, size: usize) -> Run {
     match block {
         Block::Whole => run,
         Block::End => stopped(run, 0),
         Block::Short(n) => {
-            say_cut(run.done, n, size);
+            say_form(
+                2,
+                b"hcaframe: the input ends within frame #; bytes of it: # of #\n",
+                &[run.done, n, size],
+            );
             stopped(run, 2)
         }
-        Block::Failed => {
-            complain(b"reading");
-            stopped(run, 2)
-        }
+        Block::Failed => unread(run),
     }
 }
 
@@ -161,10 +174,7 @@ pub fn take_intensities(job: Job, intensities: &mut [u8]) -> Block {
 // Of intensities that are not whole.
 pub fn without_intensities(job: Job, run: Run, block: Block) -> Run {
     match block {
-        Block::End => {
-            say(2, b"hcaframe: the intensities end before the spectra\n");
-            stopped(run, 2)
-        }
+        Block::End => unfit(run, b"hcaframe: the intensities end before the spectra\n"),
         _ => at_end(run, block, side_value_count(job.layout)),
     }
 }
@@ -174,8 +184,7 @@ fn at_both_ends(job: Job, run: Run) -> Run {
     if job.intensities < 0 || is_at_end(job.intensities) {
         return stopped(run, 0);
     }
-    say(2, b"hcaframe: the spectra end before the intensities\n");
-    stopped(run, 2)
+    unfit(run, b"hcaframe: the spectra end before the intensities\n")
 }
 
 // Of an input's block that is not whole.
@@ -183,12 +192,5 @@ pub fn without_block(job: Job, run: Run, block: Block) -> Run {
     match block {
         Block::End => at_both_ends(job, run),
         _ => at_end(run, block, job.size),
-    }
-}
-
-pub fn is_whole_block(block: Block) -> bool {
-    match block {
-        Block::Whole => true,
-        _ => false,
     }
 }

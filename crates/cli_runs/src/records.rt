@@ -1,8 +1,6 @@
 // Records in the form of a file: level and boundary, factors from byte 8 on, then side values, then codes.
 use binary::values::put_bytes;
 use binary::values::put_ints;
-use binary::values::take_bytes;
-use binary::values::take_ints;
 use binary::words::put_word;
 use cli_files::job::Job;
 use cli_words::counts::factor_count;
@@ -12,21 +10,17 @@ use cli_words::counts::value_count;
 use rules::Layout;
 use text::lines::put_out;
 
-fn put_head(out: &mut [u8], level: usize, boundary: usize) {
-    put_word(out, 0, level);
-    put_word(out, 4, boundary);
-}
-
+// The head is frame, level, boundary and bits.
 fn put_record(
     out: &mut [u8],
     layout: Layout,
-    level: usize,
-    boundary: usize,
+    head: &[usize; 4],
     factors: &[u8],
     side: &[u8],
     codes: &[i32],
 ) {
-    put_head(out, level, boundary);
+    put_word(out, 0, head[1]);
+    put_word(out, 4, head[2]);
     let a = put_bytes(out, 8, factors, factor_count(layout));
     let b = put_bytes(out, a, side, side_value_count(layout));
     put_ints(out, b, codes, value_count(layout));
@@ -35,8 +29,7 @@ fn put_record(
 // Written where a file for the records is asked for.
 pub(crate) fn keep_record(
     job: Job,
-    level: usize,
-    boundary: usize,
+    head: &[usize; 4],
     factors: &[u8],
     side: &[u8],
     codes: &[i32],
@@ -45,21 +38,6 @@ pub(crate) fn keep_record(
         return true;
     }
     let mut out = [0u8; 67720];
-    put_record(&mut out, job.layout, level, boundary, factors, side, codes);
+    put_record(&mut out, job.layout, head, factors, side, codes);
     put_out(job.output, &out, record_size(job.layout))
-}
-
-// Takes a record apart.
-pub fn take_record(
-    layout: Layout,
-    block: &[u8],
-    factors: &mut [u8],
-    side: &mut [u8],
-    codes: &mut [i32],
-) {
-    let n = factor_count(layout);
-    let m = side_value_count(layout);
-    take_bytes(block, 8, n, factors);
-    take_bytes(block, 8 + n, m, side);
-    take_ints(block, 8 + n + m, value_count(layout), codes);
 }

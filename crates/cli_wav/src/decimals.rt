@@ -1,29 +1,26 @@
 // A float that is not below 0, in decimals and as its pattern.
+ghost use Prim.Native.Nat.{_≤_, _<_};
 use places::more;
+use text::forms::put_entry;
 use text::lines::put_number;
 use text::lines::put_text;
 use text::lines::say_line;
 
 // The pattern of a number; nothing that is delivered is another.
-fn bits_f32(x: f32) -> u32 {
+pub(crate) fn bits_f32(x: f32) -> u32 {
     if x != x {
         return 0;
     }
     f32::to_bits(x)
 }
 
-pub(crate) fn pattern_of(x: f32) -> usize {
-    bits_f32(x) as usize
-}
-
 // The nearest count of millionths, of a pattern below 2^23's. Below 2^-21 it is none.
-fn millionths(bits: usize) -> usize {
+fn millionths(bits: usize) -> usize
+    requires { ⌜ bits < 1258291200 ⌝ }
+{
     let exponent = bits / 8388608;
     let digits = bits % 8388608 + 8388608;
     if exponent < 106 {
-        return 0;
-    }
-    if 149 < exponent {
         return 0;
     }
     let halves = (digits * 1000000) >> (149 - exponent);
@@ -31,15 +28,12 @@ fn millionths(bits: usize) -> usize {
 }
 
 // The number itself, of a pattern from 2^23's to below 2^63's: it has no fraction.
-fn whole_number(bits: usize) -> usize {
+fn whole_number(bits: usize) -> usize
+    requires { ⌜ 1258291200 ≤ bits ⌝ }
+    requires { ⌜ bits < 1593835520 ⌝ }
+{
     let exponent = bits / 8388608;
     let digits = bits % 8388608 + 8388608;
-    if exponent < 150 {
-        return 0;
-    }
-    if 189 < exponent {
-        return 0;
-    }
     digits << (exponent - 150)
 }
 
@@ -59,10 +53,13 @@ fn put_float(line: &mut [u8], at: usize, bits: usize) -> usize {
     if bits < 1593835520 {
         return put_decimals(line, at, whole_number(bits), 0);
     }
-    if bits < 2139095040 {
-        return put_text(line, at, b"at least 2^63");
-    }
-    put_text(line, at, b"infinite")
+    put_entry(
+        line,
+        at,
+        b"at least 2^63\ninfinite\n",
+        bits / 2139095040,
+        &[0],
+    )
 }
 
 fn put_pattern(line: &mut [u8], at: usize, bits: usize) -> usize {
@@ -74,7 +71,7 @@ fn put_pattern(line: &mut [u8], at: usize, bits: usize) -> usize {
 }
 
 pub(crate) fn say_level(fd: i32, name: &[u8], x: f32) -> bool {
-    let bits = pattern_of(x);
+    let bits = bits_f32(x) as usize;
     let mut line = [0u8; 128];
     let a = put_text(&mut line, 0, name);
     let b = put_float(&mut line, a, bits);

@@ -6,12 +6,12 @@ use self::samples::write_samples;
 use cli_files::job::Job;
 use cli_files::opening::Content;
 use cli_files::opening::content_of;
-use cli_reports::reasons::say_call_refusal;
 use cli_runs::progress::Run;
-use cli_runs::progress::at_start;
-use cli_runs::progress::stopped;
+use cli_runs::progress::refused_by;
 use cli_runs::progress::text_told;
-use cli_words::manual::complain;
+use cli_runs::progress::unfit;
+use cli_runs::progress::unread;
+use cli_runs::progress::written;
 use places::at_most;
 use places::within;
 use refusals_files::wav::wav_refusal;
@@ -36,56 +36,33 @@ fn write_first(fd: i32, samples: &[f32], count: usize) -> bool {
     write_samples(fd, &samples[0..n])
 }
 
-// The samples' file, where one is asked for.
-fn with_samples(job: Job, run: Run, samples: &[f32], count: usize) -> Run {
-    if job.output < 0 || write_first(job.output, samples, count) {
-        return run;
-    }
-    complain(b"writing");
-    stopped(run, 2)
-}
-
-fn wav_told(job: Job, answer: WavAnswer, samples: &[f32]) -> Run {
-    let run = stopped(at_start(), 0);
+// The text, and the samples' file where one is asked for.
+fn wav_told(job: Job, run: Run, answer: WavAnswer, samples: &[f32]) -> Run {
     let WavAnswer::Taken(take) = answer else {
-        say_call_refusal(wav_refusal(answer), b"\n", 0, &[0]);
-        return stopped(run, 1);
+        return refused_by(run, wav_refusal(answer));
     };
-    with_samples(
-        job,
-        text_told(run, say_take(job.text, take)),
-        samples,
-        take.count,
-    )
+    let r = text_told(run, say_take(run.text, take));
+    written(r, write_first(job.output, samples, take.count))
 }
 
 // The first n bytes are the file. No sample has fewer than two of them.
-fn take_first(job: Job, file: &[u8], n: usize) -> Run {
+fn take_first(job: Job, run: Run, file: &[u8], n: usize) -> Run {
     let k = within(n, file);
     let mut samples = samples_room();
     let answer = wav::read_wav(&file[..k], &mut samples);
-    wav_told(job, answer, &samples)
-}
-
-fn too_long() -> Run {
-    say_form(
-        2,
-        b"hcaframe: the WAV file has more than # bytes, the most that hcaframe takes\n",
-        &[2097152],
-    );
-    stopped(at_start(), 2)
+    wav_told(job, run, answer, &samples)
 }
 
 // There is no heap: the file and its samples stand on the stack, 6 MiB of the 8 that a program has by default.
-pub fn take_wav(job: Job) -> Run {
+pub fn take_wav(job: Job, run: Run) -> Run {
     let mut file = wav_room();
     let got = content_of(job.input, &mut file);
     match got {
-        Content::Bytes(n) => take_first(job, &file, n),
-        Content::TooLong => too_long(),
-        Content::Failed => {
-            complain(b"reading");
-            stopped(at_start(), 2)
-        }
+        Content::Bytes(n) => take_first(job, run, &file, n),
+        Content::TooLong => unfit(
+            run,
+            b"hcaframe: the WAV file has more than 2097152 bytes, the most that hcaframe takes\n",
+        ),
+        Content::Failed => unread(run),
     }
 }

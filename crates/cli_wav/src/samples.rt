@@ -1,6 +1,6 @@
 // Samples written to a file: four bytes each, low byte first.
 ghost use Prim.Native.Nat.{_≤_, _<_};
-use crate::decimals::pattern_of;
+use crate::decimals::bits_f32;
 use binary::words::put_word;
 use places::ahead;
 use text::lines::put_out;
@@ -9,7 +9,7 @@ fn put_floats(out: &mut [u8], floats: &[f32]) -> usize {
     let mut at = 0;
     let mut i = 0;
     while i < floats.len() {
-        put_word(out, at, pattern_of(floats[i]));
+        put_word(out, at, bits_f32(floats[i]) as usize);
         at = ahead(at, 4);
         i += 1;
     }

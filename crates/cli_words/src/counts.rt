@@ -40,9 +40,10 @@ pub fn record_size(layout: Layout) -> usize
 }
 
 pub fn has_secondary(layout: Layout) -> bool {
+    let channels = at_most(layout.channels, 16);
     let mut c = 0;
-    while c < 16 {
-        if c < layout.channels && is_secondary(layout, c) {
+    while c < channels {
+        if is_secondary(layout, c) {
             return true;
         }
         c += 1;

@@ -182,10 +182,8 @@ pub fn input_of(command: Command) -> Name {
     match command {
         Command::Nothing => Name::Unknown,
         Command::Encode => Name::Spectra,
-        Command::Read => Name::Frames,
+        Command::Read | Command::Check | Command::Header => Name::Frames,
         Command::Write => Name::Records,
-        Command::Check => Name::Frames,
-        Command::Header => Name::Frames,
         Command::Wav => Name::In,
         Command::List => Name::List,
     }
@@ -194,12 +192,9 @@ pub fn input_of(command: Command) -> Name {
 // The option that names its output; the check has none.
 pub fn output_of(command: Command) -> Name {
     match command {
-        Command::Nothing => Name::Unknown,
-        Command::Encode => Name::Out,
+        Command::Nothing | Command::Check => Name::Unknown,
+        Command::Encode | Command::Write | Command::Header => Name::Out,
         Command::Read => Name::Records,
-        Command::Write => Name::Out,
-        Command::Check => Name::Unknown,
-        Command::Header => Name::Out,
         Command::Wav => Name::Samples,
         Command::List => Name::Svg,
     }

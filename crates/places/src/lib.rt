@@ -27,15 +27,14 @@ pub fn end(a: usize, n: usize, len: usize) -> usize
     if len - a < n { len } else { a + n }
 }
 
-// A place n further. No buffer is this long, so a place held at a million is past every end.
+// A place n further. No buffer has a million bytes, so one from there on is past every end.
 pub fn ahead(at: usize, n: usize) -> usize {
-    if 1000000 < at {
-        return 1000000;
-    }
-    if 1000000 < n {
-        return 1000000;
-    }
-    at + n
+    at_most(at, 1000000) + at_most(n, 1000000)
+}
+
+// How much more n is than m; 0 where it is less.
+pub fn less(n: usize, m: usize) -> usize {
+    if n < m { 0 } else { n - m }
 }
 
 // n more, where there is room for it: a count of frames or bytes never wraps.

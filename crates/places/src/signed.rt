@@ -1,4 +1,4 @@
-// Signed numbers: their bits, and their magnitude.
+// Signed numbers and their bits.
 ghost use mathlib.Core.Path.{_≡_};
 ghost use Rattle.places.specs.Signed.{flipped};
 
@@ -20,13 +20,6 @@ fn up(x: i32) -> usize {
 pub fn bits_of(x: i32) -> usize {
     if x < 0 {
         return 4294967295 - up(flip(x)) % 2147483648;
-    }
-    up(x)
-}
-
-pub fn absolute_value(x: i32) -> usize {
-    if x < 0 {
-        return up(flip(x)) % 2147483648 + 1;
     }
     up(x)
 }

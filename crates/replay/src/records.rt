@@ -168,15 +168,11 @@ pub(crate) fn write_case(body: &[u8]) -> CaseOutcome {
     write_with_codes(body, d, &body[a..b], &body[c..d])
 }
 
-fn check_number(check: u16) -> usize {
-    check as usize
-}
-
 pub(crate) fn check_case(body: &[u8]) -> CaseOutcome {
     let bytes = bytes_at(body, 0);
     let a = bytes.start;
     let e = bytes.end;
-    let check = check_number(crc::crc16_checksum(&body[a..e]));
+    let check = crc::crc16_checksum(&body[a..e]) as usize;
     let is_same = check == word(body, e);
     CaseOutcome {
         answer: refusal_told(refused(0, check)),

@@ -44,17 +44,5 @@ pub fn numbers_at(data: &[u8], at: usize) -> Numbers {
 }
 
 pub(crate) fn are_same(x: Numbers, y: Numbers) -> bool {
-    if x.a != y.a {
-        return false;
-    }
-    if x.b != y.b {
-        return false;
-    }
-    if x.c != y.c {
-        return false;
-    }
-    if x.d != y.d {
-        return false;
-    }
-    x.e == y.e
+    x.a == y.a && x.b == y.b && x.c == y.c && x.d == y.d && x.e == y.e
 }

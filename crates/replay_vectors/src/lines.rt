@@ -6,9 +6,10 @@ use places::ahead;
 use places::more;
 use refusals::Refusal;
 use refusals::refused;
+use text::forms::put_entry;
+use text::forms::put_form;
 use text::forms::say_form;
-use text::lines::say;
-use text::tables::say_entry;
+use text::lines::say_line;
 
 pub enum Verdict {
     Same,
@@ -104,47 +105,40 @@ pub fn add_to_tally(tally: Tally, verdict: Verdict) -> Tally {
     t
 }
 
-// Four numbers of the stage, three of the reader and the writer.
-fn say_delivered(kind: usize, answer: Numbers) {
-    let numbers = [answer.b, answer.c, answer.d, answer.e];
-    if kind == 1 {
-        say_form(1, b" delivered # # # #", &numbers);
-        return;
-    }
-    say_form(1, b" delivered # # #", &numbers);
-}
-
-fn say_answer(kind: usize, answer: Numbers) {
+// Puts what a call answered: its refusal, or the numbers of its kind's line.
+fn put_answer(line: &mut [u8], at: usize, kind: usize, answer: Numbers) -> usize {
     if answer.a != 0 {
-        say_form(1, b" refusal # beside it #", &[answer.a, answer.b]);
-        return;
+        return put_form(line, at, b" refusal # beside it #", &[answer.a, answer.b]);
     }
-    if kind == 4 {
-        say_form(1, b" check #", &[answer.b]);
-        return;
-    }
-    say_delivered(kind, answer);
+    put_entry(
+        line,
+        at,
+        b"\n delivered # # # #\n delivered # # #\n delivered # # #\n check #\n",
+        kind,
+        &[answer.b, answer.c, answer.d, answer.e],
+    )
 }
 
 pub fn is_damaged(verdict: Verdict) -> bool {
     verdict_number(verdict) == 3
 }
 
-// Only what was run has an answer. The verdict's line is that of its number.
+// Only what was run has an answer: kind 0 has an empty line. The verdict's line is that of its number.
 pub fn say_outcome(number: usize, kind: usize, outcome: CaseOutcome) {
-    let answer = outcome.answer;
     let verdict = outcome.verdict;
     let n = verdict_number(verdict);
-    say_form(1, b"case # kind #", &[number, kind]);
-    if n < 2 {
-        say_answer(kind, answer);
-    }
-    say_entry(
-        1,
+    let told = if n < 2 { kind } else { 0 };
+    let mut line = [0u8; 256];
+    let a = put_form(&mut line, 0, b"case # kind #", &[number, kind]);
+    let b = put_answer(&mut line, a, told, outcome.answer);
+    let end = put_entry(
+        &mut line,
+        b,
         b" same\n DIFFERENT\n skipped: only the C interface can say this layout\n damaged\n",
         n,
+        &[0],
     );
-    say(1, b"\n");
+    say_line(1, &mut line, end);
 }
 
 pub fn say_tally(tally: Tally) {

@@ -1,6 +1,6 @@
 // FNV-1a of 32 bits over a lent buffer's bytes.
+use binary::values::put_ints;
 use places::byte_value;
-use places::signed::bits_of;
 
 fn mix(sum: usize, byte: usize) -> usize {
     (((sum ^ byte) % 4294967296) * 16777619) % 4294967296
@@ -42,12 +42,9 @@ pub fn sum_f32(s: &[f32], n: usize) -> usize {
     sum
 }
 
+// Of up to 16,384 numbers, by their bytes.
 pub fn sum_i32(s: &[i32], n: usize) -> usize {
-    let mut sum = 2166136261;
-    let mut i = 0;
-    while i < n && i < s.len() {
-        sum = mix_word(sum, bits_of(s[i]));
-        i += 1;
-    }
-    sum
+    let mut bytes = [0u8; 65536];
+    let end = put_ints(&mut bytes, 0, s, n);
+    sum_u8(&bytes, end)
 }

@@ -38,31 +38,15 @@ pub enum Length {
     Failed,
 }
 
-// A folder can be opened and wound, but not read.
-fn can_be_read(fd: i32) -> bool {
-    let mut one = [0u8; 1];
-    libc::pread(fd, &mut one, 0) >= 0
-}
-
-// The length up to a position.
-fn bytes_to(position: i64) -> Length {
-    if position < 0 {
-        return Length::Unknown;
-    }
-    Length::Bytes(position as usize)
-}
-
-// The next read begins at the file's start.
+// The next read begins at the file's start. A folder can be opened and wound, but not read.
 pub fn length_of(fd: i32) -> Length {
     let end = libc::lseek(fd, 0, libc::SEEK_END);
     if end < 0 {
         return Length::Unknown;
     }
-    if libc::lseek(fd, 0, libc::SEEK_SET) != 0 {
+    let mut one = [0u8; 1];
+    if libc::lseek(fd, 0, libc::SEEK_SET) != 0 || libc::pread(fd, &mut one, 0) < 0 {
         return Length::Failed;
     }
-    if !can_be_read(fd) {
-        return Length::Failed;
-    }
-    bytes_to(end)
+    Length::Bytes(end as usize)
 }

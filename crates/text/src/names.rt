@@ -1,5 +1,4 @@
 // Words of text: comparing them, and the number that one spells.
-ghost use Prim.Native.Nat.{_≤_};
 use places::byte_value;
 
 // The number that a word spells in decimal digits, up to eighteen of them.
@@ -7,6 +6,9 @@ pub enum Spelt {
     Number(usize),
     Other,
 }
+
+// What no eighteen digits spell.
+const NONE: usize = usize::MAX;
 
 pub fn is_same(a: &[u8], b: &[u8]) -> bool {
     if a.len() != b.len() {
@@ -22,36 +24,29 @@ pub fn is_same(a: &[u8], b: &[u8]) -> bool {
     true
 }
 
-// The digit's value, or 10.
-fn digit_value(b: u8) -> usize
-    ensures { λ r. ⌜ r ≤ 10 ⌝ }
-{
-    let n = byte_value(b);
-    if n < 48 {
-        return 10;
+// The number with one more digit; NONE where b is no digit, or there are eighteen digits already.
+fn with_digit(n: usize, b: u8) -> usize {
+    if b < b'0' {
+        return NONE;
     }
-    if 57 < n {
-        return 10;
+    if b'9' < b {
+        return NONE;
     }
-    n - 48
+    if 99999999999999999 < n {
+        return NONE;
+    }
+    10 * n + byte_value(b - b'0')
 }
 
 pub fn spelt_number(word: &[u8]) -> Spelt {
-    if word.len() == 0 {
-        return Spelt::Other;
-    }
-    let mut n = 0;
+    let mut n = if word.len() == 0 { NONE } else { 0 };
     let mut i = 0;
     while i < word.len() {
-        let d = digit_value(word[i]);
-        if d == 10 {
-            return Spelt::Other;
-        }
-        if 99999999999999999 < n {
-            return Spelt::Other;
-        }
-        n = 10 * n + d;
+        n = with_digit(n, word[i]);
         i += 1;
+    }
+    if n == NONE {
+        return Spelt::Other;
     }
     Spelt::Number(n)
 }

@@ -4,7 +4,7 @@ use crate::same::is_link;
 use crate::same::is_on_disk;
 use places::signed::bits_of;
 use places::within;
-use text::lines::put_number;
+use text::forms::put_form;
 use text::lines::put_text;
 
 // Puts the name that the file has while it is written; answers its length. The process's number keeps two runs apart.
@@ -12,9 +12,8 @@ pub fn put_name(name: &mut [u8], path: &[u8]) -> usize
     ensures { λ r. ⌜ Counts r (now (name .exit)) ⌝ }
 {
     let a = put_text(name, 0, path);
-    let b = put_text(name, a, b".tmp-");
-    let c = put_number(name, b, bits_of(libc::getpid()));
-    within(c, name)
+    let b = put_form(name, a, b".tmp-#", &[bits_of(libc::getpid())]);
+    within(b, name)
 }
 
 // What stands under an output's name: nothing, or a file that may be replaced; or what keeps it from being one, where errno tells why if it failed.
@@ -43,13 +42,7 @@ const SEEK_DATA: i32 = 3;
 
 // Is it a regular file? It loses its position.
 fn is_regular(fd: i32) -> bool {
-    if !is_on_disk(fd) {
-        return false;
-    }
-    if 0 <= libc::lseek(fd, 0, SEEK_DATA) {
-        return true;
-    }
-    os::errno() != libc::EINVAL
+    is_on_disk(fd) && (0 <= libc::lseek(fd, 0, SEEK_DATA) || os::errno() != libc::EINVAL)
 }
 
 pub fn target_of(path: &[u8]) -> Target {
@@ -86,22 +79,15 @@ pub fn undo(path: &[u8], fd: i32) {
     os::unlink(&name[..n]);
 }
 
-fn take_name(path: &[u8]) -> bool {
+// Gives the file its name. Where that fails the file is gone, and errno tells why.
+pub fn put_in_place(path: &[u8], fd: i32) -> bool {
+    let is_kept = is_on_disk(fd);
+    libc::close(fd);
     let mut name = io::buffer();
     let n = put_name(&mut name, path);
-    if os::rename(&name[..n], path) == 0 {
+    if is_kept && os::rename(&name[..n], path) == 0 {
         return true;
     }
     os::unlink(&name[..n]);
     false
-}
-
-// Gives the file its name. Where that fails the file is gone, and errno tells why.
-pub fn put_in_place(path: &[u8], fd: i32) -> bool {
-    if libc::fsync(fd) != 0 {
-        undo(path, fd);
-        return false;
-    }
-    libc::close(fd);
-    take_name(path)
 }

@@ -1,18 +1,15 @@
 // Descriptors 0 to 2. Where the caller has closed one, the next file that is opened gets its number, and what is said would end up in that file.
 use text::names::is_same;
 
-// Keeps a descriptor up to this number, and closes any other.
-fn keep_up_to(most: i32, fd: i32) {
-    if most < fd {
-        libc::close(fd);
-    }
-}
-
 // Takes those of the three that are closed, so that no file gets them: reading such an input and writing to such an output fail, as they should.
 pub fn take_standard() {
-    keep_up_to(0, os::open_append(b"/dev/null"));
-    keep_up_to(2, os::open_read(b"/dev/null"));
-    keep_up_to(2, os::open_read(b"/dev/null"));
+    let null = b"/dev/null";
+    let input = os::open_append(null);
+    if 0 < input {
+        libc::close(input);
+    }
+    close_file(os::open_read(null));
+    close_file(os::open_read(null));
 }
 
 // Does the name stand for standard input or output?

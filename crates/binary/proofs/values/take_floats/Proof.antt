@@ -11,7 +11,7 @@ abbrev Inv-loop : tie.InvT-loop
 Inv-loop «data» place n out₀ at₀ i₀ out at i = length out ≡ length out₀
 
 abbrev μ-loop : tie.MeasureT-loop
-μ-loop «data» place n out₀ at₀ i₀ out at i = n - i
+μ-loop «data» place n out₀ at₀ i₀ out at i = length out₀ - i
 
 loop-holds : tie.Need-loop-holds Inv-loop μ-loop
 loop-holds c = refl
@@ -25,8 +25,11 @@ cast-float-of c = search needs
 float-of-requires : tie.Need-float-of-requires Inv-loop μ-loop
 float-of-requires c κs = tt
 
-put-f32-requires : tie.Need-put-f32-requires Inv-loop μ-loop
-put-f32-requires c κs = tt
+mul-out : tie.Need-mul-out Inv-loop μ-loop
+mul-out c = search needs
+
+slice-write-out : tie.Need-slice-write-out Inv-loop μ-loop
+slice-write-out c = search needs
 
 ahead-requires : tie.Need-ahead-requires Inv-loop μ-loop
 ahead-requires c κs = tt
@@ -46,6 +49,12 @@ same-length c = search needs
 returns : tie.Need-returns Inv-loop μ-loop
 returns c = tt
 
+same-length-2 : tie.Need-same-length-2 Inv-loop μ-loop
+same-length-2 c = search needs
+
+returns-2 : tie.Need-returns-2 Inv-loop μ-loop
+returns-2 c = tt
+
 pub take-floats-spec : {M : Type 1} → statement M
 take-floats-spec =
     tie.close
@@ -56,10 +65,13 @@ take-floats-spec =
     word-requires
     cast-float-of
     float-of-requires
-    put-f32-requires
+    mul-out
+    slice-write-out
     ahead-requires
     add-i
     loop-less
     loop-again
     same-length
-    returns)
+    returns
+    same-length-2
+    returns-2)

@@ -11,7 +11,7 @@ abbrev Inv-loop : tie.InvT-loop
 Inv-loop «data» place n out₀ at₀ i₀ out at i = length out ≡ length out₀
 
 abbrev μ-loop : tie.MeasureT-loop
-μ-loop «data» place n out₀ at₀ i₀ out at i = n - i
+μ-loop «data» place n out₀ at₀ i₀ out at i = length out₀ - i
 
 loop-holds : tie.Need-loop-holds Inv-loop μ-loop
 loop-holds c = refl
@@ -25,8 +25,11 @@ cast-int-of c = search needs
 int-of-requires : tie.Need-int-of-requires Inv-loop μ-loop
 int-of-requires c κs = tt
 
-put-i32-requires : tie.Need-put-i32-requires Inv-loop μ-loop
-put-i32-requires c κs = tt
+mul-t12 : tie.Need-mul-t12 Inv-loop μ-loop
+mul-t12 c = search needs
+
+slice-set-from-out : tie.Need-slice-set-from-out Inv-loop μ-loop
+slice-set-from-out c = search needs
 
 ahead-requires : tie.Need-ahead-requires Inv-loop μ-loop
 ahead-requires c κs = tt
@@ -46,6 +49,12 @@ same-length c = search needs
 returns : tie.Need-returns Inv-loop μ-loop
 returns c = tt
 
+same-length-2 : tie.Need-same-length-2 Inv-loop μ-loop
+same-length-2 c = search needs
+
+returns-2 : tie.Need-returns-2 Inv-loop μ-loop
+returns-2 c = tt
+
 pub take-ints-spec : {M : Type 1} → statement M
 take-ints-spec =
     tie.close
@@ -56,10 +65,13 @@ take-ints-spec =
     word-requires
     cast-int-of
     int-of-requires
-    put-i32-requires
+    mul-t12
+    slice-set-from-out
     ahead-requires
     add-i
     loop-less
     loop-again
     same-length
-    returns)
+    returns
+    same-length-2
+    returns-2)

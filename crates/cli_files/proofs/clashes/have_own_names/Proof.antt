@@ -13,6 +13,12 @@ abbrev μ-loop : tie.MeasureT-loop
 loop-holds : tie.Need-loop-holds Inv-loop μ-loop
 loop-holds c = tt
 
+name-at-requires : tie.Need-name-at-requires Inv-loop μ-loop
+name-at-requires c κs = tt
+
+name-at-requires-2 : tie.Need-name-at-requires-2 Inv-loop μ-loop
+name-at-requires-2 c κs = tt
+
 differ-requires : tie.Need-differ-requires Inv-loop μ-loop
 differ-requires c κs = tt
 
@@ -38,6 +44,8 @@ have-own-names-spec =
     Inv-loop
     μ-loop
     loop-holds
+    name-at-requires
+    name-at-requires-2
     differ-requires
     returns
     add-c

@@ -16,11 +16,11 @@ loop-holds c = tt
 name-at-requires : tie.Need-name-at-requires Inv-loop μ-loop
 name-at-requires c κs = tt
 
-lacks-requires : tie.Need-lacks-requires Inv-loop μ-loop
-lacks-requires c κs = tt
+missing-fault-requires : tie.Need-missing-fault-requires Inv-loop μ-loop
+missing-fault-requires c κs = tt
 
-without-requires : tie.Need-without-requires Inv-loop μ-loop
-without-requires c κs = tt
+refuse-option-requires : tie.Need-refuse-option-requires Inv-loop μ-loop
+refuse-option-requires c κs = tt
 
 returns : tie.Need-returns Inv-loop μ-loop
 returns c = tt
@@ -37,6 +37,9 @@ loop-again c = tt
 returns-2 : tie.Need-returns-2 Inv-loop μ-loop
 returns-2 c = tt
 
+returns-3 : tie.Need-returns-3 Inv-loop μ-loop
+returns-3 c = tt
+
 pub complete-spec : {M : Type 1} → statement M
 complete-spec =
     tie.close
@@ -45,10 +48,11 @@ complete-spec =
     μ-loop
     loop-holds
     name-at-requires
-    lacks-requires
-    without-requires
+    missing-fault-requires
+    refuse-option-requires
     returns
     add-k
     loop-less
     loop-again
-    returns-2)
+    returns-2
+    returns-3)

@@ -7,22 +7,16 @@ use Rattle.cli_parser.proofs.sources.take_words.Statement.{statement}
 use Rattle.cli_parser.proofs.sources.take_words.Tie as tie
 
 abbrev Inv-loop : tie.InvT-loop
-Inv-loop text o₀ at₀ o at = Unit {0}
+Inv-loop line text o₀ at₀ o at = Unit {0}
 
 abbrev μ-loop : tie.MeasureT-loop
-μ-loop text o₀ at₀ o at = length text - at
+μ-loop line text o₀ at₀ o at = length text - at
 
 loop-holds : tie.Need-loop-holds Inv-loop μ-loop
 loop-holds c = tt
 
-word-start-requires : tie.Need-word-start-requires Inv-loop μ-loop
-word-start-requires c κs = tt
-
 word-end-requires : tie.Need-word-end-requires Inv-loop μ-loop
 word-end-requires c κs = search needs
-
-line-at-requires : tie.Need-line-at-requires Inv-loop μ-loop
-line-at-requires c κs = tt
 
 sub-take-word : tie.Need-sub-take-word Inv-loop μ-loop
 sub-take-word c = search needs
@@ -36,8 +30,8 @@ part-take-word-end c = search needs
 take-word-requires : tie.Need-take-word-requires Inv-loop μ-loop
 take-word-requires c κs = tt
 
-further-requires : tie.Need-further-requires Inv-loop μ-loop
-further-requires c κs = search needs
+add-at : tie.Need-add-at Inv-loop μ-loop
+add-at c = omega arith
 
 loop-less : tie.Need-loop-less Inv-loop μ-loop
 loop-less c = omega arith
@@ -55,14 +49,12 @@ take-words-spec =
     Inv-loop
     μ-loop
     loop-holds
-    word-start-requires
     word-end-requires
-    line-at-requires
     sub-take-word
     part-take-word-start
     part-take-word-end
     take-word-requires
-    further-requires
+    add-at
     loop-less
     loop-again
     returns)

@@ -6,31 +6,22 @@ use Rattle.cli_picture.proofs.marks.is_apart.Statement.{statement}
 use Rattle.cli_picture.proofs.marks.is_apart.Tie as tie
 
 abbrev Inv-loop : tie.InvT-loop
-Inv-loop numbered count frame gap k₀ k = Unit {0}
+Inv-loop numbered frame gap k₀ k = Unit {0}
 
 abbrev μ-loop : tie.MeasureT-loop
-μ-loop numbered count frame gap k₀ k = 8 - k
+μ-loop numbered frame gap k₀ k = 8 - k
 
 loop-holds : tie.Need-loop-holds Inv-loop μ-loop
 loop-holds c = tt
 
-mul-less : tie.Need-mul-less Inv-loop μ-loop
-mul-less c = search needs
+mul-distance : tie.Need-mul-distance Inv-loop μ-loop
+mul-distance c = search needs
 
-element-copy-out-less : tie.Need-element-copy-out-less Inv-loop μ-loop
-element-copy-out-less c = search needs
+element-copy-out-distance : tie.Need-element-copy-out-distance Inv-loop μ-loop
+element-copy-out-distance c = search needs
 
-less-requires : tie.Need-less-requires Inv-loop μ-loop
-less-requires c κs = tt
-
-mul-less-2 : tie.Need-mul-less-2 Inv-loop μ-loop
-mul-less-2 c = search needs
-
-element-copy-out-less-2 : tie.Need-element-copy-out-less-2 Inv-loop μ-loop
-element-copy-out-less-2 c = search needs
-
-less-requires-2 : tie.Need-less-requires-2 Inv-loop μ-loop
-less-requires-2 c κs = tt
+distance-requires : tie.Need-distance-requires Inv-loop μ-loop
+distance-requires c κs = tt
 
 returns : tie.Need-returns Inv-loop μ-loop
 returns c = tt
@@ -54,12 +45,9 @@ is-apart-spec =
     Inv-loop
     μ-loop
     loop-holds
-    mul-less
-    element-copy-out-less
-    less-requires
-    mul-less-2
-    element-copy-out-less-2
-    less-requires-2
+    mul-distance
+    element-copy-out-distance
+    distance-requires
     returns
     add-k
     loop-less

@@ -5,10 +5,10 @@ use Rattle.cli_picture.proofs.marks.next_worst.Statement.{statement}
 use Rattle.cli_picture.proofs.marks.next_worst.Tie as tie
 
 abbrev Inv-loop : tie.InvT-loop
-Inv-loop entries frames numbered count gap worst₀ most₀ i₀ worst most i = Unit {0}
+Inv-loop entries frames numbered gap worst₀ most₀ i₀ worst most i = Unit {0}
 
 abbrev μ-loop : tie.MeasureT-loop
-μ-loop entries frames numbered count gap worst₀ most₀ i₀ worst most i = frames - i
+μ-loop entries frames numbered gap worst₀ most₀ i₀ worst most i = frames - i
 
 loop-holds : tie.Need-loop-holds Inv-loop μ-loop
 loop-holds c = tt

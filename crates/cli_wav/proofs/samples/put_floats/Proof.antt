@@ -16,14 +16,17 @@ abbrev μ-loop : tie.MeasureT-loop
 loop-holds : tie.Need-loop-holds Inv-loop μ-loop
 loop-holds c = refl
 
-mul-pattern-of : tie.Need-mul-pattern-of Inv-loop μ-loop
-mul-pattern-of c = search needs
+mul-bits-f32 : tie.Need-mul-bits-f32 Inv-loop μ-loop
+mul-bits-f32 c = search needs
 
-shared-slice-read-pattern-of : tie.Need-shared-slice-read-pattern-of Inv-loop μ-loop
-shared-slice-read-pattern-of c = search needs
+shared-slice-read-bits-f32 : tie.Need-shared-slice-read-bits-f32 Inv-loop μ-loop
+shared-slice-read-bits-f32 c = search needs
 
-pattern-of-requires : tie.Need-pattern-of-requires Inv-loop μ-loop
-pattern-of-requires c κs = tt
+bits-f32-requires : tie.Need-bits-f32-requires Inv-loop μ-loop
+bits-f32-requires c κs = tt
+
+cast-put-word : tie.Need-cast-put-word Inv-loop μ-loop
+cast-put-word c = search needs
 
 put-word-requires : tie.Need-put-word-requires Inv-loop μ-loop
 put-word-requires c κs = tt
@@ -53,9 +56,10 @@ put-floats-spec =
     Inv-loop
     μ-loop
     loop-holds
-    mul-pattern-of
-    shared-slice-read-pattern-of
-    pattern-of-requires
+    mul-bits-f32
+    shared-slice-read-bits-f32
+    bits-f32-requires
+    cast-put-word
     put-word-requires
     ahead-requires
     add-i

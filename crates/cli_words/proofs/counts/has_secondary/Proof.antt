@@ -6,10 +6,13 @@ use Rattle.cli_words.proofs.counts.has_secondary.Statement.{statement}
 use Rattle.cli_words.proofs.counts.has_secondary.Tie as tie
 
 abbrev Inv-loop : tie.InvT-loop
-Inv-loop layout c₀ c = Unit {0}
+Inv-loop layout channels c₀ c = Unit {0}
 
 abbrev μ-loop : tie.MeasureT-loop
-μ-loop layout c₀ c = 16 - c
+μ-loop layout channels c₀ c = channels - c
+
+at-most-requires : tie.Need-at-most-requires Inv-loop μ-loop
+at-most-requires c κs = tt
 
 loop-holds : tie.Need-loop-holds Inv-loop μ-loop
 loop-holds c = tt
@@ -38,6 +41,7 @@ has-secondary-spec =
     (tie.spec
     Inv-loop
     μ-loop
+    at-most-requires
     loop-holds
     is-secondary-requires
     returns

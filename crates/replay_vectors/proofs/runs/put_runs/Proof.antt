@@ -31,9 +31,6 @@ word-requires c κs = tt
 word-past-requires-2 : tie.Need-word-past-requires-2 Inv-loop μ-loop
 word-past-requires-2 c κs = tt
 
-at-most-requires-2 : tie.Need-at-most-requires-2 Inv-loop μ-loop
-at-most-requires-2 c κs = tt
-
 ahead-requires-2 : tie.Need-ahead-requires-2 Inv-loop μ-loop
 ahead-requires-2 c κs = tt
 
@@ -67,7 +64,6 @@ put-runs-spec =
     loop-holds
     word-requires
     word-past-requires-2
-    at-most-requires-2
     ahead-requires-2
     put-run-requires
     add-j

@@ -22,11 +22,8 @@ mul-put-column c = search needs
 shared-slice-read-put-column : tie.Need-shared-slice-read-put-column Inv-loop μ-loop
 shared-slice-read-put-column c = search needs
 
-mul-put-column-2 : tie.Need-mul-put-column-2 Inv-loop μ-loop
-mul-put-column-2 c = search needs
-
-shared-slice-read-put-column-2 : tie.Need-shared-slice-read-put-column-2 Inv-loop μ-loop
-shared-slice-read-put-column-2 c = search needs
+number-at-requires : tie.Need-number-at-requires Inv-loop μ-loop
+number-at-requires c κs = tt
 
 put-column-requires : tie.Need-put-column-requires Inv-loop μ-loop
 put-column-requires c κs = tt
@@ -46,12 +43,6 @@ same-length c = search needs
 returns : tie.Need-returns Inv-loop μ-loop
 returns c = tt
 
-same-length-2 : tie.Need-same-length-2 Inv-loop μ-loop
-same-length-2 c = search needs
-
-returns-2 : tie.Need-returns-2 Inv-loop μ-loop
-returns-2 c = tt
-
 pub put-row-spec : {M : Type 1} → statement M
 put-row-spec =
     tie.close
@@ -61,13 +52,10 @@ put-row-spec =
     loop-holds
     mul-put-column
     shared-slice-read-put-column
-    mul-put-column-2
-    shared-slice-read-put-column-2
+    number-at-requires
     put-column-requires
     add-i
     loop-less
     loop-again
     same-length
-    returns
-    same-length-2
-    returns-2)
+    returns)

@@ -16,8 +16,11 @@ returns c = tt
 loop-holds : tie.Need-loop-holds Inv-loop μ-loop
 loop-holds c = tt
 
-is-entry-requires : tie.Need-is-entry-requires Inv-loop μ-loop
-is-entry-requires c κs = tt
+part-requires : tie.Need-part-requires Inv-loop μ-loop
+part-requires c κs = tt
+
+is-same-requires : tie.Need-is-same-requires Inv-loop μ-loop
+is-same-requires c κs = tt
 
 returns-2 : tie.Need-returns-2 Inv-loop μ-loop
 returns-2 c = tt
@@ -42,7 +45,8 @@ entry-of-spec =
     μ-loop
     returns
     loop-holds
-    is-entry-requires
+    part-requires
+    is-same-requires
     returns-2
     add-k
     loop-less

@@ -15,8 +15,20 @@ abbrev μ-loop : tie.MeasureT-loop
 loop-holds : tie.Need-loop-holds Inv-loop μ-loop
 loop-holds c = tt
 
-stands-at-requires : tie.Need-stands-at-requires Inv-loop μ-loop
-stands-at-requires c κs = omega arith
+end-requires : tie.Need-end-requires Inv-loop μ-loop
+end-requires c κs = omega arith
+
+sub-is-same : tie.Need-sub-is-same Inv-loop μ-loop
+sub-is-same c = omega arith
+
+part-is-same-start : tie.Need-part-is-same-start Inv-loop μ-loop
+part-is-same-start c = search needs
+
+part-is-same-end : tie.Need-part-is-same-end Inv-loop μ-loop
+part-is-same-end c = search needs
+
+is-same-requires : tie.Need-is-same-requires Inv-loop μ-loop
+is-same-requires c κs = tt
 
 returns : tie.Need-returns Inv-loop μ-loop
 returns c = search needs
@@ -40,7 +52,11 @@ place-of-spec =
     Inv-loop
     μ-loop
     loop-holds
-    stands-at-requires
+    end-requires
+    sub-is-same
+    part-is-same-start
+    part-is-same-end
+    is-same-requires
     returns
     add-i
     loop-less

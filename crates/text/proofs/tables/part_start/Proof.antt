@@ -1,16 +1,16 @@
--- `text::tables::line_start` is safe and ends. Nothing has to hold from turn to turn. Assumes nothing.
+-- `text::tables::part_start` is safe and ends. Nothing has to hold from turn to turn. Assumes nothing.
 use lib.ListN.{length}
 use native.Mathlib.Omega.{arith}
 use Prim.Native.Nat.{_-_}
 use borrow.Author.Needs.{needs}
-use Rattle.text.proofs.tables.line_start.Statement.{statement}
-use Rattle.text.proofs.tables.line_start.Tie as tie
+use Rattle.text.proofs.tables.part_start.Statement.{statement}
+use Rattle.text.proofs.tables.part_start.Tie as tie
 
 abbrev Inv-loop : tie.InvT-loop
-Inv-loop table k left₀ i₀ left i = Unit {0}
+Inv-loop text k b left₀ i₀ left i = Unit {0}
 
 abbrev μ-loop : tie.MeasureT-loop
-μ-loop table k left₀ i₀ left i = length table - i
+μ-loop text k b left₀ i₀ left i = length text - i
 
 loop-holds : tie.Need-loop-holds Inv-loop μ-loop
 loop-holds c = tt
@@ -36,8 +36,8 @@ loop-again c = tt
 returns-2 : tie.Need-returns-2 Inv-loop μ-loop
 returns-2 c = search needs
 
-pub line-start-spec : {M : Type 1} → statement M
-line-start-spec =
+pub part-start-spec : {M : Type 1} → statement M
+part-start-spec =
     tie.close
     (tie.spec
     Inv-loop
