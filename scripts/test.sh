@@ -9,10 +9,20 @@ cd "$(dirname "$0")/.."
 . scripts/x86-64.sh
 # rt waits for a whole batch before it starts the next: with twelve at a time two cores are seldom idle
 export RT_JOBS="${RT_JOBS:-12}"
+# in_memory: a temporary folder that is no disk's, since each check copies the proofs that it rests on to one. It needs room, and programs have to run in it:
+# rt runs them there, as nobody where it is root
+in_memory() {
+    for left in "$(sed -n 's/^MemAvailable: *\([0-9]*\) kB/\1/p' /proc/meminfo)" "$(df -Pk /dev/shm | awk 'NR == 2 { print $4 }')"; do
+        [ "$left" -ge 16000000 ] || return 1
+    done
+    memory=$(mktemp -d /dev/shm/hca.XXXXXX) || return 1
+    chmod 755 "$memory" && cp "$(command -v env)" "$memory/env" && "$memory/env" true
+}
 rt fmt --check
-log=$(mktemp)
-trap 'rm -f "$log" "$log.status" "$log.beside"' EXIT
-{ rt ci 2>&1 && echo 0 >"$log.status" || echo 1 >"$log.status"; } | tee "$log"
+log=$(mktemp) memory=
+trap 'rm -rf "$log" "$log.status" "$log.beside" ${memory:+"$memory"}' EXIT
+if [ -z "${TMPDIR:-}" ] && in_memory 2>/dev/null; then room=$memory; else room=${TMPDIR:-/tmp}; fi
+{ TMPDIR=$room rt ci 2>&1 && echo 0 >"$log.status" || echo 1 >"$log.status"; } | tee "$log"
 if [ "$(cat "$log.status")" -ne 0 ]; then
     exit 1
 fi
@@ -28,7 +38,7 @@ tried() {
 if can_run; then
     sh scripts/hcaframe-test.sh target/bin/hcaframe >"$beside" 2>&1 &
     tests=$!
-    if can_compile; then sh scripts/hcaframe-build.sh; fi
+    if can_compile; then TMPDIR=$room sh scripts/hcaframe-build.sh; fi
     tried "$tests"
 else
     echo "SKIPPED: the command line's tests (programs for x86-64 do not run here; qemu-x86_64 is needed)"
@@ -36,7 +46,7 @@ fi
 if can_compile; then
     sh scripts/hcaframe-test.sh >"$beside" 2>&1 &
     tests=$!
-    rt staticlib hca
+    TMPDIR=$room rt staticlib hca
     for example in examples/*.c; do
         program=target/$(basename "$example" .c)-example
         "$x86_cc" -std=c99 -Wall -Wextra -Iinclude "$example" target/staticlib/libhca.a -o "$program"
