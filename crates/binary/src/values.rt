@@ -3,13 +3,12 @@ use crate::words::put_word;
 use crate::words::word;
 use numbers::signed::int_of;
 use places::ahead;
-use places::at_most;
 use places::signed::bits_of;
 use places::within;
 use text::lines::put_text;
 
 // The float with these bits. The bits of a NaN are not taken, and any NaN stands for it.
-pub fn float_of(bits: u32) -> f32 {
+fn float_of(bits: u32) -> f32 {
     // past the infinity's, 0x7F80_0000
     if 2139095040 < bits % 2147483648 {
         let zero = 0.0f32;
@@ -38,12 +37,6 @@ pub fn take_ints(data: &[u8], place: usize, n: usize, out: &mut [i32]) {
         at = ahead(at, 4);
         i += 1;
     }
-}
-
-// Takes n bytes from a place on, as many as there are.
-pub fn take_bytes(data: &[u8], place: usize, n: usize, out: &mut [u8]) {
-    let a = at_most(place, data.len());
-    put_bytes(out, 0, &data[a..], n);
 }
 
 // Puts n of the numbers, from a place on; answers the place past them.

@@ -18,12 +18,11 @@ use whole_files::same::is_one_file;
 use whole_files::standard::close_file;
 
 // A file by its option. Standard output, where the text goes, has none.
-fn say_file(name: Name) {
+fn say_file(name: Name) -> bool {
     match name {
         Name::Unknown => say(2, b"standard output"),
         _ => say_name(2, name),
     }
-    ;
 }
 
 fn say_same(a: Name, b: Name) {

@@ -43,10 +43,6 @@ pub fn command_of(word: &[u8]) -> Command {
     command_on(entry_of(b"\nencode\nread\nwrite\ncheck\nheader\nwav\nlist\n", word))
 }
 
-pub fn is_encode(command: Command) -> bool {
-    line_of(command) == 1
-}
-
 pub fn is_check(command: Command) -> bool {
     line_of(command) == 4
 }

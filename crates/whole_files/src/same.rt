@@ -10,7 +10,7 @@ use text::names::is_same;
 use text::tables::part;
 
 // Is the name a symbolic link's? One that is too long is cut: `os` opens none of these.
-pub fn is_link(path: &[u8]) -> bool {
+pub(crate) fn is_link(path: &[u8]) -> bool {
     let mut name = io::buffer();
     put_text(&mut name, 0, path);
     // as C reads it
