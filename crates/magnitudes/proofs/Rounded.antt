@@ -55,13 +55,13 @@ neg-round f a b = round-is f true a b ∙ neg-units f _ _ ∙ ap neg (sym (round
 false-true : false ≡ true → ⊥
 false-true h = let z : _≡_ {A = ℕ} 0 1 = cc in omega arith
 
-pub above-zero : (x : Float) → lt zeroF x ≡ true → x ≡ absF x
+pub abs-above-zero : (x : Float) → lt zeroF x ≡ true → x ≡ absF x
 unfolding lt absF
-above-zero nan h = absurd (false-true h)
-above-zero (inf true) h = absurd (false-true h)
-above-zero (inf false) h = refl
-above-zero (fin true m e) h = absurd (false-true h)
-above-zero (fin false m e) h = refl
+abs-above-zero nan h = absurd (false-true h)
+abs-above-zero (inf true) h = absurd (false-true h)
+abs-above-zero (inf false) h = refl
+abs-above-zero (fin true m e) h = absurd (false-true h)
+abs-above-zero (fin false m e) h = refl
 
 pub up-to-zero : (x : Float) → T (fits binary32 x) → lt zeroF x ≡ false → sub binary32 zeroF x ≡ absF x
 unfolding lt absF sub add neg sum

@@ -2,7 +2,7 @@
 use mathlib.Core.Path.{sym, ap, subst}
 use lib.Dec.{T}
 use lib.Ieee.{binary32, add, fits, ofBits}
-use Rattle.magnitudes.proofs.Rounded.{above-zero, up-to-zero}
+use Rattle.magnitudes.proofs.Rounded.{abs-above-zero, up-to-zero}
 use Rattle.magnitudes.proofs.add_magnitude.Statement.{statement}
 use Rattle.magnitudes.proofs.add_magnitude.Tie as tie
 
@@ -12,7 +12,7 @@ held c = subst T (sym (c .good .1 .0 .1)) tt
 
 returns : tie.Need-returns
 unfolding ofBits
-returns c = ap (add binary32 (c .before .args .s)) (above-zero (c .before .args .x) (c .if1 .taken))
+returns c = ap (add binary32 (c .before .args .s)) (abs-above-zero (c .before .args .x) (c .if1 .taken))
 
 returns-2 : tie.Need-returns-2
 unfolding ofBits
