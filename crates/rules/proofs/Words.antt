@@ -20,13 +20,13 @@ is (some a) = true
 abbrev pub clash : List Bool → List Bool → Bool
 clash u v = is (strip u v) || is (strip v u)
 
-abbrev pub apart : {A : Type 0} → (A → List Bool) → A → List A → Bool
-apart w c [] = true
-apart w c (d ∷ ds) = not (clash (w c) (w d)) && apart w c ds
+abbrev pub clashless : {A : Type 0} → (A → List Bool) → A → List A → Bool
+clashless w c [] = true
+clashless w c (d ∷ ds) = not (clash (w c) (w d)) && clashless w c ds
 
 abbrev pub free : {A : Type 0} → (A → List Bool) → List A → Bool
 free w [] = true
-free w (c ∷ cs) = apart w c cs && free w cs
+free w (c ∷ cs) = clashless w c cs && free w cs
 
 -- a test at each number below n
 abbrev pub below : (ℕ → Bool) → ℕ → Bool

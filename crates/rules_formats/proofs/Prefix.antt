@@ -9,7 +9,7 @@ use lib.ListN.{length, take, drop, take-append-drop}
 use lib.Seq.{length-take-le}
 use lib.Dec.{T}
 use Rattle.rules.specs.Format.{Read, ok, bad, strip, orElse, oneOf, Lawful}
-use Rattle.rules.proofs.Words.{clash, apart, free}
+use Rattle.rules.proofs.Words.{clash, clashless, free}
 use Rattle.rules_formats.proofs.Formats.{bad≢ok}
 
 pub both : (a b : Bool) → T (a && b) → T a × T b
@@ -41,15 +41,15 @@ strip-none (false ∷ u) (true ∷ v) t h = refl
 strip-none (false ∷ u) (false ∷ v) t h = strip-none u v t h
 
 module _ {A : Type 0} (w : A → List Bool) where
-  apart-at : (c a : A) (cs : List A) → T (apart w c cs) → List·Memᴰ a cs → T (not (clash (w c) (w a)))
-  apart-at c a (d ∷ cs) h (List·Memᴰ·head e) = rw e (both (not (clash (w c) (w d))) (apart w c cs) h .0)
-  apart-at c a (d ∷ cs) h (List·Memᴰ·tail m) = apart-at c a cs (both (not (clash (w c) (w d))) (apart w c cs) h .1) m
+  apart-at : (c a : A) (cs : List A) → T (clashless w c cs) → List·Memᴰ a cs → T (not (clash (w c) (w a)))
+  apart-at c a (d ∷ cs) h (List·Memᴰ·head e) = rw e (both (not (clash (w c) (w d))) (clashless w c cs) h .0)
+  apart-at c a (d ∷ cs) h (List·Memᴰ·tail m) = apart-at c a cs (both (not (clash (w c) (w d))) (clashless w c cs) h .1) m
 
   one-there : (cs : List A) → T (free w cs) → (a : A) (t : List Bool) → List·Memᴰ a cs → oneOf w cs (w a ++ t) ≡ ok a t
   unfolding oneOf strip
   one-there (c ∷ cs) h a t (List·Memᴰ·head e) = rw (← e, strip-self (w a) t)
   one-there (c ∷ cs) h a t (List·Memᴰ·tail m) =
-      let (h₀, h₁) = both (apart w c cs) (free w cs) h in
+      let (h₀, h₁) = both (clashless w c cs) (free w cs) h in
       rw (strip-none (w c) (w a) t (apart-at c a cs h₀ m)) (one-there cs h₁ a t m)
 
   one-back : (cs : List A) (s : List Bool) (a : A) (t : List Bool) → oneOf w cs s ≡ ok a t → List·Memᴰ a cs × (s ≡ w a ++ t)
