@@ -6,7 +6,7 @@ use cli_runs::progress::Run;
 use cli_runs::progress::refused_by;
 use cli_runs::progress::written;
 use places::at_most;
-use refusals_files::list::list_write_refusal;
+use refusals::list::list_write_refusal;
 use rules_files::list::Entry;
 use text::lines::put_out;
 

@@ -8,7 +8,7 @@ use cli_options::options::option_number;
 use cli_runs::progress::Run;
 use cli_runs::progress::stopped;
 use cli_words::names::Name;
-use refusals_files::header::header_refusal;
+use refusals::header::header_refusal;
 
 mod copying;
 mod numbers;

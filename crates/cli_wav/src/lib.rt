@@ -14,7 +14,7 @@ use cli_runs::progress::unread;
 use cli_runs::progress::written;
 use places::at_most;
 use places::within;
-use refusals_files::wav::wav_refusal;
+use refusals::wav::wav_refusal;
 use rules_files::wav::Take;
 use rules_files::wav::WavAnswer;
 use text::forms::say_form;

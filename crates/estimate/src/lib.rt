@@ -1,4 +1,8 @@
 // Document 01, **Estimate**: the values of all bands, and the bits with the part that is fixed.
+
+// The bits that no level or boundary changes.
+pub mod fixed_part;
+
 ghost use mathlib.Core.Path.{_≡_};
 ghost use Prim.Native.Nat.{_+_, _*_, _≤_, _<_};
 ghost use lib.ListN.{length};

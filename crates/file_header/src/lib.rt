@@ -1,16 +1,22 @@
 // The file header: 96 bytes in front of the frames, written into a lent buffer.
+
+// Loop points as the fields of the loop chunk.
+pub mod loop_points;
+// The chunks, each put into the 96 bytes.
+pub mod chunks;
+
 ghost use mathlib.Core.Path.{_≡_};
 ghost use lib.ListN.{length};
 ghost use Rattle.rules.specs.Layout.{Sizes};
 ghost use Rattle.rules_files.specs.FileHeader.{pieces, stamped, headerOf, fitsPoints, fitsHeader, HeaderFits, headerLeft, headerWritten};
+use crate::chunks::put_bands;
+use crate::chunks::put_format;
+use crate::chunks::put_frame;
+use crate::chunks::put_loop;
+use crate::chunks::put_magic;
+use crate::chunks::put_tail;
 use buffers::clear_u8;
 use crc::seal;
-use file_header_chunks::put_bands;
-use file_header_chunks::put_format;
-use file_header_chunks::put_frame;
-use file_header_chunks::put_loop;
-use file_header_chunks::put_magic;
-use file_header_chunks::put_tail;
 use layouts::legal;
 use rules::Layout;
 use rules_files::header::HeaderAnswer;

@@ -4,3 +4,6 @@ pub mod CutLaws
 pub mod SignedLaws
 pub mod FoldLaws
 pub mod WholeLaws
+-- magnitudes
+pub mod SumRounded
+pub mod SumValues

@@ -1,4 +1,8 @@
 // Single-precision leaves: what Rust's `f32` has as methods, and a running average of magnitudes.
+
+// Sums of magnitudes that look at no bits.
+pub mod magnitudes;
+
 ghost use mathlib.Core.Path.{_≡_};
 ghost use Prim.Native.Nat.{_<_, _≤_, _+_, _*_, _^_};
 ghost use lib.ListN.{length};

@@ -24,8 +24,8 @@ use Rattle.rules_demands.proofs.WriterExactly.{write-number}
 use Rattle.rules_demands.proofs.ReaderExactly.{read-number}
 use Rattle.hca_layout.specs.Layouts.{layoutOf, named}
 use Rattle.hca_answers.specs.Outcomes.{resultOf, numbersOf, toldIn}
-use Rattle.hca_write.specs.Wrote.{Wrote, wroteAs, wroteTold, wrote}
-use Rattle.hca_read.specs.Returned.{Returned, returnedAs, returnedTold, returned}
+use Rattle.hca_records.specs.Wrote.{Wrote, wroteAs, wroteTold, wrote}
+use Rattle.hca_records.specs.Returned.{Returned, returnedAs, returnedTold, returned}
 
 -- a refusal's number is not 0, so that result 0 is a delivery
 delivery : (o : Outcome) → ((n k : ℕ) → o ≡ refused n k → 0 < n) → resultOf o ≡ 0 → (ns : List ℕ) × (o ≡ delivered ns)

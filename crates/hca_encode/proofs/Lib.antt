@@ -1,2 +1,10 @@
-pub mod Tellings
-pub mod Bounds
+-- frame
+pub mod FrameTellings
+pub mod FrameBounds
+-- stereo_frame
+pub mod StereoTellings
+pub mod StereoBounds
+-- line
+pub mod LineBounds
+pub mod LinePlaces
+pub mod LineTellings

@@ -1,1 +1,6 @@
+-- frame
 pub mod Encoded
+-- stereo_frame
+pub mod StereoEncoded
+-- line
+pub mod Lined

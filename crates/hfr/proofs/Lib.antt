@@ -1,1 +1,4 @@
+-- averages
+pub mod Taken
+-- the whole
 pub mod Side

@@ -1,13 +1,17 @@
 // Document 01, **HFR**: the scales and the side values.
+
+// A group's two averages, and the value that its scale is the factor of.
+pub mod averages;
+
 ghost use mathlib.Core.Path.{_≡_};
 ghost use Prim.Native.Nat.{_<_};
 ghost use lib.ListN.{length};
 ghost use Rattle.rules.specs.Layout.{Sizes, spectrumLength, sideLength};
 ghost use Rattle.rules.specs.Hfr.{hfrScale, allSide, intensitySide, scaleSide, sideAt};
 ghost use Rattle.factors.specs.Scaling.{IsScaling};
-use hfr_averages::group_value;
-use hfr_averages::hfr_source_average;
-use hfr_averages::hfr_spectra_average;
+use crate::averages::group_value;
+use crate::averages::hfr_source_average;
+use crate::averages::hfr_spectra_average;
 use rules::Layout;
 
 fn calculate_hfr_scale(

@@ -1,7 +1,7 @@
 // Request A5: a whole line of frames of one layout in one call, in buffers that the caller lends.
 ghost use mathlib.Core.Path.{_≡_};
 ghost use Rattle.rules_line.specs.Line.{lineLent, lineLeft, line};
-use line_frames::encode_frames;
+use line_turns::encode_frames;
 use rules::Layout;
 use rules_line::LineAnswer;
 use rules_line::Tally;

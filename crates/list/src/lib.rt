@@ -1,4 +1,14 @@
 // The list beside the bank: its writer, its reader, the lookup by frame number and the summary.
+
+// Whether bytes are a list, and one entry of its bytes.
+pub mod judging;
+// The summary of a list's entries.
+pub mod summing;
+// A list's entries into memory.
+mod reading;
+// Entries in memory, and the list that is written of them.
+mod writing;
+
 ghost use mathlib.Core.Path.{_≡_};
 ghost use mathlib.Core.Bool.{cond};
 ghost use Prim.Native.Nat.{_*_, _<_};
@@ -7,20 +17,17 @@ ghost use Rattle.rules.specs.Refusals.{refused};
 ghost use Rattle.rules_files.specs.List.{listLeft, listWritten, entriesLeft, listReadOutcome, listRead};
 ghost use Rattle.rules_files.specs.List.{entryOutcome, looked, summaryOutcome, summed, judgedList};
 ghost use Rattle.rules_files.specs.declared.list.Judgement.the-variants.{Good};
-use list_judge::entry_in;
-use list_judge::judge_list;
-use list_sums::sum_entries;
-use reading::store_entries;
+use crate::judging::entry_in;
+use crate::judging::judge_list;
+use crate::reading::store_entries;
+use crate::summing::sum_entries;
+use crate::writing::entries_legal;
+use crate::writing::put_list;
 use rules_files::list::EntryAnswer;
 use rules_files::list::Judgement;
 use rules_files::list::ListAnswer;
 use rules_files::list::ListWritten;
 use rules_files::list::SummaryAnswer;
-use writing::entries_legal;
-use writing::put_list;
-
-mod reading;
-mod writing;
 
 // The writer takes any arguments. Refusals 2 and 21, in this order.
 pub fn write_list(frames: u32, entries: &[u32], list: &mut [u8]) -> ListWritten

@@ -4,7 +4,7 @@ ghost use Prim.Native.Nat.{_+_, _*_, _≤_};
 ghost use lib.ListN.{length};
 ghost use Rattle.rules.specs.Lent.{laid};
 ghost use Rattle.rules_files.specs.List.{entryNumbers, framesIn, entriesOf};
-use list_judge::entry_in;
+use crate::judging::entry_in;
 use rules_files::list::Entry;
 
 // An entry over four numbers.

@@ -7,7 +7,7 @@ ghost use Rattle.buffers.specs.Walk.{blocks};
 ghost use Rattle.numbers.specs.Numbers.{highFirst, replaced};
 ghost use Rattle.rules.specs.Lent.{laid};
 ghost use Rattle.rules_files.specs.List.{entryBytes, entryAt, legalEntries, listHead, listOf};
-use list_judge::is_legal_entry;
+use crate::judging::is_legal_entry;
 use numbers::high::put_high;
 use rules_files::list::Entry;
 

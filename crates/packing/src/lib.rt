@@ -13,9 +13,9 @@ ghost use Rattle.rules.specs.Frame.{fieldEnd, frameOf};
 use bits::Place;
 use buffers::clear_u8;
 use crc::seal;
+use packing_channels::values::write_head;
+use packing_channels::write_channels;
 use packing_codes::write_codes;
-use packing_header::write_channels;
-use packing_values::write_head;
 use rules::Layout;
 
 // All fields, from the first bit on; how many bits they are.

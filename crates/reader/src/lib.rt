@@ -1,10 +1,20 @@
 // The strict reader: a frame back to its record, or the first thing that is wrong with it.
+
+// The fill after the last code.
+pub mod fill;
+// A refusal's bit, counted from the frame's first.
+pub mod fault_bits;
+// The record between sync and check.
+pub mod record;
+// The whole frame, on buffers of the stated lengths.
+pub mod frame;
+
 ghost use mathlib.Core.Path.{_≡_};
 ghost use lib.ListN.{length, take};
 ghost use Rattle.rules.specs.Layout.{Sizes, frameSize, roomOf, Enough};
 ghost use Rattle.rules.specs.Reading.{strict};
 ghost use Rattle.rules.specs.Reader.{readerLent, readerLeft, scannedLeft, readerLaid, read};
-use reader_frame::read_exact;
+use crate::frame::read_exact;
 use rules::Layout;
 use rules::ReadAnswer;
 use rules::Room;

@@ -17,10 +17,10 @@ use Rattle.rules.specs.declared.Layout.{Layout}
 use Rattle.rules.proofs.Cuts.{by-order, build-same, renewed, renewed-length, row-new, row-old}
 use Rattle.rules_formats.proofs.Turns.{onto, onto-none, each-turn, each-stop, each-end}
 use Rattle.reader_codes.specs.Rows.{Blank, StoredCodes, codedRows, readSubframe, rowOf, Subframe}
-use Rattle.reader_values.specs.Steps.{faultNumber}
-use Rattle.reader_values.specs.declared.faults.Fault.{Fault}
-use Rattle.reader_values.specs.declared.faults.Step.{Step}
-use Rattle.reader_values.specs.declared.faults.Step.the-variants as step
+use Rattle.reader_channels.specs.Steps.{faultNumber}
+use Rattle.reader_channels.specs.declared.values.faults.Fault.{Fault}
+use Rattle.reader_channels.specs.declared.values.faults.Step.{Step}
+use Rattle.reader_channels.specs.declared.values.faults.Step.the-variants as step
 
 -- the rows of the first n channels
 abbrev upTo : (l : Layout) (s : ℕ) (codes : List ℤ) (n : ℕ) → List (List ℤ)

@@ -16,9 +16,9 @@ use Rattle.rules.specs.declared.Layout.{Layout}
 use Rattle.rules.proofs.Cuts.{by-order, build-same, blocks-same, length-part, parts-all, subframe-cut}
 use Rattle.rules_formats.proofs.Turns.{onto, onto-none, each-turn, each-stop, each-end}
 use Rattle.reader_codes.specs.Rows.{Blank, readSubframe, readSubframes, rowOf, subframeIn, Subframe, Subframes}
-use Rattle.reader_values.specs.Steps.{faultNumber}
-use Rattle.reader_values.specs.declared.faults.Fault.{Fault}
-use Rattle.reader_values.specs.declared.faults.Step.the-variants as step
+use Rattle.reader_channels.specs.Steps.{faultNumber}
+use Rattle.reader_channels.specs.declared.values.faults.Fault.{Fault}
+use Rattle.reader_channels.specs.declared.values.faults.Step.the-variants as step
 
 times-long : length (times 8) ≡ 8
 times-long = refl

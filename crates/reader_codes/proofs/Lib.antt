@@ -1,3 +1,9 @@
+-- lookup
+pub mod Entries
+-- one_code
+pub mod Ahead
+pub mod Telling
+-- the whole
 pub mod Padding
 pub mod CodeChannels
 pub mod Eight

@@ -11,8 +11,8 @@ use Rattle.rules.specs.Record.{codesIn, pad}
 use Rattle.resolutions.specs.Coded.{codedResolutions}
 use Rattle.rules.specs.Reading.{readCode}
 use Rattle.rules.specs.declared.Layout.{Layout}
-use Rattle.reader_values.specs.Steps.{Done, ifDone}
-use Rattle.reader_values.specs.declared.faults.Step.{Step}
+use Rattle.reader_channels.specs.Steps.{Done, ifDone}
+use Rattle.reader_channels.specs.declared.values.faults.Step.{Step}
 
 -- a row of 128 codes that is zero past its coded count
 abbrev pub Blank : (coded : ℕ) (row : List ℤ) → Type 0

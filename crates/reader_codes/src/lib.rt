@@ -1,4 +1,10 @@
 // The strict reader's codes, from the part of a frame between its sync and its check.
+
+// A code from the numbers that its bits make.
+pub mod lookup;
+// One code, read.
+pub mod one_code;
+
 ghost use mathlib.Core.Path.{_≡_};
 ghost use Prim.Native.Nat.{_*_, _≤_, _<_};
 ghost use lib.ListN.{length, take};
@@ -8,13 +14,13 @@ ghost use Rattle.rules.specs.Format.{each};
 ghost use Rattle.rules.specs.Layout.{Sizes, spectrumLength, factorLength};
 ghost use Rattle.rules.specs.Reading.{readCode};
 ghost use Rattle.reader_codes.specs.Rows.{readSubframe, readSubframes, StoredCodes, Subframe, Subframes};
+use crate::one_code::Code;
+use crate::one_code::read_code;
 use bits::Place;
 use buffers::clear_i32;
 use layouts::coded_count;
-use reader_code_values::Code;
-use reader_code_values::read_code;
-use reader_values::faults::Fault;
-use reader_values::faults::Step;
+use reader_channels::values::faults::Fault;
+use reader_channels::values::faults::Step;
 use rules::Layout;
 
 // One subframe of one channel: the codes of its coded bands, and zeros behind them.

@@ -1,13 +1,22 @@
-// The refusals of document 01: the number, and the number beside it. Those of the stereo call and of a line have a module each.
+// The refusals of every call: the number, and the number beside it. Here those of the three calls of document 01.
+
+// The stereo call's.
+pub mod stereo;
+// A line's.
+pub mod line;
+// The file header's.
+pub mod header;
+// The list's.
+pub mod list;
+// The WAV reader's.
+pub mod wav;
+
 ghost use mathlib.Core.Path.{_≡_};
 ghost use Rattle.rules.specs.Refusals.{refused, stageOutcome, writerOutcome, readerOutcome};
 ghost use Rattle.refusals.specs.Refusals.{refusalOf};
 use rules::ReadAnswer;
 use rules::StageAnswer;
 use rules::WriteAnswer;
-
-pub mod line;
-pub mod stereo;
 
 // A number of 0 stands for no refusal.
 pub struct Refusal {

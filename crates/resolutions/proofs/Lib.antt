@@ -1,1 +1,4 @@
+-- noise_curve
+pub mod CurveEntries
+-- the whole
 pub mod Bands

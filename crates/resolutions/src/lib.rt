@@ -1,4 +1,8 @@
 // Document 01, **Resolution**: of a factor at a noise, of a channel's bands, of all channels.
+
+// The noise of a band, and the curve that a resolution is read from.
+pub mod noise_curve;
+
 ghost use mathlib.Core.Path.{_≡_};
 ghost use mathlib.Core.Bool.{cond};
 ghost use Prim.Native.Nat.{_*_, _≤_, min, max};
@@ -6,9 +10,9 @@ ghost use lib.Dec.{ltb};
 ghost use lib.ListN.{length};
 ghost use Rattle.rules.specs.Layout.{Sizes};
 ghost use Rattle.rules.specs.Resolution.{noiseAt, heldPosition, resolutionIn, resolution, channelResolutions, allResolutions};
+use crate::noise_curve::curve;
+use crate::noise_curve::noise_at;
 use layouts::coded_count;
-use noise_curve::curve;
-use noise_curve::noise_at;
 use quantizer::held;
 use rules::Layout;
 

@@ -17,7 +17,7 @@ use Rattle.rules.specs.Refusals.{Outcome, delivered, refused}
 use Rattle.rules.specs.Stage.{StageLent, StageLeft, gated, lentRoom, stageHasRoom, badIntensity, badSpectrum, gate, Made, madeRecord, finished, packed, settled, stage}
 use Rattle.rules.specs.declared.Layout.{Layout}
 use Rattle.rules.proofs.Cuts.{by-order}
-use Rattle.rules_searches.proofs.FoundLevel.{not-both}
+use Rattle.rules_demands.proofs.FoundLevel.{not-both}
 use Rattle.rules_demands.proofs.StageAnswers.{Passes, madeBy}
 
 -- ---- the first index with a property

@@ -1,3 +1,9 @@
+-- what the searches find, over any test
+pub mod Searches
+pub mod Probes
+pub mod FoundLevel
+pub mod FoundBoundary
+pub mod FoundPairs
 -- records in buffers, and the stage's
 pub mod Stores
 pub mod LegalRecords

@@ -33,7 +33,7 @@ use Rattle.rules.proofs.Cuts.{by-order, length-part, part-of-front, block-part,
 use Rattle.rules.proofs.Layouts.{coded-few}
 use Rattle.rules_demands.proofs.LegalRecords.{Held, Blank, held-record, row-code}
 use Rattle.rules.proofs.Boundaries.{boundary-of-le}
-use Rattle.rules_searches.proofs.Searches.{boundary-silent, found-level, found-few, found-none, found-keeps}
+use Rattle.rules_demands.proofs.Searches.{boundary-silent, found-level, found-few, found-none, found-keeps}
 
 -- ---- factors
 

@@ -20,8 +20,8 @@ use Rattle.rules.proofs.Layouts.{legal-sizes}
 use Rattle.rules.proofs.Cuts.{part-of-front}
 use Rattle.rules.proofs.Made.{factors-size}
 use Rattle.rules_demands.proofs.MadeRecord.{made-factors, made-none}
-use Rattle.rules_searches.specs.Pairs.{afterPairs}
-use Rattle.rules_searches.proofs.FoundPairs.{factors-after-pairs, level-of-factors, earlier-none, pairs-few, none-every-stage, after-keeps, after-clears}
+use Rattle.rules_demands.specs.Pairs.{afterPairs}
+use Rattle.rules_demands.proofs.FoundPairs.{factors-after-pairs, level-of-factors, earlier-none, pairs-few, none-every-stage, after-keeps, after-clears}
 use Rattle.rules_demands.proofs.Deliveries.{laid-front}
 use Rattle.rules_demands.proofs.StageAnswers.{madeBy, levelBy, pairsBy, passes, ends-done, no-level, no-level-pairs, delivers}
 use Rattle.rules_demands.proofs.Exactly.{Good, good-passes, passes-good}

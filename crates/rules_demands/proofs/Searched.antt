@@ -11,10 +11,10 @@ use Rattle.rules.specs.Boundary.{searchBoundary, boundaryOf}
 use Rattle.rules.specs.Refusals.{delivered}
 use Rattle.rules.specs.Stage.{StageLent, made, madeFrom, stage}
 use Rattle.rules.specs.declared.Layout.{Layout}
-use Rattle.rules_searches.specs.Pairs.{afterPairs}
-use Rattle.rules_searches.proofs.FoundLevel.{level-fits, level-before-exceeds}
-use Rattle.rules_searches.proofs.FoundBoundary.{boundary-fits, boundary-next-exceeds, all-fit-last, boundary-searched}
-use Rattle.rules_searches.proofs.FoundPairs.{factors-after-pairs}
+use Rattle.rules_demands.specs.Pairs.{afterPairs}
+use Rattle.rules_demands.proofs.FoundLevel.{level-fits, level-before-exceeds}
+use Rattle.rules_demands.proofs.FoundBoundary.{boundary-fits, boundary-next-exceeds, all-fit-last, boundary-searched}
+use Rattle.rules_demands.proofs.FoundPairs.{factors-after-pairs}
 use Rattle.rules_demands.proofs.StageAnswers.{levelBy, boundaryBy, pairsBy, passes, delivers}
 use Rattle.rules_demands.proofs.Pairs.{factorsOf, scaledOf, pairs-least}
 

@@ -1,1 +1,1 @@
-// The demands said of the three calls, as theorems; no code.
+// What the searches find, over any test, and the demands said of the three calls, as theorems; no code.

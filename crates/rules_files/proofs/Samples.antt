@@ -19,7 +19,7 @@ use lib.Ieee.Digits.{back}
 use lib.Ieee.Exact.{HasValue, odd-sign, round-exact}
 use lib.Ieee.Fits.{down-pos, odd-fits, round-fits}
 use lib.Ieee.Scale.{finite, round-same}
-use Rattle.magnitudes.proofs.Values.{value-unique}
+use Rattle.floats.proofs.SumValues.{value-unique}
 use Rattle.rules_files.specs.Wav.{isDepth, sampleWidth, wholeSamples, overPower, signedSample, sampleOf}
 use Rattle.rules_files.specs.declared.wav.WavData.{WavData}
 

@@ -1,13 +1,19 @@
 // Document 01's frame stage: from a frame's spectra to its finished frame, in buffers that the caller lends.
+
+// The run behind the gate, on buffers of the stated lengths.
+pub mod run;
+// The parts of longer buffers that the run is lent.
+pub mod parts;
+
 ghost use mathlib.Core.Path.{_≡_};
 ghost use Rattle.rules.specs.Stage.{stageLent, stageLeft, stage};
+use crate::parts::encode_parts;
 use rules::Layout;
 use rules::Room;
 use rules::StageAnswer;
 use rules::StageRoom;
 use stage_gate::Gate;
 use stage_gate::first_refusal;
-use stage_parts::encode_parts;
 
 // The frame stage. It takes any arguments: what cannot be done is refused, and the answer says why.
 pub fn encode_frame(

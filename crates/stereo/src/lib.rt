@@ -7,15 +7,15 @@ ghost use Rattle.rules.specs.Stage.{stageLent, stageLeft, stageRoom};
 ghost use Rattle.rules_stereo.specs.Mixed.{signal};
 ghost use Rattle.rules_stereo.specs.Stereo.{stereoLeft, withSignal, mixedFront, signalLaid, stereoRun, stereo};
 ghost use Rattle.stage_gate.specs.Gate.{Long};
-use mixing::encode_intensity_stereo;
 use rules::Layout;
 use rules::Room;
 use rules::StageAnswer;
 use rules::StageRoom;
 use rules_stereo::StereoAnswer;
-use stage_parts::encode_parts;
+use stage::parts::encode_parts;
 use stereo_gate::StereoGate;
 use stereo_gate::first_stereo_refusal;
+use stereo_mixing::encode_intensity_stereo;
 
 // The parts of the stated lengths are mixed, and the rest stays untouched.
 fn mix_parts(layout: Layout, spectra: &mut [f32], intensities: &mut [u8])

@@ -14,7 +14,7 @@ use lib.Ieee.Exact.{HasValue}
 use lib.Ieee.Back.{round-whole}
 use lib.Ieee.Order.{round-mono, le-of-values}
 use Rattle.floats.specs.Single.{absF}
-use Rattle.magnitudes.proofs.Rounded.{Upward, upward-round, neg-round}
+use Rattle.floats.proofs.SumRounded.{Upward, upward-round, neg-round}
 
 -- |x| is at most n, so that x is finite
 abbrev pub UpTo : (n : ℕ) (x : Float) → Type 0

@@ -12,7 +12,7 @@ use Rattle.buffers.specs.Walk.{build}
 use Rattle.buffers.proofs.Build.{length-build}
 use Rattle.rules_files.specs.Wav.{isWave, isDepth, walked, wholeSamples, sampleAt, allFinite, noteOf, wavOutcome, wavNote, WavLeft, wavLeft, wavTaken, dataRead, walkRead, wavRead}
 use Rattle.rules_files.specs.WavFits.{FormatFits, DataFits, WalkFits, TakeFits}
-use Rattle.wav_samples.specs.Inside.{SamplesInside}
+use Rattle.wav.specs.Inside.{SamplesInside}
 use Rattle.rules_files.specs.declared.wav.WavData.{WavData}
 use Rattle.rules_files.specs.declared.wav.WavWalk.{WavWalk}
 use Rattle.rules_files.specs.declared.wav.WavWalk.the-variants as at-end

@@ -1,1 +1,8 @@
+-- chunks
+mod Turns
+-- samples
+mod Growing
+mod Patterns
+mod Taking
+-- the whole
 mod Answers

@@ -1,17 +1,23 @@
 // The WAV reader's public call: request A13.
+
+// The walk over a file's chunks, up to its data.
+pub mod chunks;
+// A data chunk's samples: counted, judged, stored and noted.
+pub mod samples;
+
 ghost use mathlib.Core.Path.{_≡_};
 ghost use Rattle.rules_files.specs.Wav.{wavLeft, dataRead, wavRead};
 ghost use Rattle.rules_files.specs.WavFits.{DataFits, TakeFits};
+use crate::chunks::find_data;
+use crate::chunks::is_wave;
+use crate::samples::all_finite;
+use crate::samples::is_depth;
+use crate::samples::take_samples;
+use crate::samples::whole_samples;
 use rules_files::wav::Take;
 use rules_files::wav::WavAnswer;
 use rules_files::wav::WavData;
 use rules_files::wav::WavWalk;
-use wav_chunks::find_data;
-use wav_chunks::is_wave;
-use wav_samples::all_finite;
-use wav_samples::is_depth;
-use wav_samples::take_samples;
-use wav_samples::whole_samples;
 
 // The take from a data chunk that was found. Every pattern is judged before the first sample is stored.
 fn read_data(wav: &[u8], found: WavData, samples: &mut [f32]) -> WavAnswer

@@ -1,2 +1,5 @@
+-- deltas
+pub mod Sizes
+-- the whole
 pub mod Costs
 pub mod Walks

@@ -1,1 +1,4 @@
+-- deltas
+pub mod Previous
+-- the whole
 pub mod Walks

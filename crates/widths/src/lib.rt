@@ -1,11 +1,15 @@
 // Document 01, **Width**: the width of a channel's factor deltas, and what its factors cost.
+
+// One factor's delta, how far a width reaches, and what a later band takes.
+pub mod deltas;
+
 ghost use mathlib.Core.Path.{_≡_};
 ghost use Prim.Native.Nat.{_+_, _*_, _≤_};
 ghost use lib.ListN.{length, take};
 ghost use Rattle.rules.specs.Width.{width, widthCost};
 ghost use Rattle.widths.specs.Walks.{Short, longer, firstWalk, walkOn, orLess, chosenOf};
-use deltas::bits_at;
-use deltas::distance;
+use crate::deltas::bits_at;
+use crate::deltas::distance;
 
 pub struct Width {
     pub bits: usize,

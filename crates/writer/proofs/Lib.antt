@@ -1,1 +1,4 @@
+-- values
+pub mod Ranges
+-- the whole
 pub mod Answers

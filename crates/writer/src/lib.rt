@@ -1,9 +1,20 @@
 // The record writer: a legal record's frame, written into a lent buffer.
+
+// Is one value legal: level and boundary, a row, a code?
+pub mod values;
+// Is the record legal?
+pub mod legality;
+// How the call ends: refusals 15 and 7, or what is delivered.
+pub mod ending;
+
 ghost use mathlib.Core.Path.{_≡_};
 ghost use Prim.Native.Nat.{_*_};
 ghost use lib.ListN.{length};
 ghost use Rattle.rules.specs.Layout.{Sizes, frameSize, roomOf, Enough};
 ghost use Rattle.rules.specs.Writer.{writerLent, writerLeft, recordWritten, written};
+use crate::ending::answered;
+use crate::ending::not_legal;
+use crate::legality::is_legal;
 use layouts::has_room;
 use layouts::legal;
 use packing::pack_frame;
@@ -11,9 +22,6 @@ use resolutions::RESOLUTION_ROOM;
 use rules::Layout;
 use rules::Room;
 use rules::WriteAnswer;
-use writer_answers::answered;
-use writer_answers::not_legal;
-use writer_legal::is_legal;
 
 // On buffers of the stated lengths.
 fn write_exact(

@@ -57,10 +57,10 @@ use Rattle.rules_line.proofs.LineEnd as L
 use Rattle.rules_line.proofs.LineEnd.Laws as L′
 use Rattle.rules_line.proofs.Tally as T
 use Rattle.rules_line.proofs.Tally.Laws as T′
-use Rattle.line_frames.proofs.encode_frames as g
-use Rattle.line_frames.proofs.encode_frames.Symbol as g-def
-use Rattle.line_frames.proofs.encode_frames.Symbol.{name as #line-frames·encode-frames}
-use Rattle.line_frames.proofs.encode_frames.Met as g-thm
+use Rattle.line_turns.proofs.encode_frames as g
+use Rattle.line_turns.proofs.encode_frames.Symbol as g-def
+use Rattle.line_turns.proofs.encode_frames.Symbol.{name as #line-turns·encode-frames}
+use Rattle.line_turns.proofs.encode_frames.Met as g-thm
 use Rattle.line.proofs.encode_line.Key.{name as #line·encode-line}
 use Rattle.line.proofs.encode_line as f
 use Rattle.line.proofs.encode_line.Statement as stated
@@ -175,7 +175,7 @@ module _ {M : Type 1} (𝓤 : URA M) (H : Heap 𝓤) (A : Atoms 𝓤) (W : Given
       suffices ! _ (ends-at 𝓤 H A f.ended stayed (f.clauses 𝓤 H A at-mem run) W (((κ₀, (κ₁, (κ₂, (κ₃, (κ₄, (κ₅, (κ₆, (κ₇, (κ₈, tt))))))))), (q₀, (q₁, (q₂, (q₃, (q₄, (q₅, (q₆, (q₇, (q₈, tt))))))))), tt, a, vals), tt) (of-answer r) (r .answer) (tt, (tt, (tt, (tt, (zs .1 .1 .1 .1 .0, (zs .1 .1 .1 .1 .1 .0, (zs .1 .1 .1 .1 .1 .1 .0, (zs .1 .1 .1 .1 .1 .1 .1 .0, (zs .1 .1 .1 .1 .1 .1 .1 .1 .0, (zs .1 .1 .1 .1 .1 .1 .1 .1 .1 .0, (r .tally, tt))))))))))) (tt, (tt, (tt, (tt, (tt, (tt, (tt, (tt, (tt, (tt, (tt, tt)))))))))))) $ says ! e $
       move ! (1 ∷ []) $ frame ! $ keep ! (0 ∷ []) $ owned ! E.the-row (Is E.the-row) (EL.makes E.the-type E′.the-plain 𝓤 H A) (r .answer) _ (is-answer r is) $ move ! (1 ∷ 0 ∷ []) $ done !
 
-  module _ (C : Calls 𝓤 H) (Λ : Loops 𝓤 H) (fm : FmC 𝓤 H (W .laws) C) (known : Triple 𝓤 (C #line-frames·encode-frames) (Frames 𝓤 H A at-mem run)) where
+  module _ (C : Calls 𝓤 H) (Λ : Loops 𝓤 H) (fm : FmC 𝓤 H (W .laws) C) (known : Triple 𝓤 (C #line-turns·encode-frames) (Frames 𝓤 H A at-mem run)) where
     walk : Is Y.the-row h (of-layout ∷ []) → n < 2 ^ 64 → Room f32 (length (x₀ .now)) → Room u8 (length (x₁ .now)) → Room f32 (length (x₂ .now)) → Room i32 (length (x₃ .now)) → Room u8 (length (x₄ .now)) → Room u8 (length (x₅ .now)) → Room u8 (length (x₆ .now)) → Room u32 (length (x₇ .now))
         → ent 𝓤 (onEntry 𝓤 H A f.signature (κ₀, (κ₁, (κ₂, (κ₃, (κ₄, (κ₅, (κ₆, (κ₇, (κ₈, tt))))))))) (q₀, (q₁, (q₂, (q₃, (q₄, (q₅, (q₆, (q₇, (q₈, tt))))))))) a vals) (WpFn 𝓤 H C Λ code.function (of-layout ∷ vint w64 n ∷ sliceVal (x₀ .ptr) (length (x₀ .now)) ∷ sliceVal (x₁ .ptr) (length (x₁ .now)) ∷ sliceVal (x₂ .ptr) (length (x₂ .now)) ∷ sliceVal (x₃ .ptr) (length (x₃ .now)) ∷ sliceVal (x₄ .ptr) (length (x₄ .now)) ∷ sliceVal (x₅ .ptr) (length (x₅ .now)) ∷ sliceVal (x₆ .ptr) (length (x₆ .now)) ∷ sliceVal (x₇ .ptr) (length (x₇ .now)) ∷ vptr b o ∷ []) Post)
     walk is-h n-fits room₀ room₁ room₂ room₃ room₄ room₅ room₆ room₇ = via 𝓤 _ apart (
@@ -226,14 +226,14 @@ module _ {M : Type 1} (𝓤 : URA M) (H : Heap 𝓤) (A : Atoms 𝓤) (W : Given
         keep ! (0 ∷ 1 ∷ 2 ∷ 5 ∷ 4 ∷ []) $ by ! (exits r zs is e))))))))))))))))))))))))))))))))))))
 
 module _ {M : Type 1} (𝓤 : URA M) (H : Heap 𝓤) (A : Atoms 𝓤) (W : Given 𝓤 H A) (mem : Memory → SProp 𝓤) (run : Routine → Fun 𝓤) where
-  encode-line-walks : (C : Calls 𝓤 H) (Λ : Loops 𝓤 H) → FmC 𝓤 H (W .laws) C → Triple 𝓤 (C #line-frames·encode-frames) (Frames 𝓤 H A mem run) → Walks 𝓤 H A f.ended stayed (WpFn 𝓤 H C Λ code.function) (f.clauses 𝓤 H A mem run)
+  encode-line-walks : (C : Calls 𝓤 H) (Λ : Loops 𝓤 H) → FmC 𝓤 H (W .laws) C → Triple 𝓤 (C #line-turns·encode-frames) (Frames 𝓤 H A mem run) → Walks 𝓤 H A f.ended stayed (WpFn 𝓤 H C Λ code.function) (f.clauses 𝓤 H A mem run)
   encode-line-walks C Λ fm known = walked 𝓤 H A f.ended stayed (f.clauses 𝓤 H A mem run) (WpFn 𝓤 H C Λ code.function)
       (λ κs. (LL.vals Y.the-type Y′.the-laws, (uint-vals w64, (slice-vals, (slice-vals, (slice-vals, (slice-vals, (slice-vals, (slice-vals, (slice-vals, (slice-vals, (ptr-vals, tt))))))))))))
       (λ κs. (LL.tells Y.the-type Y′.the-laws, (uint-tells w64, (shr-slice-tells (named 0) (κs .0) f32, (shr-slice-tells (named 1) (κs .1 .0) u8, (mut-slice-tells (named 2) (κs .1 .1 .0) f32, (mut-slice-tells (named 3) (κs .1 .1 .1 .0) i32, (mut-slice-tells (named 4) (κs .1 .1 .1 .1 .0) u8, (mut-slice-tells (named 5) (κs .1 .1 .1 .1 .1 .0) u8, (mut-slice-tells (named 6) (κs .1 .1 .1 .1 .1 .1 .0) u8, (mut-slice-tells (named 7) (κs .1 .1 .1 .1 .1 .1 .1 .0) u32, (mut-tells (named 8) (κs .1 .1 .1 .1 .1 .1 .1 .1 .0) T.the-row, tt))))))))))))
       (λ κs qs bounds a _ are. via 𝓤 _ (fst∗ 𝓤 _ (emp 𝓤)) (walk 𝓤 H A W mem run (κs .0) (κs .1 .0) (κs .1 .1 .0) (κs .1 .1 .1 .0) (κs .1 .1 .1 .1 .0) (κs .1 .1 .1 .1 .1 .0) (κs .1 .1 .1 .1 .1 .1 .0) (κs .1 .1 .1 .1 .1 .1 .1 .0) (κs .1 .1 .1 .1 .1 .1 .1 .1 .0) (qs .0) (qs .1 .0) (qs .1 .1 .0) (qs .1 .1 .1 .0) (qs .1 .1 .1 .1 .0) (qs .1 .1 .1 .1 .1 .0) (qs .1 .1 .1 .1 .1 .1 .0) (qs .1 .1 .1 .1 .1 .1 .1 .0) (qs .1 .1 .1 .1 .1 .1 .1 .1 .0)
       (a .0) (a .1 .0) (a .1 .1 .0) (a .1 .1 .1 .0) (a .1 .1 .1 .1 .0) (a .1 .1 .1 .1 .1 .0) (a .1 .1 .1 .1 .1 .1 .0) (a .1 .1 .1 .1 .1 .1 .1 .0) (a .1 .1 .1 .1 .1 .1 .1 .1 .0) (a .1 .1 .1 .1 .1 .1 .1 .1 .1 .0) (a .1 .1 .1 .1 .1 .1 .1 .1 .1 .1 .0) C Λ fm known (are .0) (are .1 .0 .1) (are .1 .1 .0 .0 .1) (are .1 .1 .1 .0 .0 .1) (are .1 .1 .1 .1 .0 .0 .1) (are .1 .1 .1 .1 .1 .0 .0 .1) (are .1 .1 .1 .1 .1 .1 .0 .0 .1) (are .1 .1 .1 .1 .1 .1 .1 .0 .0 .1) (are .1 .1 .1 .1 .1 .1 .1 .1 .0 .0 .1) (are .1 .1 .1 .1 .1 .1 .1 .1 .1 .0 .0 .1)))
 
-encode-line-meets : {M : Type 1} (𝓤 : URA M) (H : Heap 𝓤) (A : Atoms 𝓤) → Given 𝓤 H A → (mem : Memory → SProp 𝓤) (run : Routine → Fun 𝓤) (𝓣 : Tables 𝓤 H) → Triple 𝓤 (𝓣 .C #line-frames·encode-frames) (Frames 𝓤 H A mem run)
+encode-line-meets : {M : Type 1} (𝓤 : URA M) (H : Heap 𝓤) (A : Atoms 𝓤) → Given 𝓤 H A → (mem : Memory → SProp 𝓤) (run : Routine → Fun 𝓤) (𝓣 : Tables 𝓤 H) → Triple 𝓤 (𝓣 .C #line-turns·encode-frames) (Frames 𝓤 H A mem run)
     → Meets 𝓤 H A f.signature (WpFn 𝓤 H (𝓣 .C) (𝓣 .Λ) code.function) (f.spec 𝓤 H A mem run)
 encode-line-meets 𝓤 H A W mem run 𝓣 known =
     walk-meets 𝓤 H A f.ended stayed W (all-go 𝓤 H A W (f.ended .signature .params) (f.ended .kept)) (f.clauses 𝓤 H A mem run) (WpFn 𝓤 H (𝓣 .C) (𝓣 .Λ) code.function) (WpFn-mono 𝓤 H (W .laws) 𝓣 code.function)
@@ -245,4 +245,4 @@ encode-line-spec 𝓤 H 𝓜 𝓖 𝓡 =
     entered 𝓤 H (tripleOf 𝓤 H (𝓖 .A) f.signature (f.spec 𝓤 H (𝓖 .A) (𝓜 .mem) (𝓡 .run)))
     (tables 𝓤 H 𝓜 𝓡 code.env .C) (tables 𝓤 H 𝓜 𝓡 code.env .Λ) #line·encode-line code.function (code.unfolded 𝓤 H 𝓜 𝓡)
     (encode-line-meets 𝓤 H (𝓖 .A) (givenOf 𝓤 H 𝓜 𝓖) (𝓜 .mem) (𝓡 .run) (tablesOf 𝓤 H 𝓜 (tables 𝓤 H 𝓜 𝓡 code.env))
-    (cited 𝓤 H (Frames 𝓤 H (𝓖 .A) (𝓜 .mem) (𝓡 .run)) 𝓜 𝓡 code.env #line-frames·encode-frames g-def.routine code.calls-line-frames·encode-frames (g-thm.met 𝓤 H 𝓜 𝓖 𝓡)))
+    (cited 𝓤 H (Frames 𝓤 H (𝓖 .A) (𝓜 .mem) (𝓡 .run)) 𝓜 𝓡 code.env #line-turns·encode-frames g-def.routine code.calls-line-turns·encode-frames (g-thm.met 𝓤 H 𝓜 𝓖 𝓡)))

@@ -15,8 +15,8 @@ use lib.Seq.{getD-take, take-suc-set, length-take-le}
 use Rattle.bits.specs.Place.{leftAt}
 use Rattle.rules.specs.Format.{ok, each}
 use Rattle.rules.specs.Reading.{readCode}
-use Rattle.reader_code_values.specs.CodeTold.{CodeTold}
-use Rattle.reader_code_values.proofs.Telling.{cut-code}
+use Rattle.reader_codes.specs.CodeTold.{CodeTold}
+use Rattle.reader_codes.proofs.Telling.{cut-code}
 use Rattle.rules_formats.proofs.Turns.{onto, onto-none, each-turn, each-stop, each-end}
 use Rattle.reader_codes.proofs.Padding.{cleared-front, cleared-blank}
 use Rattle.reader_codes.proofs.read_spectra.Statement.{statement}

@@ -3,7 +3,7 @@ use mathlib.Core.Path.{sym, _∙_}
 use native.Mathlib.Omega.{arith}
 use borrow.Author.Needs.{needs}
 use borrow.Author.Tests.{not-true, not-false}
-use Rattle.wav_samples.specs.Inside.{SamplesInside}
+use Rattle.wav.specs.Inside.{SamplesInside}
 use Rattle.wav.proofs.Answers.{data-empty, data-depth, data-many, data-short, data-finite, data-taken, lent-length, lent-inside}
 use Rattle.wav.proofs.read_data.Statement.{statement}
 use Rattle.wav.proofs.read_data.Tie as tie

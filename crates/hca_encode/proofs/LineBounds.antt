@@ -1,0 +1,85 @@
+-- Every number that is told of a line fits 32 bits. Assumes nothing.
+use mathlib.Core.Path.{_≡_}
+use mathlib.Core.List.{List, []}
+use mathlib.Core.Option.{Option, none, some}
+use Prim.Native.Nat.{ℕ, zero, suc, _≤_, _<_}
+use native.Mathlib.Omega.{arith}
+use lib.ListN.{length}
+use Rattle.rules.specs.Refusals.{Outcome, delivered, refused}
+use Rattle.rules.specs.Stage.{StageLent}
+use Rattle.rules.specs.declared.Layout.{Layout}
+use Rattle.rules_demands.proofs.StageAnswers.{StageBounded, answers-bounded, beside-bounded, stage-bounds}
+use Rattle.rules_line.specs.Line.{LineLent, LineLeft, lineLengths, frameLent, stageAt, turnOutcome, turnIndex, lineTurn, lineGate, turnLent, onward, lineAfter, lineGated, line}
+use Rattle.rules_line.proofs.Gates.{gate-open, gate-case}
+use Rattle.rules_line.proofs.Turns.{turnAfter}
+use Rattle.hca_answers.specs.Outcomes.{numbersOf, Small}
+use Rattle.hca_answers.proofs.Fitting.{small-refused}
+use Rattle.hca_encode.specs.Lined.{IndexFits, LineSmall}
+
+small-none : Small (delivered [])
+unfolding Small numbersOf
+small-none i = omega arith
+
+-- what is told after n turns: the number beside a refusal, and a frame's index below n
+record Fitting (n : ℕ) (x : LineLeft) : Type 0 where
+  numbers : Small (x .outcome)
+  index : (k : ℕ) → x .index ≡ some k → k < n
+  refuses : (k : ℕ) (ns : List ℕ) → x .index ≡ some k → x .outcome ≡ delivered ns → ⊥
+
+turn-small : (o : Outcome) → StageBounded o → Small (turnOutcome o)
+unfolding turnOutcome
+turn-small o (answers-bounded level boundary pairs bits _ _ _ _) = small-none
+turn-small o (beside-bounded number beside h) = small-refused number beside h
+
+turn-index : (k : ℕ) (o : Outcome) (j : ℕ) → turnIndex k o ≡ some j → j < suc k
+unfolding turnIndex
+turn-index k (delivered ns) j e = let z : _≡_ {A = ℕ} 0 1 = cc e in absurd (omega arith)
+turn-index k (refused number beside) j e = let q : k ≡ j = cc e in omega arith
+
+turn-refuses : (k : ℕ) (o : Outcome) (j : ℕ) (ns : List ℕ) → turnIndex k o ≡ some j → turnOutcome o ≡ delivered ns → ⊥
+unfolding turnIndex turnOutcome
+turn-refuses k (delivered ms) j ns e f = let z : _≡_ {A = ℕ} 0 1 = cc e in omega arith
+turn-refuses k (refused number beside) j ns e f = let z : _≡_ {A = ℕ} 0 1 = cc f in omega arith
+
+at-bounded : (l : Layout) (k : ℕ) (t : StageLent) → StageBounded (stageAt l k t .outcome)
+unfolding stageAt
+at-bounded l k t = stage-bounds l (frameLent l k t)
+
+fitting-on : (n : ℕ) (i : Option ℕ) (x y : LineLeft) → Fitting n x → Fitting (suc n) y → Fitting (suc n) (onward i x y)
+unfolding onward
+fitting-on n none x y f g = g
+fitting-on n (some k) x y f g = record { numbers = f .numbers; index = λ j e. (let h = f .index j e in omega arith); refuses = f .refuses }
+
+after-fits : (l : Layout) (t : LineLent) (n : ℕ) → Fitting n (lineAfter l t n)
+unfolding lineAfter lineTurn
+after-fits l t zero = record { numbers = small-none; index = λ k e. (let z : _≡_ {A = ℕ} 0 1 = cc e in absurd (omega arith)); refuses = λ k ns e f. (let z : _≡_ {A = ℕ} 0 1 = cc e in omega arith) }
+after-fits l t (suc n) =
+    let x = lineAfter l t n in
+    let o = stageAt l n (turnLent t x) .outcome in
+    fitting-on n (x .index) x (turnAfter l t n x) (after-fits l t n)
+    (record { numbers = turn-small o (at-bounded l n (turnLent t x)); index = turn-index n o; refuses = turn-refuses n o })
+
+module _ (l : Layout) (count : ℕ) (t : LineLent) where
+  abbrev Tells : LineLeft → Type 0
+  Tells x = LineSmall (x .outcome) (x .index)
+
+  kept-tells : (number : ℕ) (x : LineLeft) → Tells (lineGated (refused number 0) t x)
+  unfolding lineGated IndexFits
+  kept-tells number x = record {
+    numbers = small-refused number 0 (omega arith);
+    index = λ k e. (let z : _≡_ {A = ℕ} 0 1 = cc e in absurd (omega arith));
+    refuses = λ k ns e f. (let z : _≡_ {A = ℕ} 0 1 = cc e in omega arith);
+  }
+
+  open-tells : lineGate l count (lineLengths t) (length (t .answers)) (t .tally) ≡ delivered [] → Tells (lineGated (delivered []) t (lineAfter l t count))
+  unfolding lineGated IndexFits
+  open-tells a =
+      let few = gate-open l count (lineLengths t) (length (t .answers)) (t .tally) a .batch .few in
+      let f = after-fits l t count in
+      record { numbers = f .numbers; index = λ k e. (let h = f .index k e in omega arith); refuses = f .refuses }
+
+  pub line-tells : Tells (line l count t)
+  unfolding line
+  line-tells =
+      let x = lineAfter l t count in
+      gate-case l count (lineLengths t) (length (t .answers)) (t .tally) (λ o. Tells (lineGated o t x)) (kept-tells 1 x) (kept-tells 18 x) (kept-tells 2 x) open-tells

@@ -1,0 +1,9 @@
+-- header
+mod HeaderTellings
+-- lists
+mod ListRefusing
+mod ListStoring
+mod ListBounds
+mod ListTellings
+-- wavs
+mod WavTellings

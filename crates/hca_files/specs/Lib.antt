@@ -1,0 +1,6 @@
+-- header
+pub mod HeaderWrote
+-- lists
+pub mod Listed
+-- wavs
+pub mod Takes

@@ -1,4 +1,0 @@
-mod Refusing
-mod Storing
-mod Bounds
-mod Tellings

@@ -1,0 +1,6 @@
+-- write
+pub mod WriteTellings
+pub mod WriteBounds
+-- read
+pub mod ReadTellings
+pub mod ReadBounds

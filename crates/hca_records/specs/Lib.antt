@@ -1,0 +1,4 @@
+-- write
+pub mod Wrote
+-- read
+pub mod Returned

@@ -1,2 +1,0 @@
-pub mod Tellings
-pub mod Bounds

@@ -1,0 +1,116 @@
+-- `line_turns::encode_turns` meets its contract. The invariant: the line so far, every frame delivered. Assumes nothing.
+use mathlib.Core.Path.{_∙_}
+use Prim.Native.Nat.{_≤_, _-_}
+use native.Mathlib.Omega.{arith}
+use borrow.Author.Needs.{needs}
+use Rattle.rules_line.specs.Line.{lineLent}
+use Rattle.line_turns.proofs.Going.{Going, going-none, going-counts, going-more, going-stop, going-all, turn-there, answers-there}
+use Rattle.line_turns.proofs.encode_turns.Statement.{statement}
+use Rattle.line_turns.proofs.encode_turns.Tie as tie
+
+abbrev Inv-loop : tie.InvT-loop
+Inv-loop layout count spectra intensities scaled₀ codes₀ factors₀ side₀ frames₀ answers₀ sum₀ k₀ scaled codes factors side frames answers sum k =
+    (k ≤ count) × Going layout (lineLent spectra intensities scaled₀ codes₀ factors₀ side₀ frames₀ answers₀ sum₀) k sum scaled codes factors side frames answers
+
+abbrev μ-loop : tie.MeasureT-loop
+μ-loop layout count spectra intensities scaled₀ codes₀ factors₀ side₀ frames₀ answers₀ sum₀ k₀ scaled codes factors side frames answers sum k = count - k
+
+loop-holds : tie.Need-loop-holds Inv-loop μ-loop
+loop-holds c = (omega arith, going-none _ _)
+
+encode-turn-requires : tie.Need-encode-turn-requires Inv-loop μ-loop
+encode-turn-requires c κs =
+    let s = c .before .before .before .before .before .before .before .before .before .before .before .before .before .before .before in
+    let t = lineLent (s .args .spectra .now) (s .args .intensities .now) (s .args .scaled .now) (s .args .codes .now) (s .args .factors .now) (s .args .side .now) (s .args .frames .now) (s .args .answers .now) (s .args .tally) in
+    let l = c .before .before .before .before .before .before .before .loop in
+    let g = l .inv .1 in
+    let h = c .before .before .before .before .before .before .loop-test .taken in (
+      s .pre .0,
+      (turn-there _ t _ _ (l .frames) h (s .pre .1 .0 .few) (s .pre .1 .1) (g .frames), (answers-there (s .args .layout) t _ _ (l .answers) h (s .pre .1 .1) (g .answers), going-counts _ _ _ _ _ _ _ _ _ _ g _ (s .pre .1 .0) (omega arith))),
+    )
+
+enum-told : tie.Need-enum-told Inv-loop μ-loop
+enum-told c = search needs
+
+same-length : tie.Need-same-length Inv-loop μ-loop
+same-length c = c .before .before .before .before .before .before .before .before .before .before .before .before .encode-turn .kept .1 .1 .1 .1 .0 ∙ c .before .before .before .before .before .before .before .before .before .before .before .before .before .before .before .before .before .before .before .before .loop .inv .1 .scaled
+
+same-length-2 : tie.Need-same-length-2 Inv-loop μ-loop
+same-length-2 c = c .before .before .before .before .before .before .before .before .before .before .before .before .encode-turn .kept .1 .1 .1 .1 .1 .0 ∙ c .before .before .before .before .before .before .before .before .before .before .before .before .before .before .before .before .before .before .before .before .loop .inv .1 .codes
+
+same-length-3 : tie.Need-same-length-3 Inv-loop μ-loop
+same-length-3 c = c .before .before .before .before .before .before .before .before .before .before .before .before .encode-turn .kept .1 .1 .1 .1 .1 .1 .0 ∙ c .before .before .before .before .before .before .before .before .before .before .before .before .before .before .before .before .before .before .before .before .loop .inv .1 .factors
+
+same-length-4 : tie.Need-same-length-4 Inv-loop μ-loop
+same-length-4 c = c .before .before .before .before .before .before .before .before .before .before .before .before .encode-turn .kept .1 .1 .1 .1 .1 .1 .1 .0 ∙ c .before .before .before .before .before .before .before .before .before .before .before .before .before .before .before .before .before .before .before .before .loop .inv .1 .side
+
+same-length-5 : tie.Need-same-length-5 Inv-loop μ-loop
+same-length-5 c = c .before .before .before .before .before .before .before .before .before .before .before .before .encode-turn .kept .1 .1 .1 .1 .1 .1 .1 .1 .0 ∙ c .before .before .before .before .before .before .before .before .before .before .before .before .before .before .before .before .before .before .before .before .loop .inv .1 .frames
+
+same-length-6 : tie.Need-same-length-6 Inv-loop μ-loop
+same-length-6 c = c .before .before .before .before .before .before .before .before .before .before .before .before .encode-turn .kept .1 .1 .1 .1 .1 .1 .1 .1 .1 .0 ∙ c .before .before .before .before .before .before .before .before .before .before .before .before .before .before .before .before .before .before .before .before .loop .inv .1 .answers
+
+returns : tie.Need-returns Inv-loop μ-loop
+returns c = going-stop _ _ _ _ _ _ _ _ _ _ (c .before .before .before .before .before .before .before .before .before .before .before .before .before .before .before .before .before .before .before .before .loop .inv .1) _ _ _ _ _ _ _ _ (c .before .before .before .before .before .before .before .before .before .before .before .before .encode-turn .ensures) _ (c .before .before .before .before .before .before .before .before .before .before .before .before .before .before .before .before .before .before .before .loop-test .taken) (c .match .keys2)
+
+add-k : tie.Need-add-k Inv-loop μ-loop
+add-k c = record { fits = omega (arith, c .before .before .before .before .before .before .before .before .before .before .before .before .before .before .before .before .before .before .before .before .before .loop-test .taken, c .before .before .before .before .before .before .before .before .before .before .before .before .before .before .before .before .before .before .before .before .before .before .before .before .before .before .before .before .before .before .pre .1 .0 .few) }
+
+loop-less : tie.Need-loop-less Inv-loop μ-loop
+loop-less c = search needs
+
+loop-again : tie.Need-loop-again Inv-loop μ-loop
+loop-again c =
+    let r = c .before .before .before .before .before .before .before .before .before .before .before .before .before .before .encode-turn in (
+      omega (arith, c .before .before .before .before .before .before .before .before .before .before .before .before .before .before .before .before .before .before .before .before .before .loop-test .taken),
+      going-more _ _ _ _ _ _ _ _ _ _ (c .before .before .before .before .before .before .before .before .before .before .before .before .before .before .before .before .before .before .before .before .before .before .loop .inv .1) _ _ _ _ _ _ _ _ (r .ensures) (c .before .enum-told .given .1)
+          (r .kept .1 .1 .1 .1 .0) (r .kept .1 .1 .1 .1 .1 .0) (r .kept .1 .1 .1 .1 .1 .1 .0) (r .kept .1 .1 .1 .1 .1 .1 .1 .0) (r .kept .1 .1 .1 .1 .1 .1 .1 .1 .0) (r .kept .1 .1 .1 .1 .1 .1 .1 .1 .1 .0),
+    )
+
+same-length-7 : tie.Need-same-length-7 Inv-loop μ-loop
+same-length-7 c = c .before .loop .inv .1 .scaled
+
+same-length-8 : tie.Need-same-length-8 Inv-loop μ-loop
+same-length-8 c = c .before .loop .inv .1 .codes
+
+same-length-9 : tie.Need-same-length-9 Inv-loop μ-loop
+same-length-9 c = c .before .loop .inv .1 .factors
+
+same-length-10 : tie.Need-same-length-10 Inv-loop μ-loop
+same-length-10 c = c .before .loop .inv .1 .side
+
+same-length-11 : tie.Need-same-length-11 Inv-loop μ-loop
+same-length-11 c = c .before .loop .inv .1 .frames
+
+same-length-12 : tie.Need-same-length-12 Inv-loop μ-loop
+same-length-12 c = c .before .loop .inv .1 .answers
+
+returns-2 : tie.Need-returns-2 Inv-loop μ-loop
+returns-2 c = going-all _ _ _ _ _ _ _ _ _ _ (c .before .loop .inv .1) _ (omega arith)
+
+pub encode-turns-spec : {M : Type 1} → statement M
+encode-turns-spec =
+    tie.close
+    (tie.spec
+    Inv-loop
+    μ-loop
+    loop-holds
+    encode-turn-requires
+    enum-told
+    same-length
+    same-length-2
+    same-length-3
+    same-length-4
+    same-length-5
+    same-length-6
+    returns
+    add-k
+    loop-less
+    loop-again
+    same-length-7
+    same-length-8
+    same-length-9
+    same-length-10
+    same-length-11
+    same-length-12
+    returns-2)

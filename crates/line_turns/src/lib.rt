@@ -1,0 +1,202 @@
+// The frames of a line one after the other, behind the line's gate; and the whole call, the tally by value.
+ghost use mathlib.Core.Path.{_≡_};
+ghost use Prim.Native.Nat.{_+_, _*_, _≤_};
+ghost use lib.ListN.{length};
+ghost use Rattle.rules.specs.Layout.{Sizes, roomOf};
+ghost use Rattle.rules.specs.Stage.{stageLent, stageLeft, stageRoom};
+ghost use Rattle.rules_line.specs.Line.{lineLent, lineLeft, Batch, LineRoom, OnTheWay, stageAt, lineTurn, lineAfter, line};
+ghost use Rattle.line_turns.specs.Turn.{Turn};
+use line_gate::line_gate;
+use line_gate::part_start;
+use rules::Layout;
+use rules::Room;
+use rules::StageAnswer;
+use rules::StageRoom;
+use rules_line::LineAnswer;
+use rules_line::LineEnd;
+use rules_line::Tally;
+use rules_line::line_answer;
+use rules_line::store_answers;
+use stage::encode_frame;
+
+// The single call on frame k's own parts.
+fn encode_part(
+    layout: Layout,
+    k: usize,
+    spectra: &[f32],
+    intensities: &[u8],
+    scaled: &mut [f32],
+    codes: &mut [i32],
+    factors: &mut [u8],
+    side: &mut [u8],
+    frames: &mut [u8],
+) -> StageAnswer
+    requires { ⌜ Sizes layout ⌝ }
+    requires { ⌜ Turn layout k (length (now spectra)) (length (now intensities)) (length (now frames)) ⌝ }
+    ensures { λ r. ⌜ stageLeft r (now (scaled .exit)) (now (codes .exit)) (now (factors .exit)) (now (side .exit)) (now (frames .exit))
+        ≡ stageAt layout k (stageLent (now (spectra .entry)) (now (intensities .entry)) (now (scaled .entry)) (now (codes .entry))
+        (now (factors .entry)) (now (side .entry)) (now (frames .entry))) ⌝ }
+{
+    let n = layout.channels * 1024;
+    let m = layout.channels * 8;
+    let f = layout.frame_size;
+    let a = part_start(k, n);
+    let i = part_start(k, m);
+    let b = part_start(k, f);
+    encode_frame(
+        layout,
+        &spectra[a..a + n],
+        &intensities[i..i + m],
+        scaled,
+        codes,
+        factors,
+        side,
+        &mut frames[b..b + f],
+    )
+}
+
+// Frame k's turn: what the single call gives, and what that means for the line.
+fn encode_turn(
+    layout: Layout,
+    k: usize,
+    spectra: &[f32],
+    intensities: &[u8],
+    scaled: &mut [f32],
+    codes: &mut [i32],
+    factors: &mut [u8],
+    side: &mut [u8],
+    frames: &mut [u8],
+    answers: &mut [u32],
+    tally: Tally,
+) -> LineEnd
+    requires { ⌜ Sizes layout ⌝ }
+    requires { ⌜ Turn layout k (length (now spectra)) (length (now intensities)) (length (now frames)) ⌝ }
+    requires { ⌜ k * 4 + 4 ≤ length (now answers) ⌝ }
+    requires { ⌜ OnTheWay tally ⌝ }
+    ensures { λ r. ⌜ lineLeft (r .answer) (r .tally) (now (scaled .exit)) (now (codes .exit)) (now (factors .exit)) (now (side .exit))
+        (now (frames .exit)) (now (answers .exit)) ≡ lineTurn k (stageAt layout k (stageLent (now (spectra .entry)) (now (intensities .entry))
+        (now (scaled .entry)) (now (codes .entry)) (now (factors .entry)) (now (side .entry)) (now (frames .entry)))) (now (answers .entry)) tally ⌝ }
+{
+    let answer = encode_part(
+        layout,
+        k,
+        spectra,
+        intensities,
+        scaled,
+        codes,
+        factors,
+        side,
+        frames,
+    );
+    let n = part_start(k, 4);
+    store_answers(answer, &mut answers[n..]);
+    let next = tally.after(answer);
+    let told = line_answer(k, answer);
+    LineEnd {
+        answer: told,
+        tally: next,
+    }
+}
+
+// Every frame in its turn, until one is refused.
+fn encode_turns(
+    layout: Layout,
+    count: usize,
+    spectra: &[f32],
+    intensities: &[u8],
+    scaled: &mut [f32],
+    codes: &mut [i32],
+    factors: &mut [u8],
+    side: &mut [u8],
+    frames: &mut [u8],
+    answers: &mut [u32],
+    tally: Tally,
+) -> LineEnd
+    requires { ⌜ Sizes layout ⌝ }
+    requires { ⌜ Batch count tally ⌝ }
+    requires { ⌜ LineRoom layout count (stageRoom (length (now spectra)) (length (now intensities)) (length (now scaled))
+        (roomOf (length (now factors)) (length (now side)) (length (now codes)) (length (now frames)))) (length (now answers)) ⌝ }
+    ensures { λ r. ⌜ lineLeft (r .answer) (r .tally) (now (scaled .exit)) (now (codes .exit)) (now (factors .exit)) (now (side .exit))
+        (now (frames .exit)) (now (answers .exit)) ≡ lineAfter layout (lineLent (now (spectra .entry)) (now (intensities .entry))
+        (now (scaled .entry)) (now (codes .entry)) (now (factors .entry)) (now (side .entry)) (now (frames .entry)) (now (answers .entry)) tally) count ⌝ }
+{
+    let mut sum = tally;
+    let mut k = 0;
+    while k < count {
+        let end = encode_turn(
+            layout,
+            k,
+            spectra,
+            intensities,
+            scaled,
+            codes,
+            factors,
+            side,
+            frames,
+            answers,
+            sum,
+        );
+        let answer = end.answer;
+        let LineAnswer::Delivered = answer else {
+            return end;
+        };
+        sum = end.tally;
+        k += 1;
+    }
+    LineEnd {
+        answer: LineAnswer::Delivered,
+        tally: sum,
+    }
+}
+
+// A line, the tally by value. It takes any arguments: what cannot be done is refused, and the answer says why.
+pub fn encode_frames(
+    layout: Layout,
+    count: usize,
+    spectra: &[f32],
+    intensities: &[u8],
+    scaled: &mut [f32],
+    codes: &mut [i32],
+    factors: &mut [u8],
+    side: &mut [u8],
+    frames: &mut [u8],
+    answers: &mut [u32],
+    tally: Tally,
+) -> LineEnd
+    ensures { λ r. ⌜ lineLeft (r .answer) (r .tally) (now (scaled .exit)) (now (codes .exit)) (now (factors .exit)) (now (side .exit))
+        (now (frames .exit)) (now (answers .exit)) ≡ line layout count (lineLent (now (spectra .entry)) (now (intensities .entry))
+        (now (scaled .entry)) (now (codes .entry)) (now (factors .entry)) (now (side .entry)) (now (frames .entry)) (now (answers .entry)) tally) ⌝ }
+{
+    let stored = Room {
+        factors: factors.len(),
+        side: side.len(),
+        codes: codes.len(),
+        frame: frames.len(),
+    };
+    let room = StageRoom {
+        spectra: spectra.len(),
+        intensities: intensities.len(),
+        scaled: scaled.len(),
+        stored,
+    };
+    let gate = line_gate(layout, count, room, answers.len(), tally);
+    let LineAnswer::Delivered = gate else {
+        return LineEnd {
+            answer: gate,
+            tally,
+        };
+    };
+    encode_turns(
+        layout,
+        count,
+        spectra,
+        intensities,
+        scaled,
+        codes,
+        factors,
+        side,
+        frames,
+        answers,
+        tally,
+    )
+}

@@ -1,0 +1,5 @@
+-- fill
+pub mod Ones
+pub mod Filled
+-- record
+pub mod Scans

@@ -1,4 +1,0 @@
-pub mod HeaderChannels
-pub mod Headed
-pub mod Walks
-pub mod Widths

@@ -1,0 +1,105 @@
+// Document 01, **Level**: the halving, and the removal of pairs of bands while there is no level.
+ghost use mathlib.Core.Path.{_≡_};
+ghost use Prim.Native.Nat.{_+_, _*_, _≤_, _<_};
+ghost use lib.ListN.{length};
+ghost use Rattle.rules.specs.Layout.{Sizes, frameSize, spectrumLength, factorLength};
+ghost use Rattle.rules.specs.Estimate.{exceeds};
+ghost use Rattle.rules.specs.Level.{levelOf, clearTwo, clearPair};
+ghost use Rattle.rules.specs.Stage.{foundOf};
+ghost use Rattle.search_level.specs.Bits.{levelBits};
+use estimate::calculate_used_bits;
+use estimate::fixed_part::calculate_frame_header_length;
+use rules::Layout;
+
+// The level, 255 where there is none, and the bits that the estimate has at it.
+struct Halving {
+    level: usize,
+    used: usize,
+}
+
+// A probe that does not exceed is the highest left: its bits are kept.
+fn binary_search_level(layout: Layout, scaled: &[f32], factors: &[u8]) -> Halving
+    requires { ⌜ Sizes layout ⌝ }
+    requires { ⌜ (length (now scaled) ≡ spectrumLength layout) × (length (now factors) ≡ factorLength layout) ⌝ }
+    ensures { λ r. ⌜ (r .level ≡ levelOf (λ level. exceeds layout (now (scaled .entry)) (now (factors .entry)) level 0)) × (r .level ≤ 255)
+        × (r .used ≡ levelBits layout (now (scaled .entry)) (now (factors .entry)) (r .level)) × (r .used ≤ 8 * frameSize layout) ⌝ }
+{
+    let available = 8 * layout.frame_size;
+    let fixed = calculate_frame_header_length(layout, factors);
+    let mut low: usize = 0;
+    let mut high: usize = 255;
+    let mut used: usize = 0;
+    while low < high {
+        let mid = (low + high) / 2;
+        let bits = calculate_used_bits(layout, scaled, factors, fixed, mid);
+        if available < bits {
+            low = mid + 1;
+        } else {
+            high = mid;
+            used = bits;
+        }
+    }
+    Halving { level: low, used }
+}
+
+fn clear_two(factors: &mut [u8], band: usize)
+    requires { ⌜ (length (now factors) ≡ 128) × (band + 1 < 128) ⌝ }
+    ensures { λ _. ⌜ now (factors .exit) ≡ clearTwo (now (factors .entry)) band ⌝ }
+{
+    factors[band] = 0;
+    factors[band + 1] = 0;
+}
+
+// Two bands get factor 0 in every channel.
+fn clear_pair(layout: Layout, factors: &mut [u8], band: usize)
+    requires { ⌜ Sizes layout ⌝ }
+    requires { ⌜ (length (now factors) ≡ factorLength layout) × (band + 1 < 128) ⌝ }
+    ensures { λ _. ⌜ now (factors .exit) ≡ clearPair layout (now (factors .entry)) band ⌝ }
+{
+    let channels = layout.channels;
+    let mut c = 0;
+    while c < channels {
+        let f = c * 128;
+        clear_two(&mut factors[f..f + 128], band);
+        c += 1;
+    }
+}
+
+// The level, 255 where there is none, the pairs removed, and the bits that the estimate has at the level.
+pub struct Removal {
+    pub level: usize,
+    pub pairs: usize,
+    pub used: usize,
+}
+
+// `top` is one above the highest band. The lowest one or two bands are never cleared.
+pub fn calculate_noise_level(layout: Layout, scaled: &[f32], factors: &mut [u8]) -> Removal
+    requires { ⌜ Sizes layout ⌝ }
+    requires { ⌜ (length (now scaled) ≡ spectrumLength layout) × (length (now factors) ≡ factorLength layout) ⌝ }
+    ensures { λ r. ⌜ (r .level ≡ foundOf layout (now (scaled .entry)) (now (factors .entry)) .level)
+        × (r .pairs ≡ foundOf layout (now (scaled .entry)) (now (factors .entry)) .pairs)
+        × (now (factors .exit) ≡ foundOf layout (now (scaled .entry)) (now (factors .entry)) .factors) × (r .level ≤ 255)
+        × (r .used ≡ levelBits layout (now (scaled .entry)) (now (factors .exit)) (r .level)) × (r .used ≤ 8 * frameSize layout) ⌝ }
+{
+    let mut top = layout.base + layout.stereo;
+    let mut pairs: usize = 0;
+    let mut found = binary_search_level(layout, scaled, factors);
+    while 254 < found.level {
+        if top < 3 {
+            return Removal {
+                level: found.level,
+                pairs,
+                used: found.used,
+            };
+        }
+        top -= 2;
+        clear_pair(layout, factors, top);
+        pairs += 1;
+        found = binary_search_level(layout, scaled, factors);
+    }
+    Removal {
+        level: found.level,
+        pairs,
+        used: found.used,
+    }
+}

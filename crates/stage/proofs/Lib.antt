@@ -1,0 +1,6 @@
+-- run
+mod Wiped
+mod Prepared
+mod Ends
+-- parts
+pub mod Wholes

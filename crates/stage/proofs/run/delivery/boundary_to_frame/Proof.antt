@@ -1,0 +1,50 @@
+-- `stage::run::delivery::boundary_to_frame` meets its contract. Assumes nothing.
+use Rattle.stage.proofs.Ends.{packed-ends}
+use native.Mathlib.Omega.{arith}
+use borrow.Author.Needs.{needs}
+use Rattle.stage.proofs.run.delivery.boundary_to_frame.Statement.{statement}
+use Rattle.stage.proofs.run.delivery.boundary_to_frame.Tie as tie
+
+calculate-evaluation-boundary-requires : tie.Need-calculate-evaluation-boundary-requires
+calculate-evaluation-boundary-requires c κs =
+    let s = c .before .before .before .before in
+    let z = s .pre .1 .1 .1 in
+    (s .pre .0, ((z .scaled, z .factors, omega (arith, s .pre .1 .0)), s .pre .1 .1 .0))
+
+deliver-requires : tie.Need-deliver-requires
+deliver-requires c κs =
+    let s = c .before .before .before .before .before .before .before in
+    let z = s .pre .1 .1 .1 in
+    (s .pre .0, ((omega (arith, s .pre .1 .0), c .before .before .calculate-evaluation-boundary .ensures .1), ((z .scaled, z .factors, z .side), (z .codes, z .frame))))
+
+sub-answered : tie.Need-sub-answered
+sub-answered c = omega (arith, c .before .before .before .before .before .before .before .before .before .before .before .before .pre .0)
+
+mul-answered : tie.Need-mul-answered
+mul-answered c = omega (arith, c .before .before .before .before .before .before .before .before .before .before .before .before .pre .0)
+
+answered-requires : tie.Need-answered-requires
+answered-requires c κs = search needs
+
+same-length : tie.Need-same-length
+same-length c = search needs
+
+same-length-2 : tie.Need-same-length-2
+same-length-2 c = search needs
+
+returns : tie.Need-returns
+returns c =
+    packed-ends _ _ _ _ _ _ _ _ _ _ (c .before .before .before .before .before .deliver .ensures) (c .before .before .before .before .before .before .before .before .calculate-evaluation-boundary .ensures .0) _ (c .answered .ensures)
+
+pub boundary-to-frame-spec : {M : Type 1} → statement M
+boundary-to-frame-spec =
+    tie.close
+    (tie.spec
+    calculate-evaluation-boundary-requires
+    deliver-requires
+    sub-answered
+    mul-answered
+    answered-requires
+    same-length
+    same-length-2
+    returns)

@@ -1,0 +1,68 @@
+-- `stage::run::run_stage` meets its contract. Assumes nothing.
+use mathlib.Core.Path.{ap, _∙_}
+use Rattle.rules.specs.Stage.{settled}
+use Rattle.stage.proofs.Prepared.{made-of-prepared}
+use borrow.Author.Needs.{needs}
+use Rattle.stage.proofs.run.run_stage.Statement.{statement}
+use Rattle.stage.proofs.run.run_stage.Tie as tie
+
+prepare-requires : tie.Need-prepare-requires
+prepare-requires c κs =
+    let s = c .before .before .before .before .before .before .before .before .before in
+    let a = s .pre .1 in
+    (s .pre .0, ((a .spectra, a .intensities), (a .scaled, a .factors, a .side)))
+
+level-to-frame-requires : tie.Need-level-to-frame-requires
+level-to-frame-requires c κs =
+    let s = c .before .before .before .before .before .before .before .before .before .before .before .before .before .before .before .before .before .before .before .before .before in
+    let a = s .pre .1 in
+    let p = c .before .before .before .before .before .before .before .before .before .before .before .prepare in
+    (s .pre .0, record { scaled = p .kept .1 .1 .1 .0 ∙ a .scaled; codes = a .codes; factors = p .kept .1 .1 .1 .1 .0 ∙ a .factors; side = p .kept .1 .1 .1 .1 .1 .0 ∙ a .side; frame = a .frame })
+
+clear-refused-requires : tie.Need-clear-refused-requires
+clear-refused-requires c κs = search needs
+
+same-length : tie.Need-same-length
+same-length c = c .before .before .before .before .before .before .before .before .before .clear-refused .kept .1 .0 ∙ c .before .before .before .before .before .before .before .before .before .before .before .before .before .before .before .before .before .before .before .before .before .before .before .before .before .before .before .before .before .before .before .before .prepare .kept .1 .1 .1 .0
+
+same-length-2 : tie.Need-same-length-2
+same-length-2 c = c .before .before .before .before .before .before .before .before .before .clear-refused .kept .1 .1 .0 ∙ c .before .before .before .before .before .before .before .before .before .before .before .before .before .before .before .before .before .before .before .before .level-to-frame .kept .1 .1 .0
+
+same-length-3 : tie.Need-same-length-3
+same-length-3 c = c .before .before .before .before .before .before .before .before .before .clear-refused .kept .1 .1 .1 .0 ∙ c .before .before .before .before .before .before .before .before .before .before .before .before .before .before .before .before .before .before .before .before .level-to-frame .kept .1 .1 .1 .0 ∙ c .before .before .before .before .before .before .before .before .before .before .before .before .before .before .before .before .before .before .before .before .before .before .before .before .before .before .before .before .before .before .before .before .prepare .kept .1 .1 .1 .1 .0
+
+same-length-4 : tie.Need-same-length-4
+same-length-4 c = c .before .before .before .before .before .before .before .before .before .clear-refused .kept .1 .1 .1 .1 .0 ∙ c .before .before .before .before .before .before .before .before .before .before .before .before .before .before .before .before .before .before .before .before .before .before .before .before .before .before .before .before .before .before .before .before .prepare .kept .1 .1 .1 .1 .1 .0
+
+same-length-5 : tie.Need-same-length-5
+same-length-5 c = c .before .before .before .before .before .before .before .before .before .clear-refused .kept .1 .1 .1 .1 .1 .0 ∙ c .before .before .before .before .before .before .before .before .before .before .before .before .before .before .before .before .before .before .before .before .level-to-frame .kept .1 .1 .1 .1 .1 .0
+
+returns : tie.Need-returns
+returns c =
+    let s = c .before .before .before .before .before .before .before .before .before .before .before .before .before .before .before .before .before .before .before .before .before .before .before .before .before .before .before .before .before .before .before .before .before .before .before .before .before .before .before .before .before .before in
+    let a = s .pre .1 in
+    let p = c .before .before .before .before .before .before .before .before .before .before .before .before .before .before .before .before .before .before .before .before .before .before .before .before .before .before .before .before .before .before .before .before .prepare in
+    let t = c .before .before .before .before .before .before .before .before .before .before .before .before .before .before .before .before .before .before .before .before .level-to-frame in
+    c .before .before .before .before .before .before .before .before .before .clear-refused .ensures (s .args .layout)
+    (record {
+      scaled = p .kept .1 .1 .1 .0 ∙ a .scaled;
+      codes = t .kept .1 .1 .0 ∙ a .codes;
+      factors = t .kept .1 .1 .1 .0 ∙ p .kept .1 .1 .1 .1 .0 ∙ a .factors;
+      side = p .kept .1 .1 .1 .1 .1 .0 ∙ a .side;
+      frame = t .kept .1 .1 .1 .1 .1 .0 ∙ a .frame;
+    })
+    ∙ t .ensures ∙ ap (settled (s .args .layout)) (made-of-prepared _ _ _ _ _ _ (p .ensures .0) (p .ensures .1 .0) (p .ensures .1 .1))
+
+pub run-stage-spec : {M : Type 1} → statement M
+run-stage-spec =
+    tie.close
+    (tie.spec
+    prepare-requires
+    level-to-frame-requires
+    clear-refused-requires
+    same-length
+    same-length-2
+    same-length-3
+    same-length-4
+    same-length-5
+    returns)

@@ -1,3 +1,0 @@
-mod Wiped
-mod Prepared
-mod Ends
