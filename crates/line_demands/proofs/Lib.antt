@@ -1,3 +1,4 @@
 pub mod Singles
 pub mod Standing
 pub mod Lines
+pub mod Corners

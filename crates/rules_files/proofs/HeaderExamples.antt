@@ -1,6 +1,7 @@
 -- Request A1: the second example, worked out; and the ends of the loop points. Assumes nothing.
 use mathlib.Core.Path.{_≡_, refl}
-use mathlib.Core.List.{[], _∷_, _++_}
+use mathlib.Core.List.{[], _∷_, _++_, map}
+use mathlib.Core.Bool.{Bool, true, false}
 use Prim.Native.Nat.{ℕ}
 use lib.ListN.{replicate}
 use Rattle.bits.specs.Bits.{bits, value, bitsOf}
@@ -8,13 +9,15 @@ use Rattle.buffers.specs.Walk.{build}
 use Rattle.crc.specs.Check.{checksum}
 use Rattle.numbers.specs.Numbers.{highFirst}
 use Rattle.rules.specs.Layout.{legalLayout, bandsPerGroup, groupCount, ceilDiv}
-use Rattle.rules.specs.Refusals.{refused}
+use Rattle.rules.specs.Refusals.{delivered, refused}
 use Rattle.rules.specs.declared.ChannelType.the-variants.{Discrete}
 use Rattle.rules.specs.declared.Layout.{Layout}
-use Rattle.rules_files.specs.declared.header.LoopPoints.the-variants.{Given}
+use Rattle.rules_files.specs.declared.header.LoopPoints.{LoopPoints}
+use Rattle.rules_files.specs.declared.header.LoopPoints.the-variants.{Absent, Given}
 use Rattle.rules_files.specs.declared.header.Stream.{Stream}
 use Rattle.rules_files.specs.FileHeader.{channelMapping, loopFields, loopPieces, afterLoop, pieces, byteOf, headerOf}
-use Rattle.rules_files.specs.FileHeader.{fitsPoints, fitsHeader, headerWritten}
+use Rattle.rules_files.specs.declared.header.HeaderAnswer.the-variants as answers
+use Rattle.rules_files.specs.FileHeader.{headerOutcome, fitsPoints, fitsHeader, headerWritten}
 
 -- base 64, total 100, 170 bytes a frame
 abbrev pub voices : (channels : ℕ) → Layout
@@ -55,3 +58,54 @@ largest-points = refl
 pub largest-edge : loopFields 0 4294966144 ≡ record { «start_frame» = 0; «end_frame» = 0x3FFFFE; delay = 128; padding = 0 }
 unfolding loopFields
 largest-edge = refl
+
+-- no two fields alike, and every byte of each in use: 3 channels, base 50, stereo 20, total 100, 0xA1B2 bytes a frame
+abbrev pub mixedBands : Layout
+mixedBands = record {
+  channels = 3;
+  kinds = replicate 16 (record { kind = Discrete });
+  base = 50;
+  stereo = 20;
+  total = 100;
+  «frame_size» = 0xA1B2;
+}
+
+abbrev pub fullStream : (points : LoopPoints) → Stream
+fullStream points = record { rate = 0x123456; frames = 0x0A0B0C0D; padding = 0x0E1F; points = points }
+
+-- with a loop inside frames 0x2060A1 and 0x2464A5
+pub looped-header : headerOf mixedBands (fullStream (Given 0x81828384 0x91929394)) ≡
+    0x48 ∷ 0x43 ∷ 0x41 ∷ 0x00 ∷ 0x02 ∷ 0x00 ∷ 0x00 ∷ 0x60 ∷ 0x66 ∷ 0x6D ∷ 0x74 ∷ 0x00 ∷ 0x03 ∷ 0x12 ∷ 0x34 ∷ 0x56
+    ∷ 0x0A ∷ 0x0B ∷ 0x0C ∷ 0x0D ∷ 0x00 ∷ 0x80 ∷ 0x0E ∷ 0x1F ∷ 0x63 ∷ 0x6F ∷ 0x6D ∷ 0x70 ∷ 0xA1 ∷ 0xB2 ∷ 0x01 ∷ 0x0F
+    ∷ 0x01 ∷ 0x04 ∷ 0x64 ∷ 0x32 ∷ 0x14 ∷ 0x04 ∷ 0x00 ∷ 0x00 ∷ 0x6C ∷ 0x6F ∷ 0x6F ∷ 0x70 ∷ 0x00 ∷ 0x20 ∷ 0x60 ∷ 0xA1
+    ∷ 0x00 ∷ 0x24 ∷ 0x64 ∷ 0xA5 ∷ 0x00 ∷ 0x04 ∷ 0x03 ∷ 0xEC ∷ 0x63 ∷ 0x69 ∷ 0x70 ∷ 0x68 ∷ 0x00 ∷ 0x00 ∷ 0x70 ∷ 0x61
+    ∷ 0x64 ∷ (replicate 29 0 ++ (0x48 ∷ 0x8A ∷ []))
+unfolding headerOf pieces byteOf build highFirst channelMapping bandsPerGroup groupCount ceilDiv loopPieces afterLoop loopFields checksum value bitsOf bits
+looped-header = refl
+
+-- and with none
+pub plain-header : headerOf mixedBands (fullStream Absent) ≡
+    0x48 ∷ 0x43 ∷ 0x41 ∷ 0x00 ∷ 0x02 ∷ 0x00 ∷ 0x00 ∷ 0x60 ∷ 0x66 ∷ 0x6D ∷ 0x74 ∷ 0x00 ∷ 0x03 ∷ 0x12 ∷ 0x34 ∷ 0x56
+    ∷ 0x0A ∷ 0x0B ∷ 0x0C ∷ 0x0D ∷ 0x00 ∷ 0x80 ∷ 0x0E ∷ 0x1F ∷ 0x63 ∷ 0x6F ∷ 0x6D ∷ 0x70 ∷ 0xA1 ∷ 0xB2 ∷ 0x01 ∷ 0x0F
+    ∷ 0x01 ∷ 0x04 ∷ 0x64 ∷ 0x32 ∷ 0x14 ∷ 0x04 ∷ 0x00 ∷ 0x00 ∷ 0x63 ∷ 0x69 ∷ 0x70 ∷ 0x68 ∷ 0x00 ∷ 0x00 ∷ 0x70 ∷ 0x61
+    ∷ 0x64 ∷ (replicate 45 0 ++ (0x84 ∷ 0x79 ∷ []))
+unfolding headerOf pieces byteOf build highFirst channelMapping bandsPerGroup groupCount ceilDiv loopPieces afterLoop loopFields checksum value bitsOf bits
+plain-header = refl
+
+-- each limit of refusal 16 is taken, and the next number is not
+abbrev fitting : (channels rate frames padding : ℕ) (points : LoopPoints) → Bool
+fitting channels rate frames padding points = fitsHeader (voices channels) (record { rate = rate; frames = frames; padding = padding; points = points })
+
+pub sixteen-row :
+    fitting 8 1 0 0 Absent ∷ fitting 8 0x7FFFFF 0xFFFFFFFF 0xFFFF (Given 0xFFFFFF7F 0xFFFFFF7F) ∷ []
+    ++ (fitting 9 1 0 0 Absent ∷ fitting 8 0 0 0 Absent ∷ fitting 8 0x800000 0 0 Absent ∷ fitting 8 1 0x100000000 0 Absent ∷ fitting 8 1 0 0x10000 Absent
+    ∷ fitting 8 1 0 0 (Given 0xFFFFFF80 0) ∷ fitting 8 1 0 0 (Given 0 0xFFFFFF80) ∷ [])
+    ≡ true ∷ true ∷ replicate 7 false
+unfolding fitsHeader fitsPoints
+sixteen-row = refl
+
+-- the number of each answer
+pub header-numbers :
+    map headerOutcome (answers.Delivered ∷ answers.BadLayout ∷ answers.ShortBuffer ∷ answers.BadHeader ∷ []) ≡ delivered [] ∷ refused 1 0 ∷ refused 2 0 ∷ refused 16 0 ∷ []
+unfolding headerOutcome
+header-numbers = refl

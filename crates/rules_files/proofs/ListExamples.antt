@@ -1,15 +1,20 @@
 -- The list's definitions worked out on request A7's example and on its corners. Assumes nothing.
 use mathlib.Core.Path.{_≡_, refl, sym, ap}
-use mathlib.Core.List.{List, [], _∷_, _++_}
-use mathlib.Core.Bool.{true}
+use mathlib.Core.List.{List, [], _∷_, _++_, map}
+use mathlib.Core.Bool.{Bool, true, false}
 use Prim.Native.Nat.{ℕ}
 use native.Mathlib.Omega.{arith}
-use lib.ListN.{length}
+use lib.ListN.{length, replicate}
 use Rattle.buffers.specs.Walk.{sumTo, blocks, every}
 use Rattle.numbers.specs.Numbers.{highFirst, ofHigh}
-use Rattle.rules.specs.Refusals.{delivered, refused}
-use Rattle.rules_files.specs.List.{entryBytes, entryFrom, entryAt, legalEntry, legalEntries, listHead, listOf, framesIn, entriesOf, isMarked, judgedList, maxTo, summaryOf, readAs, listRead, lookedAs, looked, summedAs, summed}
+use Rattle.rules.specs.Refusals.{Outcome, delivered, refused}
+use Rattle.rules_files.specs.List.{entryBytes, entryFrom, entryAt, legalEntry, legalEntries, listHead, listOf, framesIn, entriesOf, isMarked, judgedList, maxTo, summaryOf, ListLeft, listWritten, readAs, listRead, lookedAs, looked, summedAs, summed}
+use Rattle.rules_files.specs.List.{listWrittenOutcome, listReadOutcome, entryOutcome, summaryOutcome}
 use Rattle.rules_files.specs.declared.list.Judgement.{Judgement}
+use Rattle.rules_files.specs.declared.list.ListWritten.the-variants as write
+use Rattle.rules_files.specs.declared.list.ListAnswer.the-variants as read
+use Rattle.rules_files.specs.declared.list.EntryAnswer.the-variants as look
+use Rattle.rules_files.specs.declared.list.SummaryAnswer.the-variants as sum
 use Rattle.rules_files.proofs.Lists.{judged-length}
 
 -- (12, 40, 0, 1314), (254, 127, 63, 4294967295), (511, 0, 7, 0)
@@ -85,3 +90,70 @@ pub never-wraps : summed wrapBytes ≡ refused 20 0
 unfolding summed summedAs
 never-wraps =
     ap (λ (j : Judgement). summedAs j wrapBytes) (sym (judged-length wrapBytes 0x20000001 wrap-marked (sym wrap-frames) (λ e. omega (arith, wrap-long))))
+
+-- refusal 21's three limits are legal, and the next numbers are not
+abbrev heard : (level boundary pairs : ℕ) → Bool
+heard level boundary pairs = legalEntry (record { level = level; boundary = boundary; pairs = pairs; bits = 0 })
+
+pub legal-row : heard 511 127 63 ∷ heard 512 0 0 ∷ heard 0 128 0 ∷ heard 0 0 64 ∷ [] ≡ true ∷ false ∷ false ∷ false ∷ []
+unfolding legalEntry
+legal-row = refl
+
+-- eight bytes; a wrong mark; a wrong version; a byte too many; a byte too few; a bad entry
+pub badLists : List (List ℕ)
+badLists =
+    (0x56 ∷ 0x46 ∷ 0x49 ∷ 0x00 ∷ 0x01 ∷ 0x00 ∷ 0x00 ∷ 0x00 ∷ [])
+    ∷ (0x56 ∷ 0x46 ∷ 0x4A ∷ 0x00 ∷ 0x01 ∷ 0x00 ∷ 0x00 ∷ 0x00 ∷ 0x00 ∷ 0x00 ∷ [])
+    ∷ (0x56 ∷ 0x46 ∷ 0x49 ∷ 0x01 ∷ 0x01 ∷ 0x00 ∷ 0x00 ∷ 0x00 ∷ 0x00 ∷ 0x00 ∷ [])
+    ∷ (0x56 ∷ 0x46 ∷ 0x49 ∷ 0x00 ∷ 0x01 ∷ 0x00 ∷ 0x00 ∷ 0x00 ∷ 0x00 ∷ 0x00 ∷ [])
+    ∷ (0x56 ∷ 0x46 ∷ 0x49 ∷ 0x00 ∷ 0x01 ∷ 0x00 ∷ 0x00 ∷ 0x00 ∷ 0x01 ∷ replicate 7 0)
+    ∷ (0x56 ∷ 0x46 ∷ 0x49 ∷ 0x00 ∷ 0x01 ∷ 0x00 ∷ 0x00 ∷ 0x00 ∷ 0x01 ∷ 0x00 ∷ 0x00 ∷ 0x80 ∷ 0x00 ∷ 0x00 ∷ 0x00 ∷ 0x00 ∷ 0x00 ∷ [])
+    ∷ []
+
+abbrev their-numbers : List Outcome
+their-numbers = refused 19 0 ∷ refused 19 0 ∷ refused 19 0 ∷ refused 20 0 ∷ refused 20 0 ∷ refused 21 0 ∷ []
+
+-- looked up, summed, and read into seven places, which stay
+pub bad-looked : map (λ list. looked list 0) badLists ≡ their-numbers
+unfolding badLists looked lookedAs judgedList isMarked legalEntries legalEntry every entriesOf blocks entryAt entryFrom ofHigh
+bad-looked = refl
+
+pub bad-summed : map summed badLists ≡ their-numbers
+unfolding badLists summed summedAs judgedList isMarked legalEntries legalEntry every entriesOf blocks entryAt entryFrom ofHigh
+bad-summed = refl
+
+pub bad-read : (map (λ list. listRead list (replicate 7 5) .outcome) badLists ≡ their-numbers) × (map (λ list. listRead list (replicate 7 5) .entries) badLists ≡ replicate 6 (replicate 7 5))
+unfolding badLists listRead readAs judgedList isMarked legalEntries legalEntry every entriesOf blocks entryAt entryFrom ofHigh
+bad-read = (refl, refl)
+
+-- the writer: three numbers for one frame, sixteen bytes, a level of 512, in this order; what is lent stays. Then a longer buffer, whose rest stays
+abbrev wrote : (entries : List ℕ) (bytes : ℕ) → ListLeft
+wrote entries bytes = listWritten 1 entries (replicate bytes 5)
+
+abbrev kept : (number bytes : ℕ) → ListLeft
+kept number bytes = record { outcome = refused number 0; list = replicate bytes 5 }
+
+pub bad-written : wrote (512 ∷ 0 ∷ 0 ∷ []) 16 ∷ wrote (512 ∷ 0 ∷ 0 ∷ 0 ∷ []) 16 ∷ wrote (512 ∷ 0 ∷ 0 ∷ 0 ∷ []) 17 ∷ [] ≡ kept 2 16 ∷ kept 2 16 ∷ kept 21 17 ∷ []
+unfolding listWritten legalEntries legalEntry every entryAt
+bad-written = refl
+
+pub one-written : wrote (0x102 ∷ 3 ∷ 4 ∷ 0x5060708 ∷ []) 18
+    ≡ record { outcome = delivered []; list = 0x56 ∷ 0x46 ∷ 0x49 ∷ 0 ∷ 1 ∷ 0 ∷ 0 ∷ 0 ∷ 1 ∷ 1 ∷ 2 ∷ 3 ∷ 4 ∷ 5 ∷ 6 ∷ 7 ∷ 8 ∷ 5 ∷ [] }
+unfolding listWritten legalEntries legalEntry every entryAt listOf listHead blocks entryBytes highFirst
+one-written = refl
+
+-- read back: four numbers, and the rest stays
+pub one-read : listRead (0x56 ∷ 0x46 ∷ 0x49 ∷ 0 ∷ 1 ∷ 0 ∷ 0 ∷ 0 ∷ 1 ∷ 1 ∷ 2 ∷ 3 ∷ 4 ∷ 5 ∷ 6 ∷ 7 ∷ 8 ∷ []) (replicate 5 9)
+    ≡ record { outcome = delivered (1 ∷ []); entries = 0x102 ∷ 3 ∷ 4 ∷ 0x5060708 ∷ 9 ∷ [] }
+unfolding listRead readAs judgedList isMarked legalEntries legalEntry every entriesOf blocks entryAt entryFrom ofHigh
+one-read = refl
+
+-- the number of each answer
+pub list-numbers :
+    (map listWrittenOutcome (write.Delivered ∷ write.ShortBuffer ∷ write.BadEntry ∷ []) ≡ delivered [] ∷ refused 2 0 ∷ refused 21 0 ∷ [])
+    × (map listReadOutcome (read.Delivered 7 ∷ read.ShortBuffer ∷ read.BadMark ∷ read.BadLength ∷ read.BadEntry ∷ [])
+    ≡ delivered (7 ∷ []) ∷ refused 2 0 ∷ refused 19 0 ∷ refused 20 0 ∷ refused 21 0 ∷ [])
+    × (map entryOutcome (look.BadMark ∷ look.BadLength ∷ look.BadEntry ∷ look.NoFrame ∷ []) ≡ refused 19 0 ∷ refused 20 0 ∷ refused 21 0 ∷ refused 31 0 ∷ [])
+    × (map summaryOutcome (sum.BadMark ∷ sum.BadLength ∷ sum.BadEntry ∷ []) ≡ refused 19 0 ∷ refused 20 0 ∷ refused 21 0 ∷ [])
+unfolding listWrittenOutcome listReadOutcome entryOutcome summaryOutcome
+list-numbers = (refl, refl, refl, refl)

@@ -107,6 +107,22 @@ unfolding ofInt overPower
 sample-exact (pos n) k h g = divided (round binary32 false n 1) false n k (round-whole binary32 false n (le-of-lt h)) ∙ over-odd false n k h g
 sample-exact (negsuc n) k h g = divided (round binary32 true (suc n) 1) true (suc n) k (round-whole binary32 true (suc n) (le-of-lt h)) ∙ over-odd true (suc n) k h g
 
+-- The value itself: z / 2 ^ k, with z's sign.
+abbrev pub isBelow : ℤ → Bool
+isBelow (pos n) = false
+isBelow (negsuc n) = true
+
+pub over-value : (z : ℤ) (k : ℕ) → HasValue (overPower z k) (isBelow z) (natAbs z) (2 ^ k)
+unfolding overPower
+over-value (pos n) k = subst (λ (x : ℕ). HasValue (odd 24 false n 0 k) false x (2 ^ k)) (mul-one n) (odd-sign 24 false n 0 k)
+over-value (negsuc n) k = subst (λ (x : ℕ). HasValue (odd 24 true (suc n) 0 k) true x (2 ^ k)) (mul-one (suc n)) (odd-sign 24 true (suc n) 0 k)
+
+-- so of a sample: its integer over 32,768 or 8,388,608
+pub sample-value : (p : ℕ) → HasValue (sampleOf 16 p) (isBelow (signedSample 32768 p)) (natAbs (signedSample 32768 p)) 32768
+    × HasValue (sampleOf 24 p) (isBelow (signedSample 8388608 p)) (natAbs (signedSample 8388608 p)) 8388608
+unfolding sampleOf
+sample-value p = (over-value (signedSample 32768 p) 15, over-value (signedSample 8388608 p) 23)
+
 -- ---- finite values
 
 finite-odd : (d : ℕ) (s : Bool) (q k l : ℕ) → finite (odd d s q k l) ≡ true

@@ -9,8 +9,13 @@ use Rattle.buffers.specs.Walk.{firstFrom}
 use Rattle.floats.specs.Single.{absF, heldF, zeroF}
 use Rattle.rules.specs.Layout.{kindAt}
 use Rattle.rules_stereo.specs.Mixed.{ratioBounds, Signal, signal, loudness, energies, combinedOf, storedOf, boundOf, intensityOf, ratioOf, bandMixed, bandsMixed, energiesAt, subframeMixed, subframesMixed, pairMixed, pairedAt, channelMixed, channelsMixed, mixed}
-use Rattle.rules_stereo.specs.Stereo.{tooLoud}
-use Rattle.rules.specs.declared.ChannelType.the-variants.{StereoPrimary, StereoSecondary}
+use Rattle.rules_stereo.specs.Stereo.{tooLoud, stereoOutcome, stereoLeft}
+use lib.IntN.{ℤ}
+use Rattle.rules.specs.Refusals.{refused}
+use Rattle.rules.specs.declared.ChannelType.{ChannelType}
+use Rattle.rules.specs.declared.ChannelType.the-variants.{Discrete, StereoPrimary, StereoSecondary}
+use Rattle.rules_stereo.specs.declared.StereoAnswer.{StereoAnswer}
+use Rattle.rules_stereo.specs.declared.StereoAnswer.the-variants.{TooLoud}
 use Rattle.rules.specs.declared.Layout.{Layout}
 use Rattle.rules_stereo.specs.declared.Energies.{Energies}
 
@@ -62,3 +67,61 @@ three-intensities = refl
 pub limit-row : map (tooLoud (map float (0x47800000 ∷ 0xC7800000 ∷ 0x47800001 ∷ 0xC7800001 ∷ []))) (0 ∷ 1 ∷ 2 ∷ 3 ∷ []) ≡ false ∷ false ∷ true ∷ true ∷ []
 unfolding ofBits lt absF tooLoud
 limit-row = refl
+
+-- what is stored at each bound that is read, 1 to 12, and one float above it
+pub bound-row :
+    map (λ x. boundOf (float x))
+    (0x3FE49249 ∷ 0x3FE4924A ∷ 0x3FD24925 ∷ 0x3FD24926 ∷ 0x3FC00000 ∷ 0x3FC00001 ∷ 0x3FADB6DB ∷ 0x3FADB6DC ∷ 0x3F9B6DB7 ∷ 0x3F9B6DB8 ∷ 0x3F892492 ∷ 0x3F892493 ∷ 0x3F6DB6DB ∷ 0x3F6DB6DC ∷ 0x3F492492 ∷ 0x3F492493 ∷ 0x3F249249 ∷ 0x3F24924A ∷ 0x3F000000 ∷ 0x3F000001 ∷ 0x3EB6DB6E ∷ 0x3EB6DB6F ∷ 0x3E5B6DB7 ∷ 0x3E5B6DB8 ∷ [])
+    ≡ 2 ∷ 1 ∷ 3 ∷ 2 ∷ 4 ∷ 3 ∷ 5 ∷ 4 ∷ 6 ∷ 5 ∷ 7 ∷ 6 ∷ 8 ∷ 7 ∷ 9 ∷ 8 ∷ 10 ∷ 9 ∷ 11 ∷ 10 ∷ 12 ∷ 11 ∷ 13 ∷ 12 ∷ []
+unfolding ofBits le ratioBounds firstFrom boundOf
+bound-row = refl
+
+-- a Discrete channel, a secondary, and a primary with none after it: nothing is mixed; nor is it where there are no stereo bands
+abbrev shaped : (first second third : ChannelType) (stereo : ℕ) → Layout
+shaped first second third stereo = record {
+  channels = 3;
+  kinds = record { kind = first } ∷ record { kind = second } ∷ record { kind = third } ∷ [];
+  base = 1;
+  stereo = stereo;
+  total = 3;
+  «frame_size» = 8;
+}
+
+pub not-mixed :
+    (mixed (shaped Discrete StereoSecondary StereoPrimary 1) lent ≡ lent) × (mixed (shaped StereoPrimary StereoSecondary StereoPrimary 0) lent ≡ lent)
+unfolding kindAt pairedAt channelMixed channelsMixed mixed
+not-mixed = (refl, refl)
+
+-- every subframe by itself: values in bands 1 and 2 of subframes 3 and 7 of the last pair; bands 0 and 3 keep their bits
+abbrev lateLent : Signal
+lateLent =
+    signal
+    (set (set (set (set (set (set (replicate 3072 zeroF) 1409 (float 0x3F800000)) 1922 (float 0x40000000)) 2433 (float 0x40400000)) 2946 (float 0xBF800000)) 1408 (float 0x3F000000)) 2435 (float 0x3E800000))
+    (replicate 24 9)
+
+abbrev lateSeen : Signal → List ℕ
+lateSeen t = map (λ i. toBits binary32 (getD (t .spectra) i nan)) (1408 ∷ 1409 ∷ 1922 ∷ 2433 ∷ 2435 ∷ 2946 ∷ [])
+
+pub late-mixed :
+    (lateSeen (mixed (shaped Discrete StereoPrimary StereoSecondary 1) lateLent) ≡ 0x3F000000 ∷ 0x40000000 ∷ 0x3F3504F3 ∷ 0 ∷ 0x3E800000 ∷ 0 ∷ [])
+    × (mixed (shaped Discrete StereoPrimary StereoSecondary 1) lateLent .intensities ≡ replicate 16 9 ++ (0 ∷ 0 ∷ 0 ∷ 11 ∷ 0 ∷ 0 ∷ 0 ∷ 5 ∷ []))
+unfolding ofBits toBits add mul div lt le round absF heldF ratioBounds firstFrom kindAt loudness energies combinedOf storedOf boundOf intensityOf ratioOf bandMixed bandsMixed energiesAt subframeMixed subframesMixed pairMixed pairedAt channelMixed channelsMixed mixed
+late-mixed = (refl, refl)
+
+-- 17 is the number of what is too loud
+pub loud-number : stereoOutcome TooLoud ≡ refused 17 0
+unfolding stereoOutcome
+loud-number = refl
+
+-- each buffer is left under its own name
+pub left-names : (a : StereoAnswer) (spectra : List Float) (intensities : List ℕ) (scaled : List Float) (codes : List ℤ) (factors side frame : List ℕ)
+    → let x = stereoLeft a spectra intensities scaled codes factors side frame in
+    (x .outcome ≡ stereoOutcome a) × (x .spectra ≡ spectra) × (x .intensities ≡ intensities) × (x .scaled ≡ scaled) × (x .codes ≡ codes)
+    × (x .factors ≡ factors) × (x .side ≡ side) × (x .frame ≡ frame)
+left-names a spectra intensities scaled codes factors side frame = (refl, refl, refl, refl, refl, refl, refl, refl)
+
+-- below 0.5, within the ends, and above SQRT_2 / 2
+pub ratio-ends : row 0x3F800000 0x3F800000 0x41000000 ∷ row 0x3F800000 0x3F800000 0x40400000 ∷ row 0x3F800000 0x3F800000 0x40200000 ∷ []
+    ≡ (7, 0x3F000000) ∷ (7, 0x3F2AAAAB) ∷ (7, 0x3F3504F3) ∷ []
+unfolding ofBits toBits add mul div lt le round heldF ratioBounds firstFrom combinedOf storedOf boundOf intensityOf ratioOf
+ratio-ends = refl

@@ -4,3 +4,4 @@ pub mod Worked
 pub mod Empty
 pub mod Refusal7
 pub mod Pinned
+pub mod Corners

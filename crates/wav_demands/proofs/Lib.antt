@@ -5,3 +5,4 @@ pub mod Peaks
 pub mod Takes
 pub mod Outcomes
 pub mod Worked
+pub mod Orders

@@ -1,14 +1,19 @@
 -- Files worked out by the definition: the request's examples and corners, floats by their patterns. Assumes nothing.
 use mathlib.Core.Path.{_≡_, refl}
 use mathlib.Core.List.{List, [], _∷_, _++_, map}
-use Prim.Native.Nat.{ℕ, _+_, _/_, _%_}
-use lib.Ieee.{binary32, lt, add, div, ofInt, ofBits, toBits}
+use mathlib.Core.Bool.{true}
+use Prim.Native.Nat.{ℕ, _+_, _/_, _%_, _≤_, _<_}
+use native.Mathlib.Omega.{arith}
+use borrow.Author.Tests.{lt-ltb, le-ltb, ne-eqb}
+use lib.Ieee.{Float, binary32, lt, add, div, ofInt, ofBits, toBits}
 use lib.ListN.{length, replicate}
 use Rattle.buffers.specs.Walk.{build, every}
 use Rattle.floats.specs.Single.{zeroF, absF, maxF, meanF, mean, noAverage, withOne}
 use Rattle.numbers.specs.Numbers.{ofLow}
 use Rattle.rules.specs.Refusals.{Outcome, delivered, refused}
-use Rattle.rules_files.specs.Wav.{isWave, defaultFormat, tellsFormat, formatIn, formatAfter, walkChunks, isDepth, wholeSamples, overPower, signedSample, sampleOf, sampleAt, allFinite, noteOf, wavTaken, dataRead, walkRead, wavRead}
+use Rattle.rules_files.specs.declared.wav.WavData.{WavData}
+use Rattle.rules_files.specs.declared.wav.WavAnswer.the-variants as wav-of
+use Rattle.rules_files.specs.Wav.{wavOutcome, wavRefused, isWave, defaultFormat, tellsFormat, formatIn, formatAfter, walkChunks, isDepth, wholeSamples, overPower, signedSample, sampleOf, sampleAt, allFinite, noteOf, wavTaken, dataRead, walkRead, wavRead}
 
 -- ---- files from their chunks
 
@@ -102,3 +107,67 @@ unfolding ofLow build every absF maxF meanF mean noAverage withOne ofBits toBits
     isWave defaultFormat tellsFormat formatIn formatAfter walkChunks isDepth wholeSamples overPower signedSample sampleOf sampleAt allFinite
     noteOf wavTaken dataRead walkRead wavRead
 worked = refl
+
+-- ---- the corners of the walk and of the marks
+
+abbrev chunk : (name size : ℕ) → List ℕ → List ℕ
+chunk name size body = (name ∷ 97 ∷ 116 ∷ 97 ∷ four size) ++ body
+
+abbrev pub corners : List Call
+corners =
+    -- RIFF and WAVE with one byte wrong
+    call (82 ∷ 73 ∷ 70 ∷ 71 ∷ (four 40 ++ (87 ∷ 65 ∷ 86 ∷ 69 ∷ samples 24 (replicate 24 0)))) 12 ∷
+    call (82 ∷ 73 ∷ 70 ∷ 70 ∷ (four 40 ++ (87 ∷ 65 ∷ 86 ∷ 70 ∷ samples 24 (replicate 24 0)))) 12 ∷
+    -- a fmt chunk of 15 bytes with its odd byte is passed over: the defaults hold
+    call (file ((102 ∷ 109 ∷ 116 ∷ 32 ∷ four 15) ++ ((1 ∷ 0 ∷ 1 ∷ 0 ∷ four 8000) ++ (four 0 ++ (0 ∷ 0 ∷ 24 ∷ 0 ∷ samples 2 (0 ∷ 64 ∷ [])))))) 1 ∷
+    -- one of 18 is read; every byte of its fields counts
+    call (file ((102 ∷ 109 ∷ 116 ∷ 32 ∷ four 18) ++ ((1 ∷ 0 ∷ 2 ∷ 1 ∷ 4 ∷ 3 ∷ 2 ∷ 1 ∷ four 0) ++ (0 ∷ 0 ∷ 24 ∷ 0 ∷ 0 ∷ 0 ∷ samples 3 (0 ∷ 0 ∷ 64 ∷ []))))) 1 ∷
+    -- a second fmt chunk before data takes the place of the first
+    call (file (fmt 1 44 24 ++ fmt 2 48 16 ++ samples 2 (0 ∷ 64 ∷ []))) 1 ∷
+    -- another chunk that ends with the file, and one that runs past it by a byte, with data inside
+    call (file (chunk 65 24 (replicate 24 0))) 12 ∷
+    call (file (chunk 65 25 (samples 16 (replicate 16 0)))) 12 ∷
+    -- 8, 17 and 64 bits; a depth in its second byte
+    call (file (fmt 1 44 8 ++ samples 2 (0 ∷ 0 ∷ []))) 2 ∷
+    call (file (fmt 1 44 17 ++ samples 2 (0 ∷ 0 ∷ []))) 2 ∷
+    call (file (fmt 1 44 64 ++ samples 8 (replicate 8 0))) 2 ∷
+    -- a buffer one place short
+    call (file (fmt 1 44 16 ++ samples 4 (0 ∷ 64 ∷ 0 ∷ 64 ∷ []))) 1 ∷
+    []
+
+pub worked-corners : map seen corners
+    ≡
+    saw (refused 22 0) [] (replicate 12 0) ∷
+    saw (refused 22 0) [] (replicate 12 0) ∷
+    saw (delivered (2 ∷ 44100 ∷ 16 ∷ 1 ∷ [])) (0x3F000000 ∷ 0x3F000000 ∷ []) (0x3F000000 ∷ []) ∷
+    saw (delivered (0x102 ∷ 0x1020304 ∷ 24 ∷ 1 ∷ [])) (0x3F000000 ∷ 0x3F000000 ∷ []) (0x3F000000 ∷ []) ∷
+    saw (delivered (2 ∷ 48 ∷ 16 ∷ 1 ∷ [])) (0x3F000000 ∷ 0x3F000000 ∷ []) (0x3F000000 ∷ []) ∷
+    saw (refused 23 0) [] (replicate 12 0) ∷
+    saw (refused 23 0) [] (replicate 12 0) ∷
+    saw (refused 24 0) [] (replicate 2 0) ∷
+    saw (refused 24 0) [] (replicate 2 0) ∷
+    saw (refused 24 0) [] (replicate 2 0) ∷
+    saw (refused 2 0) [] (0 ∷ []) ∷
+    []
+unfolding ofLow build every absF maxF meanF mean noAverage withOne ofBits toBits lt add div ofInt
+    isWave defaultFormat tellsFormat formatIn formatAfter walkChunks isDepth wholeSamples overPower signedSample sampleOf sampleAt allFinite
+    noteOf wavTaken dataRead walkRead wavRead
+worked-corners = refl
+
+-- ---- refusal 30: 16,777,216 whole samples are taken, one more is not, whatever the buffer
+
+module _ (wav : List ℕ) (d : WavData) (samples : List Float) (some : 0 < d .size) (depth : isDepth (d .format .depth) ≡ true) where
+  pub too-many : 16777216 < wholeSamples wav d → dataRead wav d samples ≡ wavRefused 30 samples
+  unfolding dataRead
+  too-many h = rw (ne-eqb (d .size) 0 (λ e. omega arith), depth, lt-ltb _ _ h)
+
+  pub not-too-many : wholeSamples wav d ≤ 16777216 → length samples < wholeSamples wav d → dataRead wav d samples ≡ wavRefused 2 samples
+  unfolding dataRead
+  not-too-many h k = rw (ne-eqb (d .size) 0 (λ e. omega arith), depth, le-ltb _ _ h, lt-ltb _ _ k)
+
+-- the number of each answer
+pub wav-numbers :
+    map wavOutcome (wav-of.NotWave ∷ wav-of.NoData ∷ wav-of.BadDepth ∷ wav-of.TooMany ∷ wav-of.ShortBuffer ∷ wav-of.NotFinite ∷ [])
+    ≡ refused 22 0 ∷ refused 23 0 ∷ refused 24 0 ∷ refused 30 0 ∷ refused 2 0 ∷ refused 25 0 ∷ []
+unfolding wavOutcome
+wav-numbers = refl
