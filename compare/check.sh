@@ -1,5 +1,5 @@
 #!/bin/sh
-# All comparisons in their small form, under a minute: needs target/staticlib/libhca.a (or HCA_LIB_DIR).
+# All comparisons in their small form, under a minute: needs target/library/libhca.a (scripts/library.sh) or HCA_LIB_DIR.
 set -eu
 cd "$(dirname "$0")"
 sh import.sh

@@ -1,9 +1,9 @@
 /* One mono frame there and back: encode, read strictly, write again.
 
-     cc -std=c99 -Wall -Wextra -Iinclude examples/encode.c target/staticlib/libhca.a -o target/encode-example
+     cc -std=c99 -Wall -Wextra -Iinclude examples/encode.c target/library/libhca.a -o target/encode-example
      target/encode-example
 
-   Needs libhca.a: rt staticlib hca. Exit status 0 where all is as it should be. */
+   Needs libhca.a: sh scripts/library.sh. Exit status 0 where all is as it should be. */
 #include "hca_frame.h"
 
 #include <stdio.h>

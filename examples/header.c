@@ -1,9 +1,9 @@
 /* The 96 bytes in front of a file's frames, with a loop over its first 896 samples.
 
-     cc -std=c99 -Wall -Wextra -Iinclude examples/header.c target/staticlib/libhca.a -o target/header-example
+     cc -std=c99 -Wall -Wextra -Iinclude examples/header.c target/library/libhca.a -o target/header-example
      target/header-example
 
-   Needs libhca.a: rt staticlib hca. Prints the bytes; exit status 0 where all is as it should be. */
+   Needs libhca.a: sh scripts/library.sh. Prints the bytes; exit status 0 where all is as it should be. */
 #include "hca_frame.h"
 
 #include <stdio.h>

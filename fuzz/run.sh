@@ -4,11 +4,10 @@
 # run.sh libfuzzer [SECONDS]    the same checks over libFuzzer's bytes (60 s by default); needs clang with libFuzzer
 # run.sh faults             a library with one fault after the other: each has to be found
 # run.sh stack [CALLS]      the most stack that each function takes (20,000 calls by default; x86-64 or aarch64)
-# Needs target/staticlib/libhca.a (rt staticlib hca) or HCA_LIB_DIR, and a C compiler.
+# Needs target/library/libhca.a (scripts/library.sh) or HCA_LIB_DIR, and a C compiler.
 set -eu
 cd "$(dirname "$0")"
-. ../scripts/x86-64.sh
-lib=${HCA_LIB_DIR:-../target/staticlib}/libhca.a
+lib=${HCA_LIB_DIR:-../target/library}/libhca.a
 out=../target/fuzz
 shared="calls.c checked.c choices.c lend.c rules.c"
 shared="$shared files.c header.c"
@@ -17,7 +16,7 @@ shared="$shared wav.c"
 shared="$shared stereo.c"
 shared="$shared line.c"
 if [ ! -f "$lib" ]; then
-    echo "$lib is not there: run rt staticlib hca first" >&2
+    echo "$lib is not there: run sh scripts/library.sh first" >&2
     exit 2
 fi
 mkdir -p "$out"
@@ -34,7 +33,7 @@ build_driver() { # $1: the program, then flags
     program=$1
     shift
     # shellcheck disable=SC2086
-    ${CC:-$x86_cc} $flags "$@" driver.c $shared "$lib" -o "$out/$program"
+    ${CC:-cc} $flags "$@" driver.c $shared "$lib" -o "$out/$program"
 }
 
 case ${1:-1000000} in
@@ -50,10 +49,10 @@ libfuzzer)
     ;;
 faults)
     build_driver driver-faulty "$wrap" faults.c
-    $x86_run "$out/driver-faulty" --calls 20000 >/dev/null || { echo "a fault where there is none"; exit 1; }
+    "$out/driver-faulty" --calls 20000 >/dev/null || { echo "a fault where there is none"; exit 1; }
     missed=0
     for name in $(sed -n 's/.*is_fault("\([a-z0-9-]*\)").*/\1/p' faults.c); do
-        if HCA_FAULT=$name $x86_run "$out/driver-faulty" --calls 20000 >"$out/log" 2>&1; then
+        if HCA_FAULT=$name "$out/driver-faulty" --calls 20000 >"$out/log" 2>&1; then
             echo "MISSED  $name"
             missed=$((missed + 1))
         else
@@ -66,14 +65,14 @@ faults)
 stack)
     # bound before it runs: else the first call of memset would count the linker's own work
     build_driver driver-stack "$wrap" -Wl,-z,now stack.c
-    $x86_run "$out/driver-stack" --calls "${2:-20000}" | tail -n 2
+    "$out/driver-stack" --calls "${2:-20000}" | tail -n 2
     ;;
 *)
     # shellcheck disable=SC2086
-    if [ -n "$x86_run" ] || ! build_driver driver $sanitizers 2>/dev/null; then
-        echo "no sanitizers at hand, or an emulator, which they do not go with: built without them"
+    if ! build_driver driver $sanitizers 2>/dev/null; then
+        echo "no sanitizers at hand: built without them"
         build_driver driver
     fi
-    $x86_run "$out/driver" --calls "${1:-1000000}" --seed "${2:-1}"
+    "$out/driver" --calls "${1:-1000000}" --seed "${2:-1}"
     ;;
 esac

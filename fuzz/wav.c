@@ -206,8 +206,11 @@ static size_t make_wav(struct source *s)
     if (one_in(s, 60))
         made_wav[pick(s, 12)] ^= (uint8_t)(1 << pick(s, 8));
     for (uint32_t i = pick(s, 3); i > 0; i--) {
+        /* each choice in a statement of its own: in which order a call's arguments are evaluated differs from processor to processor */
         size_t bytes = pick(s, 30);
-        at = put_chunk(at, others[pick(s, one_in(s, 4) ? 6 : 5)], some_size(s, bytes), bytes, &r);
+        const char *id = others[pick(s, one_in(s, 4) ? 6 : 5)];
+        uint32_t size = some_size(s, bytes);
+        at = put_chunk(at, id, size, bytes, &r);
         at += bytes % 2 == 1 && !one_in(s, 12);
         if (one_in(s, 2))
             at = put_format(at, s, &r);

@@ -1,6 +1,6 @@
 #!/bin/sh
 # Makes the sample anew: two voices speak, the Rust's front end turns them into spectra, and the library tries every frame.
-# Needs espeak-ng and sox for the two WAV files, then cargo and target/staticlib/libhca.a. `make.sh spectra` keeps the WAV files.
+# Needs espeak-ng and sox for the two WAV files, then cargo and target/library/libhca.a. `make.sh spectra` keeps the WAV files.
 set -eu
 cd "$(dirname "$0")"
 if [ "${1:-all}" = all ]; then

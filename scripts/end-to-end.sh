@@ -1,6 +1,6 @@
 #!/bin/sh
 # Speech to an HCA file and back to sound: the Rust's MDCT, then the library's header and frames, decoded by ffmpeg, which shares no code
-# with either. Needs cargo and g++, target/staticlib/libhca.a (rt staticlib hca), and ffmpeg for the way back: without it the files are made and
+# with either. Needs cargo and g++, target/library/libhca.a (scripts/library.sh), and ffmpeg for the way back: without it the files are made and
 # compared, and that is all.
 #   end-to-end.sh                  the two sample files at several bit rates
 #   end-to-end.sh FILE.wav RATE    one 16-bit WAV file at a bit rate, in bits a second
@@ -33,7 +33,8 @@ esac
 cd "$(dirname "$0")/.."
 out=target/end-to-end
 mkdir -p "$out"
-[ -f "${HCA_LIB_DIR:-target/staticlib}/libhca.a" ] || refuse "target/staticlib/libhca.a is not there: run rt staticlib hca first"
+library=${HCA_LIB_DIR:-target/library}/libhca.a
+[ -f "$library" ] || refuse "$library is not there: run sh scripts/library.sh first"
 (cd compare && sh import.sh >/dev/null && cargo build --quiet --release --offline --locked --bin end-to-end)
 tool=compare/target/release/end-to-end
 

@@ -1,6 +1,7 @@
 #!/bin/sh
 # install.sh PREFIX: the C header, the library and a pkg-config file, as PREFIX/include/hca_frame.h, PREFIX/lib/libhca.a and
-# PREFIX/lib/pkgconfig/hca_frame.pc. Needs target/staticlib/libhca.a (rt staticlib hca). A folder that is missing is made.
+# PREFIX/lib/pkgconfig/hca_frame.pc. The library is the one for this machine, target/library/libhca.a (scripts/library.sh), or that of the folder
+# HCA_LIB_DIR, an absolute path, as for the other processor. A folder that is missing is made.
 set -eu
 case $# in
 1) ;;
@@ -12,9 +13,9 @@ case $1 in
 *) prefix=$(pwd)/$1 ;;
 esac
 cd "$(dirname "$0")/.."
-library=target/staticlib/libhca.a
+library=${HCA_LIB_DIR:-target/library}/libhca.a
 if [ ! -f "$library" ]; then
-    echo "install.sh: $library is not there: run rt staticlib hca first" >&2
+    echo "install.sh: $library is not there: run sh scripts/library.sh first" >&2
     exit 2
 fi
 version=$(sed -n 's/^#define HCA_VERSION "\(.*\)"$/\1/p' include/hca_frame.h)

@@ -1,12 +1,11 @@
 #!/bin/sh
-# Every test of the repository: the layout of the sources, every proof, every must-fail edit and every program, and the command line on good and bad
-# words; where a C compiler is at hand the command line with an exit status, the C example, the installed library and hostile calls of it; where cargo and
-# g++ are, the comparisons with the Rust and with the model in their small form and the Rust crate's tests. The last line is that of `rt ci`: N passed,
-# M failed. rt makes programs for x86-64: on a machine with another processor those of them that need an emulator or another compiler are run where
-# these are at hand (scripts/x86-64.sh), and the comparisons are not.
+# Every test of the repository: the layout of the sources, every proof, every must-fail edit and every program; then the library for this machine, and all that
+# is run on it. With cc: the C examples, the installed library, hostile calls, and on Arm the library for x86-64 beside it, in the kit's emulator. With cargo
+# and cc: the command line on good and bad words, and the Rust crates' tests. With cargo and g++: the comparisons with the Rust and with the model in their
+# small form, and HCA files made from end to end. What is missing for want of one of the three is said as SKIPPED; where CI is set that is a failure.
+# The last line is that of `rt ci`: N passed, M failed.
 set -eu
 cd "$(dirname "$0")/.."
-. scripts/x86-64.sh
 # rt waits for a whole batch before it starts the next: with twelve at a time two cores are seldom idle
 export RT_JOBS="${RT_JOBS:-12}"
 # in_memory: a temporary folder that is no disk's, since each check copies the proofs that it rests on to one. It needs room, and programs have to run in it:
@@ -18,6 +17,15 @@ in_memory() {
     memory=$(mktemp -d /dev/shm/hca.XXXXXX) || return 1
     chmod 755 "$memory" && cp "$(command -v env)" "$memory/env" && "$memory/env" true
 }
+# has PROGRAM..: are all of them at hand?
+has() {
+    for program; do command -v "$program" >/dev/null || return 1; done
+}
+skipped=
+skip() {
+    echo "SKIPPED: $1"
+    skipped=yes
+}
 rt fmt --check
 log=$(mktemp) memory=
 trap 'rm -rf "$log" "$log.status" "$log.beside" ${memory:+"$memory"}' EXIT
@@ -26,46 +34,51 @@ if [ -z "${TMPDIR:-}" ] && in_memory 2>/dev/null; then room=$memory; else room=$
 if [ "$(cat "$log.status")" -ne 0 ]; then
     exit 1
 fi
-# the command line is tried beside the next build, and beside the examples and hostile calls: one processor each
-beside=$log.beside
-# tried PROCESS: what the tests in the background said, and whether they passed
-tried() {
-    status=0
-    wait "$1" || status=$?
-    cat "$beside"
-    [ "$status" -eq 0 ] || exit 1
-}
-if can_run; then
-    sh scripts/hcaframe-test.sh target/bin/hcaframe >"$beside" 2>&1 &
-    tests=$!
-    if can_compile; then TMPDIR=$room sh scripts/hcaframe-build.sh; fi
-    tried "$tests"
-else
-    echo "SKIPPED: the command line's tests (programs for x86-64 do not run here; qemu-x86_64 is needed)"
-fi
-if can_compile; then
+TMPDIR=$room sh scripts/library.sh
+# the command line is tried beside the examples and hostile calls: one processor each
+beside=$log.beside tests=
+if has cargo cc; then
+    TMPDIR=$room sh scripts/hcaframe-build.sh
     sh scripts/hcaframe-test.sh >"$beside" 2>&1 &
     tests=$!
-    TMPDIR=$room rt staticlib hca
+else
+    skip "the command line's tests (cargo and cc are needed)"
+fi
+if has cc; then
     for example in examples/*.c; do
         program=target/$(basename "$example" .c)-example
-        "$x86_cc" -std=c99 -Wall -Wextra -Iinclude "$example" target/staticlib/libhca.a -o "$program"
-        $x86_run "$program"
+        cc -std=c99 -Wall -Wextra -Iinclude "$example" target/library/libhca.a -o "$program"
+        "$program"
     done
     sh scripts/install-test.sh
-    # an emulator takes twenty times as long
-    if [ -z "$x86_run" ]; then sh fuzz/run.sh 20000; else sh fuzz/run.sh 2000; fi
-    tried "$tests"
+    sh fuzz/run.sh 20000
+    # where this machine's library is not rt's own, both have to leave the same
+    if [ "$(uname -m)" != x86_64 ]; then
+        TMPDIR=$room sh scripts/library.sh --for x86-64
+        sh compare/processors.sh
+    fi
 else
-    echo "SKIPPED: hcaframe with an exit status, the C examples and the hostile calls (a C compiler for x86-64 is needed)"
+    skip "the C examples, the installation and the hostile calls (cc is needed)"
 fi
-if [ -n "$x86_run" ]; then
-    echo "SKIPPED: the comparisons with the Rust and the model, and the Rust crate's tests (the library is for x86-64)"
-elif command -v cargo >/dev/null && command -v g++ >/dev/null; then
+if [ -n "$tests" ]; then
+    status=0
+    wait "$tests" || status=$?
+    cat "$beside"
+    [ "$status" -eq 0 ] || exit 1
+fi
+if has cargo cc g++; then
     sh compare/check.sh
     sh scripts/end-to-end-test.sh
-    (cd rust && cargo test --quiet --offline)
 else
-    echo "SKIPPED: the comparisons with the Rust and the model (cargo and g++ are needed)"
+    skip "the comparisons with the Rust and the model, and HCA files from end to end (cargo, cc and g++ are needed)"
+fi
+if has cargo cc; then
+    (cd rust && cargo test --workspace --quiet --offline)
+else
+    skip "the Rust crates' tests (cargo and cc are needed)"
+fi
+if [ -n "$skipped" ] && [ -n "${CI:-}" ]; then
+    echo "FAILED: not all was run (the lines that begin with SKIPPED), and CI is set"
+    exit 1
 fi
 tail -n 1 "$log"

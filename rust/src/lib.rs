@@ -36,8 +36,8 @@
 //! # Ok::<(), Box<dyn std::error::Error>>(())
 //! ```
 //!
-//! Build `libhca.a` first (`rt staticlib hca`); the build script looks for it in
-//! `../target/staticlib`, or in the folder that `HCA_LIB_DIR` names.
+//! Build `libhca.a` first (`sh scripts/library.sh`); the build script looks for it in
+//! `../target/library`, or in the folder that `HCA_LIB_DIR` names.
 //!
 //! # Floats
 //!
@@ -87,6 +87,13 @@ pub struct Delivered {
     pub pairs: u32,
     /// Bits of all fields, before the fill.
     pub bits: u32,
+}
+
+/// Level, boundary, pairs and bits, as a line's answers and a list's entries have them.
+impl From<[u32; 4]> for Delivered {
+    fn from([level, boundary, pairs, bits]: [u32; 4]) -> Self {
+        Delivered { level, boundary, pairs, bits }
+    }
 }
 
 /// Encodes frames of one layout; owns the work buffers.

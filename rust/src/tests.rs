@@ -404,3 +404,12 @@ fn a_line_is_its_single_calls() {
     assert_eq!(tally, sum);
     assert_eq!((whole.codes(), whole.side(), whole.factors()), (one.codes(), one.side(), one.factors()));
 }
+
+#[test]
+fn what_is_delivered_from_its_numbers() {
+    let mut encoder = Encoder::new(mono(40, 64, 120));
+    let done = encoder.encode_frame(&[0.25; 1024], &[0; 8]).unwrap();
+    assert_eq!(Delivered::from([done.level, done.boundary, done.pairs, done.bits]), done);
+    let entry = Delivered::from([511, 127, 63, u32::MAX]);
+    assert_eq!((entry.level, entry.boundary, entry.pairs, entry.bits), (511, 127, 63, u32::MAX));
+}

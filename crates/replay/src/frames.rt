@@ -1,8 +1,5 @@
 // Frame-stage cases.
 ghost use Prim.Native.Nat.{_≤_};
-use binary::words::word;
-use places::ahead;
-use places::at_most;
 use refusals::stage_refusal;
 use replay_vectors::bodies::can_say;
 use replay_vectors::bodies::layout_in_body;
@@ -22,6 +19,9 @@ use replay_vectors::sums::sum_i32;
 use replay_vectors::sums::sum_u8;
 use rules::Layout;
 use rules::StageAnswer;
+use system::places::ahead;
+use system::places::at_most;
+use system::words::word;
 
 fn stage_answer(answer: StageAnswer) -> Numbers {
     let StageAnswer::Delivered(level, boundary, pairs, bits) = answer else {

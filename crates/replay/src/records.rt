@@ -1,7 +1,4 @@
 // Cases of the strict reader, the record writer and the checksum.
-use binary::words::word;
-use places::ahead;
-use places::at_most;
 use refusals::read_refusal;
 use refusals::refused;
 use refusals::write_refusal;
@@ -25,6 +22,9 @@ use replay_vectors::sums::sum_u8;
 use rules::Layout;
 use rules::ReadAnswer;
 use rules::WriteAnswer;
+use system::places::ahead;
+use system::places::at_most;
+use system::words::word;
 
 fn read_answer(answer: ReadAnswer) -> Numbers {
     let ReadAnswer::Delivered(level, boundary, bits) = answer else {

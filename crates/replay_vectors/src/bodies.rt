@@ -1,10 +1,10 @@
 // The layout that a body starts with, and its kinds.
 use crate::data::bytes_at;
-use binary::words::word;
-use places::ahead;
-use places::at_most;
-use places::byte;
 use rules::Layout;
+use system::places::ahead;
+use system::places::at_most;
+use system::places::byte;
+use system::words::word;
 
 pub fn layout_in_body(body: &[u8]) -> Layout {
     let numbers = [

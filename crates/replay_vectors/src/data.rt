@@ -1,11 +1,11 @@
 // Numbers and parts of a file. A read past the end gives 0 and the place goes on: at a case's end the place tells whether the body was whole.
 ghost use Prim.Native.Nat.{_≤_};
 ghost use lib.ListN.{length};
-use binary::words::word;
-use binary::words::word_past;
-use places::ahead;
-use places::at_most;
-use places::end;
+use system::places::ahead;
+use system::places::at_most;
+use system::places::end;
+use system::words::word;
+use system::words::word_past;
 
 // From a start to an end.
 pub struct Part {

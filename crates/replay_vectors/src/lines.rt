@@ -2,14 +2,14 @@
 use crate::data::Numbers;
 use crate::data::are_same;
 use crate::data::numbers_at;
-use places::ahead;
-use places::more;
 use refusals::Refusal;
 use refusals::refused;
-use text::forms::put_entry;
-use text::forms::put_form;
-use text::forms::say_form;
-use text::lines::say_line;
+use system::forms::put_entry;
+use system::forms::put_form;
+use system::forms::say_form;
+use system::lines::say_line;
+use system::places::ahead;
+use system::places::more;
 
 pub enum Verdict {
     Same,

@@ -1,11 +1,11 @@
 // Lists of words that are 0 but for some runs, and what the words stand for.
-use binary::values::put_bytes;
-use binary::values::take_floats;
-use binary::values::take_ints;
-use binary::words::word;
-use binary::words::word_past;
-use places::ahead;
-use places::at_most;
+use system::places::ahead;
+use system::places::at_most;
+use system::values::put_bytes;
+use system::values::take_floats;
+use system::values::take_ints;
+use system::words::word;
+use system::words::word_past;
 
 // Puts k words, from a place on, as word `start` and on; answers the place past them.
 fn put_run(body: &[u8], place: usize, start: usize, k: usize, out: &mut [u8]) -> usize {

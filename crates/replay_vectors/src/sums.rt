@@ -1,6 +1,6 @@
 // FNV-1a of 32 bits over a lent buffer's bytes.
-use binary::values::put_ints;
-use places::byte_value;
+use system::places::byte_value;
+use system::values::put_ints;
 
 fn mix(sum: usize, byte: usize) -> usize {
     (((sum ^ byte) % 4294967296) * 16777619) % 4294967296

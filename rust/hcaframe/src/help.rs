@@ -1,0 +1,214 @@
+//! How each command is called and what it takes, made from the table of options.
+use crate::options::{Command, Name, Need, Row, Use, Value, OPTIONS};
+use std::fmt::Write;
+
+/// What all commands do, in short.
+const COMMANDS: &str = "\
+encode makes frames from spectra, read tells what frames hold, write makes frames from records,
+check tells which frames are good, header makes the header of an HCA file or the whole file,
+wav reads a WAV file, list tells what a list of frames holds. More: hcaframe COMMAND --help; hcaframe --version
+";
+
+const LAYOUT: &str = "\
+LAYOUT is --kinds PS --base 40 --stereo 60 --total 117 --frame-size 512:
+  --kinds       a letter a channel, 1 to 16 of them: D discrete, P stereo primary, S stereo secondary
+  --base, --stereo, --total   counts of bands; total is 1 to 128, base and stereo together at most total
+  --frame-size  bytes of a frame, 8 to 65535
+or --layout FILE, a text file with these words; a line that begins with # is a comment.
+";
+
+/// Of the files of every command, and of the status.
+const FILES: &str = "\
+Every option is --option VALUE or --option=VALUE; --quiet has no value and keeps standard output empty.
+- as FILE is standard input or output. With - as the output, the text goes to standard error, and what was written
+before a refusal stays written.
+An output is a new file or takes the place of a regular file, never of a link, a folder or a device, and none of the
+call's files may be another one of them. It is written as FILE.tmp-NUMBER, the process's or the next free one, and takes
+its name, with the mode of a new file, when it is whole. A run that is ended from outside can leave FILE.tmp-NUMBER behind.
+Status: 0 all is well, 1 a frame, a record, a WAV file or a list was refused, 2 the words or a file were wrong.
+A closed pipe ends the text, not the work. Where standard output is full or closed, the status is 2, and what is whole is said.
+";
+
+/// What a command does.
+fn purpose(command: Command) -> &'static str {
+    match command {
+        Command::Encode => {
+            "Makes frames from spectra, and tells each frame's level, boundary, pairs of bands removed and bits.\n"
+        }
+        Command::Read => {
+            "Reads frames strictly and tells what each holds: level, boundary, bits, factors, side values, codes.\n"
+        }
+        Command::Write => "Writes records as frames, and tells each frame's level, boundary and bits.\n",
+        Command::Check => "Reads every frame strictly and tells which are good. It writes no file.\n",
+        Command::Header => {
+            "Makes the header of an HCA file, 96 bytes; with --frames the whole file. A header has at most 8 channels. It carries\n\
+             no kinds: decoders derive them, so the layout's kinds are D for one channel; with stereo bands PS, PSD, PSPS, PSDPS,\n\
+             PSDDPS, PSDDPSD and PSDDPSPS for 2 to 8 channels; without them D for each.\n"
+        }
+        Command::Wav => {
+            "Reads a WAV file of up to 1073741824 bytes and tells its channels, rate, depth and samples, and the peak and the mean\n\
+             of the magnitudes of all samples: six decimals, rounded, and the float's pattern in hex.\n"
+        }
+        Command::List => {
+            "Tells the numbers of each frame that a list holds, and the highest level, the most pairs removed and all bits.\n"
+        }
+    }
+}
+
+/// An option with the word for its value.
+fn call(row: &Row, one: &Use) -> String {
+    match one.value {
+        Value::Nothing => row.word.to_string(),
+        Value::Number => format!("{} N", row.word),
+        Value::Kinds => format!("{} KINDS", row.word),
+        Value::Input | Value::Output => format!("{} FILE", row.word),
+    }
+}
+
+/// The option that belongs to this one in the same way, as this one to it.
+fn partner(command: Command, name: Name) -> Option<Name> {
+    let other_of = |name: Name| match name.of_command(command)?.need {
+        Need::Either(other) | Need::With(other) => Some(other),
+        _ => None,
+    };
+    other_of(name).filter(|&other| other_of(other) == Some(name))
+}
+
+fn called(command: Command, name: Name) -> Option<String> {
+    name.of_command(command).map(|one| call(&OPTIONS[name as usize], one))
+}
+
+/// The options that may stand beside this one alone.
+fn beside(command: Command, name: Name) -> Vec<Name> {
+    OPTIONS
+        .iter()
+        .filter(|row| row.of(command).is_some_and(|one| one.need == Need::With(name)))
+        .filter(|row| partner(command, row.name).is_none())
+        .map(|row| row.name)
+        .collect()
+}
+
+/// One option of the usage line; none where another one brings it along.
+fn piece(command: Command, row: &Row, one: &Use) -> Option<String> {
+    let this = call(row, one);
+    if let Some(other) = partner(command, row.name) {
+        let both = (this, called(command, other)?);
+        let is_first = (row.name as usize) < other as usize;
+        return is_first.then(|| match one.need {
+            Need::Either(_) => format!("({} | {})", both.0, both.1),
+            _ => format!("[{} {}]", both.0, both.1),
+        });
+    }
+    match one.need {
+        Need::Needed => Some(this),
+        Need::With(_) | Need::Either(_) => None,
+        Need::Optional => {
+            let inner = beside(command, row.name).into_iter().filter_map(|name| called(command, name));
+            Some(format!("[{this}{}]", inner.map(|call| format!(" [{call}]")).collect::<String>()))
+        }
+    }
+}
+
+/// Is the option told of by the word LAYOUT?
+fn is_in_layout(command: Command, name: Name) -> bool {
+    command.takes_layout() && (name.is_of_layout() || name == Name::Layout)
+}
+
+impl Row {
+    fn of(&self, command: Command) -> Option<&'static Use> {
+        self.name.of_command(command)
+    }
+}
+
+/// The line that says how a command is called.
+pub fn usage(command: Option<Command>) -> String {
+    let Some(command) = command else {
+        let words: Vec<&str> = Command::ALL.iter().map(|command| command.word()).collect();
+        return format!("usage: hcaframe {} .. ; hcaframe --help\n", words.join(" | "));
+    };
+    let mut line = format!("usage: hcaframe {}", command.word());
+    if command.takes_layout() {
+        line.push_str(" LAYOUT");
+    }
+    for row in OPTIONS.iter().filter(|row| !is_in_layout(command, row.name)) {
+        if let Some(text) = row.of(command).and_then(|one| piece(command, row, one)) {
+            let _ = write!(line, " {text}");
+        }
+    }
+    line + "\n"
+}
+
+/// The lines of one option.
+fn described(command: Command, row: &Row) -> String {
+    let Some(one) = row.of(command).filter(|one| !one.help.is_empty()) else {
+        return String::new();
+    };
+    let text = one.help.replace('\n', "\n                ");
+    match partner(command, row.name).filter(|_| matches!(one.need, Need::With(_))) {
+        Some(other) => format!("  {}, {}   {text}\n", row.word, other.word()),
+        None => format!("  {:<13} {text}\n", row.word),
+    }
+}
+
+/// The lines of every option of a command, one that stands beside another directly behind it.
+fn descriptions(command: Command) -> String {
+    let mut text = String::new();
+    for row in OPTIONS.iter().filter(|row| !is_in_layout(command, row.name)) {
+        let Some(one) = row.of(command) else { continue };
+        if matches!(one.need, Need::With(_)) && partner(command, row.name).is_none() {
+            continue;
+        }
+        text += &described(command, row);
+        for name in beside(command, row.name) {
+            text += &described(command, &OPTIONS[name as usize]);
+        }
+    }
+    text
+}
+
+/// All that `--help` says, of one command or of all.
+pub fn help(command: Option<Command>) -> String {
+    let mut text = match command {
+        Some(one) => usage(command) + purpose(one) + &descriptions(one),
+        None => Command::ALL.iter().map(|&one| usage(Some(one))).collect::<String>() + COMMANDS,
+    };
+    if command.map_or(true, Command::takes_layout) {
+        text += LAYOUT;
+    }
+    text + FILES
+}
+
+#[cfg(test)]
+mod tests {
+    use super::*;
+
+    #[test]
+    fn usages() {
+        let all: String = Command::ALL.iter().map(|&command| usage(Some(command))).collect();
+        let expected = "\
+usage: hcaframe encode LAYOUT (--spectra FILE | --unmixed FILE) [--intensities FILE] --out FILE [--list FILE] [--allow-empty] [--quiet]
+usage: hcaframe read LAYOUT --frames FILE [--records FILE] [--allow-empty] [--quiet]
+usage: hcaframe write LAYOUT --records FILE --out FILE [--allow-empty] [--quiet]
+usage: hcaframe check LAYOUT --frames FILE [--allow-empty] [--quiet]
+usage: hcaframe header LAYOUT --rate N --count N --padding N [--loop-start N --loop-end N] [--any-kinds] \
+[--frames FILE [--unchecked]] --out FILE [--quiet]
+usage: hcaframe wav --in FILE [--samples FILE] [--quiet]
+usage: hcaframe list --list FILE [--frame N] [--svg FILE [--frame-size N]] [--quiet]
+";
+        assert_eq!(all, expected);
+    }
+
+    #[test]
+    fn lines_of_the_help() {
+        let text = help(Some(Command::Header));
+        assert!(
+            text.contains("\n  --loop-start, --loop-end   the loop in samples, at most 4294967167; both or none\n"),
+            "{text}"
+        );
+        assert!(!text.contains("  --loop-end "));
+        assert!(text.contains("\n  --frames      the frames behind the header"));
+        let text = help(Some(Command::List));
+        assert!(text.find("--svg ").unwrap() < text.find("  --frame-size  bytes of a frame, 8 to 65535\n").unwrap());
+        assert!(!text.contains("LAYOUT"));
+    }
+}
