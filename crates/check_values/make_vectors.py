@@ -33,7 +33,8 @@ def messages():
         yield bytes([byte])
     yield bytes(range(256))
     block = pattern(700)
-    for length in [*range(1, 41), *range(60, 700, 60), 699, 700]:
+    # from 40 bytes on eight at a time: each number of bytes may be left over
+    for length in [*range(1, 65), *range(120, 700, 60), 699, 700]:
         yield block[:length]
 
 

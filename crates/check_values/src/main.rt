@@ -6,7 +6,7 @@ use libc::STDOUT_FILENO;
 fn line(message: &[u8]) {
     io::print_decimal(STDOUT_FILENO, message.len() as u64);
     io::write_all(STDOUT_FILENO, b" ");
-    io::print_hex(STDOUT_FILENO, crc::crc16_checksum(message) as u64, 4);
+    io::print_hex(STDOUT_FILENO, sealing::crc16_checksum(message) as u64, 4);
     io::write_all(STDOUT_FILENO, b"\n");
 }
 

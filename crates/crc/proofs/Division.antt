@@ -132,6 +132,14 @@ module _ (g : Poly) where
       ∙ ap (λ n. steps d n (add hi q ++ (lo ++ zeros (length hi)))) (sym (length-add hi q (omega arith)))
       ∙ rest-before (add hi q) (lo ++ zeros (length hi)) (rw (length-append, length-replicate) (omega arith))
 
+  pub rest-sum : (p q : Poly) → length p ≡ length q → rest (add p q) ≡ add (rest p) (rest q)
+  rest-sum p q h =
+      let z : Poly = zeros (length g) in
+      ap₂ (steps d) (length-add p q (omega arith))
+      (sym (add-append p q z z h ∙ ap (λ y. add p q ++ y) (zeros-add (length g) z (omega (arith, length-replicate (length g) false)))))
+      ∙ steps-sum (length q) (p ++ z) (q ++ z)
+      ∙ ap (λ n. add (steps d n (p ++ z)) (rest q)) (sym h)
+
   -- ---- the division as the specification states it
 
   pub remainder-rest : (p : Poly) → remainder d (p ++ zeros (length g)) ≡ rest p

@@ -1,4 +1,4 @@
--- Laws of the checksum: what one byte more makes of it.
+-- Laws of the checksum: what one byte more makes of it, and that it is linear.
 -- Assumes nothing.
 use mathlib.Core.Path.{_≡_, refl, sym, ap, ap₂, _∙_}
 use mathlib.Core.Bool.{false}
@@ -15,7 +15,7 @@ use Rattle.bits.proofs.Numbers.{length-bits, value-lt, value-append, value-zero
 use Rattle.crc.specs.Poly.{Poly, add}
 use Rattle.crc.specs.Check.{divisor, checksum}
 use Rattle.crc.specs.Table.{fed, feed}
-use Rattle.crc.proofs.Division.{rest, rest-next, length-rest, remainder-rest}
+use Rattle.crc.proofs.Division.{rest, rest-next, rest-sum, length-rest, remainder-rest}
 use Rattle.crc.proofs.Digits.{bits-xor, value-sum}
 
 -- the divisor's coefficients after the first
@@ -62,13 +62,21 @@ checksum-next m b =
     let l : length s ≡ 16 = length-rest g (bitsOf m) in
     fed-by-halves m b (take 8 s) (drop 8 s) (sym (take-append-drop 8 s)) (rw (length-take, l)) (rw (length-drop, l))
 
+pub byte-xor : (x y : ℕ) → checksum (bitXor x y ∷ []) ≡ bitXor (checksum (x ∷ [])) (checksum (y ∷ []))
+byte-xor x y =
+    byte-rest (bitXor x y)
+    ∙ ap (λ p. value (rest g p)) (bits-xor 8 x y)
+    ∙ ap value (rest-sum g (bits 8 x) (bits 8 y) (length-bits 8 x ∙ sym (length-bits 8 y)))
+    ∙ value-sum (rest g (bits 8 x)) (rest g (bits 8 y)) (length-rest g (bits 8 x) ∙ sym (length-rest g (bits 8 y)))
+    ∙ sym (ap₂ bitXor (byte-rest x) (byte-rest y))
+
 -- the bytes behind a message go in one after the other
 pub checksum-feed : (m bs : List ℕ) → checksum (m ++ bs) ≡ feed (checksum m) bs
 checksum-feed m [] = ap checksum (append-nil m)
 checksum-feed m (b ∷ bs) =
     ap checksum (sym (append-assoc m (b ∷ []) bs)) ∙ checksum-feed (m ++ (b ∷ [])) bs ∙ ap (λ s. feed s bs) (checksum-next m b)
 
-feed-append : (s : ℕ) (cs bs : List ℕ) → feed s (cs ++ bs) ≡ feed (feed s cs) bs
+pub feed-append : (s : ℕ) (cs bs : List ℕ) → feed s (cs ++ bs) ≡ feed (feed s cs) bs
 feed-append s [] bs = refl
 feed-append s (c ∷ cs) bs = feed-append (fed s c) cs bs
 

@@ -16,12 +16,12 @@ use crate::chunks::put_loop;
 use crate::chunks::put_magic;
 use crate::chunks::put_tail;
 use buffers::clear_u8;
-use crc::seal;
 use layouts::legal;
 use rules::Layout;
 use rules_files::header::HeaderAnswer;
 use rules_files::header::LoopPoints;
 use rules_files::header::Stream;
+use sealing::seal;
 
 // Does each point keep to 32 bits when 128 is added?
 fn fits_points(points: LoopPoints) -> bool

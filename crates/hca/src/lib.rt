@@ -234,5 +234,5 @@ pub extern "C" fn hca_list_summary(list: &[u8], answer: &mut [u64]) -> u32
 pub extern "C" fn hca_checksum(bytes: &[u8]) -> u16
     ensures { λ r. ⌜ r ≡ checksum (now (bytes .entry)) ⌝ }
 {
-    crc::crc16_checksum(bytes)
+    sealing::crc16_checksum(bytes)
 }

@@ -12,11 +12,11 @@ ghost use Rattle.rules.specs.Fields.{fields};
 ghost use Rattle.rules.specs.Frame.{fieldEnd, frameOf};
 use bits::Place;
 use buffers::clear_u8;
-use crc::seal;
 use packing_channels::values::write_head;
 use packing_channels::write_channels;
 use packing_codes::write_codes;
 use rules::Layout;
+use sealing::seal;
 
 // All fields, from the first bit on; how many bits they are.
 fn write_fields(

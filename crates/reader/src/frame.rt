@@ -28,7 +28,7 @@ fn scan_frame(
     ensures { λ r. ⌜ foundLeft layout (now (factors .exit)) (now (side .exit)) (now (codes .exit)) r
         ≡ scannedLeft layout (strict layout (now (frame .entry))) ⌝ }
 {
-    if !crc::is_sealed(frame) {
+    if !sealing::is_sealed(frame) {
         return FrameFound::Refused(ReadAnswer::WrongCheck);
     }
     let start = Place { at: 0 };

@@ -172,7 +172,7 @@ pub(crate) fn check_case(body: &[u8]) -> CaseOutcome {
     let bytes = bytes_at(body, 0);
     let a = bytes.start;
     let e = bytes.end;
-    let check = crc::crc16_checksum(&body[a..e]) as usize;
+    let check = sealing::crc16_checksum(&body[a..e]) as usize;
     let is_same = check == word(body, e);
     CaseOutcome {
         answer: refusal_told(refused(0, check)),

@@ -1,1 +1,4 @@
+-- noise_curve
+pub mod Stretched
+-- the whole
 pub mod Coded

@@ -3,9 +3,12 @@ ghost use mathlib.Core.Path.{_≡_};
 ghost use Prim.Native.Nat.{_*_, _≤_};
 ghost use lib.ListN.{getD, take, drop};
 ghost use Rattle.rules.specs.Tables.{resolutionCurve};
-ghost use Rattle.rules.specs.Resolution.{noiseAt};
+ghost use Rattle.rules.specs.Resolution.{noiseAt, resolution};
 ghost use Rattle.quantizer.specs.Packed.{packedRow};
+ghost use Rattle.resolutions.specs.Stretched.{IsStretched, placeOf};
 use quantizer::tables::row_entry;
+
+mod stretched;
 
 pub fn noise_at(level: usize, boundary: usize, band: usize) -> usize
     ensures { λ r. ⌜ (r ≡ noiseAt level boundary band) × (r ≤ level) ⌝ }
@@ -37,4 +40,28 @@ pub fn curve(at: usize) -> u8
     ensures { λ r. ⌜ (r ≡ getD resolutionCurve at 0) × (r ≤ 15) ⌝ }
 {
     row_entry(curve_row(at / 16), at % 16) as u8
+}
+
+// The curve, stretched, with its rule. It is taken once and lent down.
+pub fn curve_table() -> [u8; 688]
+    ensures { λ t. ⌜ IsStretched t ⌝ }
+{
+    stretched::STRETCHED
+}
+
+// Where a factor stands on it at noise 0.
+pub fn place_of(factor: u8) -> usize
+    requires { ⌜ factor ≤ 63 ⌝ }
+    ensures { λ r. ⌜ (r ≡ placeOf factor) × (r ≤ 417) ⌝ }
+{
+    let down = 5 * (factor as usize) / 2;
+    if factor == 0 { 417 } else { 159 - down }
+}
+
+// The resolution of a factor at a noise: one entry.
+pub fn read_curve(curve: &[u8; 688], factor: u8, noise: usize) -> u8
+    requires { ⌜ IsStretched (now curve) × (factor ≤ 63) × (noise ≤ 254) ⌝ }
+    ensures { λ r. ⌜ (r ≡ resolution noise factor) × (r ≤ 15) ⌝ }
+{
+    curve[place_of(factor) + noise]
 }

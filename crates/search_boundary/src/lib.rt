@@ -6,22 +6,28 @@ pub mod moves;
 ghost use mathlib.Core.Path.{_≡_};
 ghost use Prim.Native.Nat.{_*_, _≤_, _<_};
 ghost use lib.ListN.{length};
+ghost use Rattle.buffers.specs.Walk.{AtMost};
 ghost use Rattle.rules.specs.Layout.{Sizes, frameSize, spectrumLength, factorLength};
 ghost use Rattle.rules.specs.Estimate.{usedBits, exceeds};
 ghost use Rattle.rules.specs.Boundary.{searchBoundary, boundaryOf};
+ghost use Rattle.resolutions.specs.Stretched.{IsStretched};
+ghost use Rattle.band_counts.specs.Counts.{Counted};
 use crate::moves::move_boundary;
 use rules::Layout;
 
 // It always answers: low moves only to a probe below high. The bits of low are at hand, and a probe's are counted from them.
 fn binary_search_boundary(
     layout: Layout,
+    curve: &[u8; 688],
     scaled: &[f32],
+    counts: &[i32],
     factors: &[u8],
     level: usize,
     used: usize,
 ) -> usize
     requires { ⌜ Sizes layout ⌝ }
-    requires { ⌜ (length (now scaled) ≡ spectrumLength layout) × (length (now factors) ≡ factorLength layout) × (0 < level) × (level ≤ 511) ⌝ }
+    requires { ⌜ IsStretched (now curve) × Counted layout (now scaled) (now counts) × AtMost 63 (now factors) ⌝ }
+    requires { ⌜ (length (now scaled) ≡ spectrumLength layout) × (length (now factors) ≡ factorLength layout) × (0 < level) × (level ≤ 254) ⌝ }
     requires { ⌜ (used ≡ usedBits layout (now scaled) (now factors) level 0) × (used ≤ 8 * frameSize layout) ⌝ }
     ensures { λ r. ⌜ (r ≡ searchBoundary (exceeds layout (now (scaled .entry)) (now (factors .entry)) level)) × (r ≤ 127) ⌝ }
 {
@@ -31,7 +37,17 @@ fn binary_search_boundary(
     let mut high: usize = 127;
     while low + 1 < high {
         let mid = (low + high) / 2;
-        let probed = move_boundary(layout, scaled, factors, level, bits, low, mid);
+        let probed = move_boundary(
+            layout,
+            curve,
+            scaled,
+            counts,
+            factors,
+            level,
+            bits,
+            low,
+            mid,
+        );
         if available < probed {
             high = mid - 1;
         } else {
@@ -42,7 +58,19 @@ fn binary_search_boundary(
     if low == high {
         return low;
     }
-    if available < move_boundary(layout, scaled, factors, level, bits, low, high) {
+    if available
+        < move_boundary(
+            layout,
+            curve,
+            scaled,
+            counts,
+            factors,
+            level,
+            bits,
+            low,
+            high,
+        )
+    {
         return low;
     }
     high
@@ -51,18 +79,21 @@ fn binary_search_boundary(
 // 0 at level 0, with no probe. The level search has counted the bits of boundary 0.
 pub fn calculate_evaluation_boundary(
     layout: Layout,
+    curve: &[u8; 688],
     scaled: &[f32],
+    counts: &[i32],
     factors: &[u8],
     level: usize,
     used: usize,
 ) -> usize
     requires { ⌜ Sizes layout ⌝ }
-    requires { ⌜ (length (now scaled) ≡ spectrumLength layout) × (length (now factors) ≡ factorLength layout) × (level ≤ 511) ⌝ }
+    requires { ⌜ IsStretched (now curve) × Counted layout (now scaled) (now counts) × AtMost 63 (now factors) ⌝ }
+    requires { ⌜ (length (now scaled) ≡ spectrumLength layout) × (length (now factors) ≡ factorLength layout) × (level ≤ 254) ⌝ }
     requires { ⌜ (used ≡ usedBits layout (now scaled) (now factors) level 0) × (used ≤ 8 * frameSize layout) ⌝ }
     ensures { λ r. ⌜ (r ≡ boundaryOf level (exceeds layout (now (scaled .entry)) (now (factors .entry)) level)) × (r ≤ 127) ⌝ }
 {
     if level == 0 {
         return 0;
     }
-    binary_search_boundary(layout, scaled, factors, level, used)
+    binary_search_boundary(layout, curve, scaled, counts, factors, level, used)
 }

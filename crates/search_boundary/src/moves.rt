@@ -1,13 +1,14 @@
-// Document 01, **Estimate**, from one boundary to a higher one: only the bands that it passes change their noise, and of these only some their resolution,
-// so that the other bands are not counted again.
+// Document 01, **Estimate**, from one boundary to a higher one: only the bands that it passes change their noise, so that the others are not summed again.
 ghost use mathlib.Core.Path.{_≡_};
 ghost use Prim.Native.Nat.{_+_, _*_, _≤_, _<_, min};
 ghost use lib.ListN.{length};
+ghost use Rattle.buffers.specs.Walk.{AtMost};
 ghost use Rattle.rules.specs.Layout.{Sizes, frameSize, spectrumLength, factorLength};
 ghost use Rattle.rules.specs.Estimate.{channelBits, usedBits};
-use estimate::channel_bits;
+ghost use Rattle.resolutions.specs.Stretched.{IsStretched};
+ghost use Rattle.band_counts.specs.Counts.{ChannelCounted, Counted};
+use estimate::band_bits;
 use layouts::coded_count;
-use resolutions::calculate_resolution;
 use rules::Layout;
 
 fn smaller(a: usize, b: usize) -> usize
@@ -16,7 +17,7 @@ fn smaller(a: usize, b: usize) -> usize
     if b < a { b } else { a }
 }
 
-// What the bands that changed take at the finer noise, and what they took at the level's.
+// What the bands that were passed take at the finer noise, and what they took at the level's.
 struct Change {
     rise: usize,
     fall: usize,
@@ -24,15 +25,18 @@ struct Change {
 
 // Of a channel's coded bands.
 fn channel_change(
+    curve: &[u8; 688],
     scaled: &[f32],
+    counts: &[i32],
     factors: &[u8],
     coded: usize,
     level: usize,
     from: usize,
     to: usize,
 ) -> Change
-    requires { ⌜ (length (now scaled) ≡ 1024) × (length (now factors) ≡ 128) × (coded ≤ 128) ⌝ }
-    requires { ⌜ (0 < level) × (level ≤ 511) × (from ≤ to) × (to ≤ 128) ⌝ }
+    requires { ⌜ IsStretched (now curve) × ChannelCounted (now scaled) coded (now counts) × AtMost 63 (now factors) ⌝ }
+    requires { ⌜ (length (now counts) ≡ 1024) × (length (now factors) ≡ 128) × (coded ≤ 128) ⌝ }
+    requires { ⌜ (0 < level) × (level ≤ 254) × (from ≤ to) × (to ≤ 128) ⌝ }
     ensures { λ r. ⌜ (channelBits (now (scaled .entry)) (now (factors .entry)) coded level to + r .fall
         ≡ channelBits (now (scaled .entry)) (now (factors .entry)) coded level from + r .rise) × (r .rise ≤ 12288) × (r .fall ≤ 12288) ⌝ }
 {
@@ -43,10 +47,8 @@ fn channel_change(
     let mut b = from;
     while b < end {
         let factor = factors[b];
-        if calculate_resolution(factor, finer) != calculate_resolution(factor, level) {
-            rise += channel_bits(scaled, factors, b, b + 1, finer);
-            fall += channel_bits(scaled, factors, b, b + 1, level);
-        }
+        rise += band_bits(curve, scaled, counts, b, factor, finer);
+        fall += band_bits(curve, scaled, counts, b, factor, level);
         b += 1;
     }
     Change { rise, fall }
@@ -55,7 +57,9 @@ fn channel_change(
 // The bits at a boundary from those at a lower one.
 pub fn move_boundary(
     layout: Layout,
+    curve: &[u8; 688],
     scaled: &[f32],
+    counts: &[i32],
     factors: &[u8],
     level: usize,
     used: usize,
@@ -63,8 +67,9 @@ pub fn move_boundary(
     to: usize,
 ) -> usize
     requires { ⌜ Sizes layout ⌝ }
+    requires { ⌜ IsStretched (now curve) × Counted layout (now scaled) (now counts) × AtMost 63 (now factors) ⌝ }
     requires { ⌜ (length (now scaled) ≡ spectrumLength layout) × (length (now factors) ≡ factorLength layout) ⌝ }
-    requires { ⌜ (0 < level) × (level ≤ 511) × (from ≤ to) × (to ≤ 128) ⌝ }
+    requires { ⌜ (0 < level) × (level ≤ 254) × (from ≤ to) × (to ≤ 128) ⌝ }
     requires { ⌜ (used ≡ usedBits layout (now scaled) (now factors) level from) × (used ≤ 8 * frameSize layout) ⌝ }
     ensures { λ r. ⌜ r ≡ usedBits layout (now (scaled .entry)) (now (factors .entry)) level to ⌝ }
 {
@@ -77,7 +82,9 @@ pub fn move_boundary(
         let a = c * 1024;
         let f = c * 128;
         let change = channel_change(
+            curve,
             &scaled[a..a + 1024],
+            &counts[a..a + 1024],
             &factors[f..f + 128],
             coded,
             level,

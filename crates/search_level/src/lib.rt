@@ -2,10 +2,13 @@
 ghost use mathlib.Core.Path.{_≡_};
 ghost use Prim.Native.Nat.{_+_, _*_, _≤_, _<_};
 ghost use lib.ListN.{length};
+ghost use Rattle.buffers.specs.Walk.{AtMost};
 ghost use Rattle.rules.specs.Layout.{Sizes, frameSize, spectrumLength, factorLength};
 ghost use Rattle.rules.specs.Estimate.{exceeds};
 ghost use Rattle.rules.specs.Level.{levelOf, clearTwo, clearPair};
 ghost use Rattle.rules.specs.Stage.{foundOf};
+ghost use Rattle.resolutions.specs.Stretched.{IsStretched};
+ghost use Rattle.band_counts.specs.Counts.{Counted};
 ghost use Rattle.search_level.specs.Bits.{levelBits};
 use estimate::calculate_used_bits;
 use estimate::fixed_part::calculate_frame_header_length;
@@ -18,8 +21,15 @@ struct Halving {
 }
 
 // A probe that does not exceed is the highest left: its bits are kept.
-fn binary_search_level(layout: Layout, scaled: &[f32], factors: &[u8]) -> Halving
+fn binary_search_level(
+    layout: Layout,
+    curve: &[u8; 688],
+    scaled: &[f32],
+    counts: &[i32],
+    factors: &[u8],
+) -> Halving
     requires { ⌜ Sizes layout ⌝ }
+    requires { ⌜ IsStretched (now curve) × Counted layout (now scaled) (now counts) × AtMost 63 (now factors) ⌝ }
     requires { ⌜ (length (now scaled) ≡ spectrumLength layout) × (length (now factors) ≡ factorLength layout) ⌝ }
     ensures { λ r. ⌜ (r .level ≡ levelOf (λ level. exceeds layout (now (scaled .entry)) (now (factors .entry)) level 0)) × (r .level ≤ 255)
         × (r .used ≡ levelBits layout (now (scaled .entry)) (now (factors .entry)) (r .level)) × (r .used ≤ 8 * frameSize layout) ⌝ }
@@ -31,7 +41,7 @@ fn binary_search_level(layout: Layout, scaled: &[f32], factors: &[u8]) -> Halvin
     let mut used: usize = 0;
     while low < high {
         let mid = (low + high) / 2;
-        let bits = calculate_used_bits(layout, scaled, factors, fixed, mid);
+        let bits = calculate_used_bits(layout, curve, scaled, counts, factors, fixed, mid);
         if available < bits {
             low = mid + 1;
         } else {
@@ -73,17 +83,25 @@ pub struct Removal {
 }
 
 // `top` is one above the highest band. The lowest one or two bands are never cleared.
-pub fn calculate_noise_level(layout: Layout, scaled: &[f32], factors: &mut [u8]) -> Removal
+pub fn calculate_noise_level(
+    layout: Layout,
+    curve: &[u8; 688],
+    scaled: &[f32],
+    counts: &[i32],
+    factors: &mut [u8],
+) -> Removal
     requires { ⌜ Sizes layout ⌝ }
+    requires { ⌜ IsStretched (now curve) × Counted layout (now scaled) (now counts) × AtMost 63 (now factors) ⌝ }
     requires { ⌜ (length (now scaled) ≡ spectrumLength layout) × (length (now factors) ≡ factorLength layout) ⌝ }
     ensures { λ r. ⌜ (r .level ≡ foundOf layout (now (scaled .entry)) (now (factors .entry)) .level)
         × (r .pairs ≡ foundOf layout (now (scaled .entry)) (now (factors .entry)) .pairs)
         × (now (factors .exit) ≡ foundOf layout (now (scaled .entry)) (now (factors .entry)) .factors) × (r .level ≤ 255)
-        × (r .used ≡ levelBits layout (now (scaled .entry)) (now (factors .exit)) (r .level)) × (r .used ≤ 8 * frameSize layout) ⌝ }
+        × (r .used ≡ levelBits layout (now (scaled .entry)) (now (factors .exit)) (r .level)) × (r .used ≤ 8 * frameSize layout)
+        × AtMost 63 (now (factors .exit)) ⌝ }
 {
     let mut top = layout.base + layout.stereo;
     let mut pairs: usize = 0;
-    let mut found = binary_search_level(layout, scaled, factors);
+    let mut found = binary_search_level(layout, curve, scaled, counts, factors);
     while 254 < found.level {
         if top < 3 {
             return Removal {
@@ -95,7 +113,7 @@ pub fn calculate_noise_level(layout: Layout, scaled: &[f32], factors: &mut [u8])
         top -= 2;
         clear_pair(layout, factors, top);
         pairs += 1;
-        found = binary_search_level(layout, scaled, factors);
+        found = binary_search_level(layout, curve, scaled, counts, factors);
     }
     Removal {
         level: found.level,

@@ -1,8 +1,8 @@
 -- `estimate::calculate_used_bits` meets its contract. Assumes nothing.
 use mathlib.Core.Path.{ap₂}
 use Prim.Native.Nat.{ℕ, _+_}
-use borrow.Author.Needs.{needs}
 use Rattle.rules.specs.Estimate.{usedBits}
+use borrow.Author.Needs.{needs}
 use Rattle.estimate.proofs.calculate_used_bits.Statement.{statement}
 use Rattle.estimate.proofs.calculate_used_bits.Tie as tie
 
@@ -14,7 +14,7 @@ add-result c = search needs
 
 returns : tie.Need-returns
 unfolding usedBits
-returns c = ap₂ (λ (a b : ℕ). a + b) (c .before .before .before .pre .1 .1 .0) (c .spectral-total .ensures .0)
+returns c = ap₂ (λ (a b : ℕ). a + b) (c .before .before .before .pre .1 .1 .1 .0) (c .spectral-total .ensures .0)
 
 pub calculate-used-bits-spec : {M : Type 1} → statement M
 calculate-used-bits-spec = tie.close (tie.spec spectral-total-requires add-result returns)

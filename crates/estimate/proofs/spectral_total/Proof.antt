@@ -1,30 +1,34 @@
 -- `estimate::spectral_total` meets its contract. The invariant: the first c channels are added up. Assumes nothing.
 use mathlib.Core.Path.{_≡_, sym, _∙_}
-use Prim.Native.Nat.{ℕ, _≤_, _-_, _*_}
+use Prim.Native.Nat.{ℕ, _≤_, _+_, _-_, _*_, zero-le}
 use native.Mathlib.Omega.{arith}
 use borrow.Author.Needs.{needs}
 use Rattle.buffers.specs.Walk.{sumTo}
 use Rattle.buffers.proofs.Build.{back-width}
+use Rattle.buffers.proofs.Most.{part-most}
 use Rattle.buffers.proofs.Scan.{sum-none, sum-turn}
 use Rattle.rules.specs.Layout.{codedAt, part}
 use Rattle.rules.specs.Estimate.{channelBits, spectralBits}
+use Rattle.rules.proofs.LentRows.{below, lent-long}
+use Rattle.rules.proofs.Layouts.{coded-few}
+use Rattle.band_counts.proofs.Entries.{counted-part}
 use Rattle.estimate.proofs.Bands.{from-first}
 use Rattle.estimate.proofs.spectral_total.Statement.{statement}
 use Rattle.estimate.proofs.spectral_total.Tie as tie
 
 abbrev Inv-loop : tie.InvT-loop
-Inv-loop layout scaled factors level channels sum₀ c₀ sum c =
+Inv-loop layout curve scaled counts factors level channels sum₀ c₀ sum c =
     (c ≤ channels) × (sum ≤ 12288 * c)
     × (sum ≡ sumTo (λ (i : ℕ). channelBits (part 1024 scaled i) (part 128 factors i) (codedAt layout i) level 0) c)
 
 abbrev μ-loop : tie.MeasureT-loop
-μ-loop layout scaled factors level channels sum₀ c₀ sum c = channels - c
+μ-loop layout curve scaled counts factors level channels sum₀ c₀ sum c = channels - c
 
 loop-holds : tie.Need-loop-holds Inv-loop μ-loop
 loop-holds c = (search needs, search needs, sym (sum-none _))
 
 coded-count-requires : tie.Need-coded-count-requires Inv-loop μ-loop
-coded-count-requires c κs = search needs
+coded-count-requires c κs = (c .before .before .before .before .pre .0, below _ _ (c .loop-test .taken) 16 (c .before .before .before .before .pre .0 .few))
 
 mul-a : tie.Need-mul-a Inv-loop μ-loop
 mul-a c = search needs
@@ -50,6 +54,9 @@ part-channel-bits-end c = search needs
 add-channel-bits-2 : tie.Need-add-channel-bits-2 Inv-loop μ-loop
 add-channel-bits-2 c = search needs
 
+mul-channel-bits-2 : tie.Need-mul-channel-bits-2 Inv-loop μ-loop
+mul-channel-bits-2 c = search needs
+
 sub-channel-bits-2 : tie.Need-sub-channel-bits-2 Inv-loop μ-loop
 sub-channel-bits-2 c = search needs
 
@@ -59,8 +66,37 @@ part-channel-bits-start-2 c = search needs
 part-channel-bits-end-2 : tie.Need-part-channel-bits-end-2 Inv-loop μ-loop
 part-channel-bits-end-2 c = search needs
 
+add-channel-bits-3 : tie.Need-add-channel-bits-3 Inv-loop μ-loop
+add-channel-bits-3 c = search needs
+
+sub-channel-bits-3 : tie.Need-sub-channel-bits-3 Inv-loop μ-loop
+sub-channel-bits-3 c = search needs
+
+part-channel-bits-start-3 : tie.Need-part-channel-bits-start-3 Inv-loop μ-loop
+part-channel-bits-start-3 c = search needs
+
+part-channel-bits-end-3 : tie.Need-part-channel-bits-end-3 Inv-loop μ-loop
+part-channel-bits-end-3 c = search needs
+
 channel-bits-requires : tie.Need-channel-bits-requires Inv-loop μ-loop
-channel-bits-requires c κs = search needs
+channel-bits-requires c κs =
+    let s = c .before .before .before .before .before .before .before .before in
+    let k = c .before .before .before .before .before .loop .c in
+    let h = c .before .before .before .before .loop-test .taken in
+    let n = c .before .before .before .coded-count in (
+      (
+        s .pre .1 .0 .0,
+        counted-part (s .args .layout) (s .args .scaled .now) (s .args .counts .now) (s .pre .1 .0 .1) k h (n .result) (n .ensures .0),
+        part-most 63 (k * 128) (k * 128 + 128 - k * 128) (s .args .factors .now) (s .pre .1 .0 .2),
+      ),
+      (
+        lent-long 1024 _ _ _ h (s .pre .1 .0 .1 .long),
+        lent-long 128 _ _ _ h (s .pre .1 .1 .1),
+        zero-le,
+        omega (arith, coded-few (s .args .layout) (s .pre .0) k, n .ensures .0),
+        s .pre .1 .1 .2,
+      ),
+    )
 
 add-sum : tie.Need-add-sum Inv-loop μ-loop
 add-sum c = search needs
@@ -73,12 +109,13 @@ loop-less c = search needs
 
 loop-again : tie.Need-loop-again Inv-loop μ-loop
 loop-again c =
-    let s = c .before .before .before .before .before in (
+    let s = c .before .before .before .before .before .before in
+    let h = c .before .before .before .before .before .loop-test .taken in (
       search needs,
       search needs,
       sum-turn _ _ _ _ (s .loop .inv .2)
           (from-first _ _ _ _ _ (c .channel-bits .ensures .0)
-          ∙ rw (back-width (s .loop .c * 1024) 1024, back-width (s .loop .c * 128) 128, c .before .before .before .coded-count .ensures .0)),
+          ∙ rw (back-width (s .loop .c * 1024) 1024, back-width (s .loop .c * 128) 128, c .before .before .before .before .coded-count .ensures .0)),
     )
 
 returns : tie.Need-returns Inv-loop μ-loop
@@ -103,9 +140,14 @@ spectral-total-spec =
     part-channel-bits-start
     part-channel-bits-end
     add-channel-bits-2
+    mul-channel-bits-2
     sub-channel-bits-2
     part-channel-bits-start-2
     part-channel-bits-end-2
+    add-channel-bits-3
+    sub-channel-bits-3
+    part-channel-bits-start-3
+    part-channel-bits-end-3
     channel-bits-requires
     add-sum
     add-c

@@ -14,13 +14,13 @@ use Rattle.search_boundary.proofs.binary_search_boundary.Statement.{sta
 use Rattle.search_boundary.proofs.binary_search_boundary.Tie as tie
 
 abbrev Inv-loop : tie.InvT-loop
-Inv-loop layout scaled factors level used available bits₀ low₀ high₀ bits low high =
+Inv-loop layout curve scaled counts factors level used available bits₀ low₀ high₀ bits low high =
     (low ≤ high) × (high ≤ 127) × (low ≤ 126)
     × (searchBoundary (exceeds layout scaled factors level) ≡ narrow (exceeds layout scaled factors level) (high - low) low high)
     × (bits ≡ usedBits layout scaled factors level low) × (bits ≤ 8 * frameSize layout)
 
 abbrev μ-loop : tie.MeasureT-loop
-μ-loop layout scaled factors level used available bits₀ low₀ high₀ bits low high = high - low
+μ-loop layout curve scaled counts factors level used available bits₀ low₀ high₀ bits low high = high - low
 
 -- the upper half of what is left
 module _ (low high : ℕ) (h : low + 1 < high) where
@@ -46,7 +46,9 @@ add-mid : tie.Need-add-mid Inv-loop μ-loop
 add-mid c = search needs
 
 move-boundary-requires : tie.Need-move-boundary-requires Inv-loop μ-loop
-move-boundary-requires c κs = search needs
+move-boundary-requires c κs =
+    let s = c .before .before .before .before .before in
+    (s .pre .0, (s .pre .1 .0, ((s .pre .1 .1 .0 .0, s .pre .1 .1 .0 .1), ((s .pre .1 .1 .0 .2, s .pre .1 .1 .0 .3, search needs, search needs), (search needs, search needs)))))
 
 sub-high : tie.Need-sub-high Inv-loop μ-loop
 sub-high c = search needs
@@ -89,7 +91,9 @@ returns c =
     (sym (s .loop .inv .3 ∙ (narrow-end _ _ _ _ (c .before .loop-test .left) ∙ rw (eq-eqb _ _ (c .if2 .taken)))), omega arith)
 
 move-boundary-requires-2 : tie.Need-move-boundary-requires-2 Inv-loop μ-loop
-move-boundary-requires-2 c κs = search needs
+move-boundary-requires-2 c κs =
+    let s = c .before .before .before .before .before .before in
+    (s .pre .0, (s .pre .1 .0, ((s .pre .1 .1 .0 .0, s .pre .1 .1 .0 .1), ((s .pre .1 .1 .0 .2, s .pre .1 .1 .0 .3, search needs, search needs), (search needs, search needs)))))
 
 returns-2 : tie.Need-returns-2 Inv-loop μ-loop
 unfolding lastOf

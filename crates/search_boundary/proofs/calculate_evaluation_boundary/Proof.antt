@@ -10,7 +10,9 @@ unfolding boundaryOf
 returns c = (rw (eq-eqb _ _ (c .if1 .taken)), search needs)
 
 binary-search-boundary-requires : tie.Need-binary-search-boundary-requires
-binary-search-boundary-requires c κs = search needs
+binary-search-boundary-requires c κs =
+    let s = c .before .before .before in
+    (s .pre .0, (s .pre .1 .0, ((s .pre .1 .1 .0 .0, s .pre .1 .1 .0 .1, search needs, s .pre .1 .1 .0 .2), s .pre .1 .1 .1)))
 
 returns-2 : tie.Need-returns-2
 unfolding boundaryOf

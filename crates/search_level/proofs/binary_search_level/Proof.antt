@@ -15,12 +15,12 @@ use Rattle.search_level.proofs.binary_search_level.Statement.{statement
 use Rattle.search_level.proofs.binary_search_level.Tie as tie
 
 abbrev Inv-loop : tie.InvT-loop
-Inv-loop layout scaled factors available fixed low₀ high₀ used₀ low high used =
+Inv-loop layout curve scaled counts factors available fixed low₀ high₀ used₀ low high used =
     (low ≤ high) × (high ≤ 255) × (levelOf (overAt layout scaled factors) ≡ halve (overAt layout scaled factors) (high - low) low high)
     × (used ≡ levelBits layout scaled factors high) × (used ≤ 8 * frameSize layout)
 
 abbrev μ-loop : tie.MeasureT-loop
-μ-loop layout scaled factors available fixed low₀ high₀ used₀ low high used = high - low
+μ-loop layout curve scaled counts factors available fixed low₀ high₀ used₀ low high used = high - low
 
 mul-available : tie.Need-mul-available Inv-loop μ-loop
 mul-available c = search needs
@@ -35,7 +35,9 @@ add-mid : tie.Need-add-mid Inv-loop μ-loop
 add-mid c = search needs
 
 calculate-used-bits-requires : tie.Need-calculate-used-bits-requires Inv-loop μ-loop
-calculate-used-bits-requires c κs = search needs
+calculate-used-bits-requires c κs =
+    let s = c .before .before .before .before .before .before in
+    (s .pre .0, (s .pre .1 .0, (search needs, (search needs, search needs, search needs))))
 
 add-low : tie.Need-add-low Inv-loop μ-loop
 add-low c = search needs

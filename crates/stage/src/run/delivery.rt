@@ -2,14 +2,19 @@
 ghost use mathlib.Core.Path.{_≡_};
 ghost use Prim.Native.Nat.{_*_, _≤_};
 ghost use lib.ListN.{length};
+ghost use Rattle.buffers.specs.Walk.{AtMost};
 ghost use Rattle.rules.specs.Layout.{Sizes, frameSize, spectrumLength, factorLength, sideLength};
 ghost use Rattle.rules.specs.Estimate.{usedBits};
 ghost use Rattle.rules.specs.Stage.{foundOf, stageLeft, madeFrom, packed, settled};
+ghost use Rattle.resolutions.specs.Stretched.{IsStretched};
+ghost use Rattle.band_counts.specs.Counts.{Counted};
 ghost use Rattle.stage.specs.Delivery.{Sized, Delivers, foundAs, wiped};
+use band_counts::frame_counts;
 use codes::quantize_spectra;
 use packing::pack_frame;
 use resolutions::RESOLUTION_ROOM;
 use resolutions::calculate_frame_resolutions;
+use resolutions::noise_curve::curve_table;
 use rules::Layout;
 use rules::StageAnswer;
 use search_boundary::calculate_evaluation_boundary;
@@ -84,12 +89,13 @@ fn deliver(
     )
 }
 
-// The boundary, the codes and the frame of a level.
+// The boundary, the codes and the frame of a level. The counts stand where the codes will.
 fn boundary_to_frame(
     layout: Layout,
     level: usize,
     pairs: usize,
     used: usize,
+    curve: &[u8; 688],
     scaled: &[f32],
     codes: &mut [i32],
     factors: &[u8],
@@ -97,6 +103,7 @@ fn boundary_to_frame(
     frame: &mut [u8],
 ) -> StageAnswer
     requires { ⌜ Sizes layout ⌝ }
+    requires { ⌜ IsStretched (now curve) × Counted layout (now scaled) (now codes) × AtMost 63 (now factors) ⌝ }
     requires { ⌜ level ≤ 254 ⌝ }
     requires { ⌜ (used ≡ usedBits layout (now scaled) (now factors) level 0) × (used ≤ 8 * frameSize layout) ⌝ }
     requires { ⌜ Sized layout (length (now scaled)) (length (now codes)) (length (now factors)) (length (now side)) (length (now frame)) ⌝ }
@@ -104,12 +111,20 @@ fn boundary_to_frame(
         (now (frame .exit))) ≡ packed layout (madeFrom layout (now (scaled .entry)) (now (side .entry)) (foundAs level pairs (now (factors .entry))))
         ⌝ }
 {
-    let boundary = calculate_evaluation_boundary(layout, scaled, factors, level, used);
+    let boundary = calculate_evaluation_boundary(
+        layout,
+        curve,
+        scaled,
+        codes,
+        factors,
+        level,
+        used,
+    );
     let bits = deliver(layout, level, boundary, scaled, factors, side, codes, frame);
     answered(8 * (layout.frame_size - 2), level, boundary, pairs, bits)
 }
 
-// From prepared buffers on. No level is **refusal 5**. What a refusal leaves is cleared later.
+// From prepared buffers on: all bands are counted once, in the buffer that the codes overwrite. No level is **refusal 5**. What a refusal leaves is cleared later.
 pub(crate) fn level_to_frame(
     layout: Layout,
     scaled: &[f32],
@@ -119,12 +134,15 @@ pub(crate) fn level_to_frame(
     frame: &mut [u8],
 ) -> StageAnswer
     requires { ⌜ Sizes layout ⌝ }
+    requires { ⌜ AtMost 63 (now factors) ⌝ }
     requires { ⌜ Sized layout (length (now scaled)) (length (now codes)) (length (now factors)) (length (now side)) (length (now frame)) ⌝ }
     ensures { λ r. ⌜ wiped layout (stageLeft r (now (scaled .entry)) (now (codes .exit)) (now (factors .exit)) (now (side .entry))
         (now (frame .exit))) ≡ settled layout (madeFrom layout (now (scaled .entry)) (now (side .entry))
         (foundOf layout (now (scaled .entry)) (now (factors .entry)))) ⌝ }
 {
-    let removal = calculate_noise_level(layout, scaled, factors);
+    frame_counts(layout, scaled, codes);
+    let curve = curve_table();
+    let removal = calculate_noise_level(layout, &curve, scaled, codes, factors);
     let level = removal.level;
     let pairs = removal.pairs;
     if is_no_level(level) {
@@ -135,6 +153,7 @@ pub(crate) fn level_to_frame(
         level,
         pairs,
         removal.used,
+        &curve,
         scaled,
         codes,
         factors,

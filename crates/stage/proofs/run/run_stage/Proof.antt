@@ -1,5 +1,9 @@
 -- `stage::run::run_stage` meets its contract. Assumes nothing.
-use mathlib.Core.Path.{ap, _∙_}
+use mathlib.Core.Path.{sym, ap, subst, _∙_}
+use Prim.Native.Nat.{_<_}
+use native.Mathlib.Omega.{arith}
+use lib.ListN.{getD}
+use Rattle.factors.proofs.Small.{factors-small}
 use Rattle.rules.specs.Stage.{settled}
 use Rattle.stage.proofs.Prepared.{made-of-prepared}
 use borrow.Author.Needs.{needs}
@@ -17,7 +21,7 @@ level-to-frame-requires c κs =
     let s = c .before .before .before .before .before .before .before .before .before .before .before .before .before .before .before .before .before .before .before .before .before in
     let a = s .pre .1 in
     let p = c .before .before .before .before .before .before .before .before .before .before .before .prepare in
-    (s .pre .0, record { scaled = p .kept .1 .1 .1 .0 ∙ a .scaled; codes = a .codes; factors = p .kept .1 .1 .1 .1 .0 ∙ a .factors; side = p .kept .1 .1 .1 .1 .1 .0 ∙ a .side; frame = a .frame })
+    (s .pre .0, ((λ i. let h = subst (λ fs. getD fs i 0 < 64) (sym (p .ensures .0)) (factors-small _ _ i) in omega arith), record { scaled = p .kept .1 .1 .1 .0 ∙ a .scaled; codes = a .codes; factors = p .kept .1 .1 .1 .1 .0 ∙ a .factors; side = p .kept .1 .1 .1 .1 .1 .0 ∙ a .side; frame = a .frame }))
 
 clear-refused-requires : tie.Need-clear-refused-requires
 clear-refused-requires c κs = search needs

@@ -7,21 +7,21 @@ use Rattle.stage.proofs.run.delivery.boundary_to_frame.Tie as tie
 
 calculate-evaluation-boundary-requires : tie.Need-calculate-evaluation-boundary-requires
 calculate-evaluation-boundary-requires c κs =
-    let s = c .before .before .before .before in
-    let z = s .pre .1 .1 .1 in
-    (s .pre .0, ((z .scaled, z .factors, omega (arith, s .pre .1 .0)), s .pre .1 .1 .0))
+    let s = c .before .before .before .before .before in
+    let z = s .pre .1 .1 .1 .1 in
+    (s .pre .0, (s .pre .1 .0, ((z .scaled, z .factors, s .pre .1 .1 .0), s .pre .1 .1 .1 .0)))
 
 deliver-requires : tie.Need-deliver-requires
 deliver-requires c κs =
-    let s = c .before .before .before .before .before .before .before in
-    let z = s .pre .1 .1 .1 in
-    (s .pre .0, ((omega (arith, s .pre .1 .0), c .before .before .calculate-evaluation-boundary .ensures .1), ((z .scaled, z .factors, z .side), (z .codes, z .frame))))
+    let s = c .before .before .before .before .before .before .before .before in
+    let z = s .pre .1 .1 .1 .1 in
+    (s .pre .0, ((omega (arith, s .pre .1 .1 .0), c .before .before .calculate-evaluation-boundary .ensures .1), ((z .scaled, z .factors, z .side), (z .codes, z .frame))))
 
 sub-answered : tie.Need-sub-answered
-sub-answered c = omega (arith, c .before .before .before .before .before .before .before .before .before .before .before .before .pre .0)
+sub-answered c = search needs
 
 mul-answered : tie.Need-mul-answered
-mul-answered c = omega (arith, c .before .before .before .before .before .before .before .before .before .before .before .before .pre .0)
+mul-answered c = search needs
 
 answered-requires : tie.Need-answered-requires
 answered-requires c κs = search needs

@@ -1,0 +1,73 @@
+-- What the stage counts is within the clip: of a call that refusals 1 to 4 let pass, every scaled value. Assumes nothing.
+use mathlib.Core.Path.{_≡_, refl, sym, ap, _∙_, subst}
+use mathlib.Core.Bool.{Bool, true, false, not, cond}
+use mathlib.Core.List.{List}
+use Prim.Native.Nat.{ℕ, _+_, _*_, _≤_, _<_}
+use native.Mathlib.Omega.{arith}
+use borrow.Author.Tests.{not-false}
+use lib.Dec.{T, ltb}
+use lib.Ieee.{Float, nan}
+use lib.Ieee.Scale.{finite}
+use lib.ListN.{length, getD, take, drop}
+use lib.Seq.{getD-take, getD-drop}
+use Rattle.buffers.specs.Walk.{build, blocks}
+use Rattle.buffers.proofs.Build.{length-build, build-at}
+use Rattle.floats.specs.Single.{zeroF}
+use Rattle.rules.specs.Layout.{spectrumLength, codedAt, part}
+use Rattle.rules.specs.Factor.{allFactors, channelFactors, bandFactor}
+use Rattle.rules.specs.Scaling.{scaledValue, scaledBand, channelScaled, allScaled}
+use Rattle.rules.specs.Stage.{StageLent, badSpectrum}
+use Rattle.rules.specs.declared.Layout.{Layout}
+use Rattle.rules.proofs.Cuts.{row-end, part-of-front, block-part}
+use Rattle.rules.proofs.Made.{band-held, factors-size, scaled-size}
+use Rattle.rules_demands.proofs.Exactly.{Good}
+use Rattle.rules_demands.proofs.Pairs.{factorsOf, scaledOf}
+use Rattle.within.specs.Within.{Within}
+use Rattle.within.proofs.HeldLaws.{ends, scaled-within}
+
+-- a channel's value, by band and subframe
+scaled-at : (xs : List Float) (fs : List ℕ) (coded b s : ℕ) → b < 128 → s < 8
+    → getD (channelScaled xs fs coded) (b * 8 + s) nan ≡ cond (ltb b coded) (scaledValue (getD fs b 0) (getD xs (s * 128 + b) nan)) zeroF
+unfolding channelScaled scaledBand
+scaled-at xs fs coded b s h g =
+    let band : ℕ → List Float = scaledBand xs fs coded in
+    let value : ℕ → Float = λ s. cond (ltb b coded) (scaledValue (getD fs b 0) (getD xs (s * 128 + b) nan)) zeroF in
+    sym (getD-take 8 (drop (b * 8) (blocks band 128)) s nan g ∙ getD-drop (b * 8) (blocks band 128) s nan)
+    ∙ ap (λ ys. getD ys s nan) (block-part band 8 128 b (λ i _. length-build _ 8) h)
+    ∙ build-at value 8 s nan g
+
+module _ (l : Layout) (t : StageLent) (good : Good l t) (c b s : ℕ) (h : c < l .channels) (g : b < 128) (k : s < 8) where
+  abbrev spectra : List Float
+  spectra = take (spectrumLength l) (t .spectra)
+
+  finite-at : T (finite (getD (part 1024 spectra c) (s * 128 + b) nan))
+  unfolding badSpectrum
+  finite-at =
+      let e : getD (part 1024 spectra c) (s * 128 + b) nan ≡ getD (t .spectra) (c * 1024 + (s * 128 + b)) nan =
+      ap (λ xs. getD xs (s * 128 + b) nan) (part-of-front 1024 (l .channels) c (t .spectra) h)
+      ∙ getD-take 1024 (drop (c * 1024) (t .spectra)) (s * 128 + b) nan (omega arith)
+      ∙ getD-drop (c * 1024) (t .spectra) (s * 128 + b) nan in
+      let x : Float = getD (t .spectra) (c * 1024 + (s * 128 + b)) nan in
+      let f : not (finite x) ≡ false = good .spectra (c * 1024 + (s * 128 + b)) (omega (arith, row-end 1024 (l .channels) c h)) in
+      subst (λ x. T (finite x)) (sym e) (subst T (sym (not-false (finite x) f)) tt)
+
+  factor-at : getD (part 128 (factorsOf l t) c) b 0 ≤ 63
+  unfolding allFactors channelFactors
+  factor-at =
+      let channel : ℕ → List ℕ = λ i. channelFactors (part 1024 spectra i) (codedAt l i) in
+      let e = ap (λ xs. getD xs b 0) (block-part channel 128 (l .channels) c (λ i _. factors-size _ _) h)
+      ∙ build-at (bandFactor (part 1024 spectra c) (codedAt l c)) 128 b 0 g in
+      rw e (band-held (part 1024 spectra c) (codedAt l c) b)
+
+  -- so a band of the stage is counted by zones, never by the quantizer's marks
+  pub stage-within : Within (getD (part 1024 (scaledOf l t) c) (b * 8 + s) nan)
+  unfolding allScaled
+  stage-within =
+      let channel : ℕ → List Float = λ i. channelScaled (part 1024 spectra i) (part 128 (factorsOf l t) i) (codedAt l i) in
+      let e = ap (λ xs. getD xs (b * 8 + s) nan) (block-part channel 1024 (l .channels) c (λ i _. scaled-size _ _ _) h)
+      ∙ scaled-at (part 1024 spectra c) (part 128 (factorsOf l t) c) (codedAt l c) b s g k in
+      subst Within (sym e) (go (ltb b (codedAt l c)))
+    where
+      go : (p : Bool) → Within (cond p (scaledValue (getD (part 128 (factorsOf l t) c) b 0) (getD (part 1024 spectra c) (s * 128 + b) nan)) zeroF)
+      go true = scaled-within _ factor-at _ finite-at
+      go false = ends .2

@@ -1,0 +1,264 @@
+-- Below resolution 8 a value's bits are read off the value itself: scaled x step + (step + 1) grows with it, so it reaches a mark from one value on, and both
+-- neighbours of each such value are computed, all rows together. Assumes nothing.
+use mathlib.Core.Path.{_≡_, refl, sym, ap, _∙_, subst}
+use Prim.Native.Nat.{ℕ, zero, suc, _+_, _-_, _*_, _≤_, _<_}
+use native.Mathlib.Omega.{arith}
+use mathlib.Core.Bool.{Bool, true, false, not, cond, _&&_}
+use borrow.Author.Tests.{leb-true, ltb-true, eqb-true, eqb-false}
+use lib.Dec.{T, ltb, leb, eqb}
+use lib.Ieee.{Float, nan, inf, fin, binary32, ofBits, toBits, fits, neg, add, mul, le, ofInt, isNan}
+use lib.Ieee.Bits.{is-true}
+use lib.Ieee.Scale.{finite}
+use lib.Ieee.Positive.{positive, le-trans-positive}
+use lib.ListN.{getD}
+use Rattle.buffers.specs.Walk.{every}
+use Rattle.buffers.proofs.Every.{every-at}
+use Rattle.buffers.proofs.Tests.{and-fst, and-snd}
+use Rattle.floats.specs.Single.{oneF}
+use Rattle.rules.specs.Tables.{stepTable}
+use Rattle.rules.specs.Scaling.{clip}
+use Rattle.rules.specs.Code.{stepOf}
+use Rattle.rules.specs.Estimate.{valueBits}
+use Rattle.quantizer.specs.Marks.{wholeF, nearAt, farAt, pastAt, highAt, dropAt, marksAt}
+use Rattle.quantizer.proofs.Reaching.{value-counted}
+use Rattle.within.specs.Within.{Within, withinB}
+use Rattle.within.specs.Zones.{lowPattern, highPattern, zoneLow, zoneHigh, zoneDrop, reachedF}
+use Rattle.within.proofs.WithinLaws.{Y, argument-short, argument-positive, argument-grows}
+use Rattle.within.proofs.EdgeLaws.{Next, not-upper, not-upper-below}
+
+-- ---- a mark is reached from one value on
+pub within-finite : (x : Float) → Within x → T (finite x)
+within-finite x w = go x (w .least) (w .most)
+  where
+    go : (x : Float) → T (le (neg clip) x) → T (le x clip) → T (finite x)
+    go nan a b = unfold le ofBits in absurd b
+    go (inf true) a b = unfold le neg ofBits in absurd a
+    go (inf false) a b = unfold le ofBits in absurd b
+    go (fin t m e) a b = tt
+
+pub within-number : (x : Float) → Within x → T (not (isNan x))
+unfolding isNan
+within-number x w = go x (within-finite x w)
+  where
+    go : (x : Float) → T (finite x) → T (not (isNan x))
+    go nan f = f
+    go (inf s) f = tt
+    go (fin t m e) f = tt
+
+-- the value, and the one before it
+record Edge (r : ℕ) (mark from before : Float) : Type 0 where
+  mark-positive : T (positive mark)
+  from-within : Within from
+  before-within : Within before
+  reaches : T (le mark (Y r from))
+  fails : T (not (le mark (Y r before)))
+  none : (v : Float) → T (fits binary32 v) → T (finite v) → (T (le from v) → ⊥) → T (le v before)
+
+not-both : (b : Bool) → T b → T (not b) → ⊥
+not-both true t n = n
+not-both false t n = t
+
+to-false : (b : Bool) → (T b → ⊥) → b ≡ false
+to-false true f = absurd (f tt)
+to-false false f = refl
+
+reached-from : (r : ℕ) → r ≤ 15 → (mark from before : Float) → Edge r mark from before → (x : Float) → T (fits binary32 x) → Within x → le mark (Y r x) ≡ le from x
+reached-from r h mark from before E x f w = go (le from x) refl
+  where
+    P : (z : Float) → Within z → T (positive (Y r z))
+    P z v = argument-positive r h z v
+
+    go : (b : Bool) → le from x ≡ b → le mark (Y r x) ≡ b
+    go true e =
+        is-true (le mark (Y r x))
+        (le-trans-positive mark (Y r from) (Y r x) (E .mark-positive) (P from (E .from-within)) (P x w) (E .reaches)
+        (argument-grows r h from x (E .from-within) w (subst T (sym e) tt)))
+    go false e =
+        to-false (le mark (Y r x))
+        (λ t. not-both (le mark (Y r before))
+        (le-trans-positive mark (Y r x) (Y r before) (E .mark-positive) (P x w) (P before (E .before-within)) t
+        (argument-grows r h x before w (E .before-within) (E .none x f (within-finite x w) (λ u. subst T e u))))
+        (E .fails))
+
+-- ---- the tests
+isTrue : {b : Bool} → b ≡ true → T b
+isTrue {b} e = subst T (sym e) tt
+
+unfoldable nextB : (x y : Float) → Bool
+nextB x y =
+    (fits binary32 x && positive x && ltb (toBits binary32 x) 2139095040)
+    && ((fits binary32 y && positive y && ltb (toBits binary32 y) 2139095040) && eqb (toBits binary32 y) (toBits binary32 x + 1))
+
+are-next : (x y : Float) → nextB x y ≡ true → Next x y
+unfolding nextB
+are-next x y e =
+    let a = and-fst (fits binary32 x && positive x && ltb (toBits binary32 x) 2139095040) _ e in
+    let b = and-snd (fits binary32 x && positive x && ltb (toBits binary32 x) 2139095040) _ e in
+    let c = and-fst (fits binary32 y && positive y && ltb (toBits binary32 y) 2139095040) _ b in
+    let d = and-snd (fits binary32 y && positive y && ltb (toBits binary32 y) 2139095040) _ b in
+    let a₁ = and-fst (fits binary32 x && positive x) _ a in
+    let c₁ = and-fst (fits binary32 y && positive y) _ c in
+    record {
+      x-fits = isTrue (and-fst (fits binary32 x) _ a₁);
+      x-positive = isTrue (and-snd (fits binary32 x) _ a₁);
+      x-low = ltb-true _ _ (and-snd (fits binary32 x && positive x) _ a);
+      y-fits = isTrue (and-fst (fits binary32 y) _ c₁);
+      y-positive = isTrue (and-snd (fits binary32 y) _ c₁);
+      y-low = ltb-true _ _ (and-snd (fits binary32 y && positive y) _ c);
+      one = eqb-true _ _ d;
+    }
+
+pub is-within : (x : Float) → withinB x ≡ true → Within x
+unfolding withinB
+is-within x e = record { least = isTrue (and-fst (le (neg clip) x) _ e); most = isTrue (and-snd (le (neg clip) x) _ e) }
+
+-- all but that no value lies between
+unfoldable edgeB : (r : ℕ) (mark from before : Float) → Bool
+edgeB r mark from before = (positive mark && (withinB from && withinB before)) && (le mark (Y r from) && not (le mark (Y r before)))
+
+edge : (r : ℕ) (mark from before : Float) → edgeB r mark from before ≡ true → ((v : Float) → T (fits binary32 v) → T (finite v) → (T (le from v) → ⊥) → T (le v before)) → Edge r mark from before
+unfolding edgeB
+edge r mark from before e n =
+    let a = and-fst (positive mark && (withinB from && withinB before)) _ e in
+    let b = and-snd (positive mark && (withinB from && withinB before)) _ e in
+    let c = and-snd (positive mark) _ a in
+    record {
+      mark-positive = isTrue (and-fst (positive mark) _ a);
+      from-within = is-within from (and-fst (withinB from) _ c);
+      before-within = is-within before (and-snd (withinB from) _ c);
+      reaches = isTrue (and-fst (le mark (Y r from)) _ b);
+      fails = isTrue (and-snd (le mark (Y r from)) _ b);
+      none = n;
+    }
+
+-- ---- near, from a value below zero on; far, from one above zero on
+abbrev lowBefore : ℕ → Float
+lowBefore r = ofBits binary32 (lowPattern r + 1)
+
+abbrev highBefore : ℕ → Float
+highBefore r = ofBits binary32 (highPattern r - 1)
+
+abbrev lowTest : ℕ → Bool
+lowTest r = nextB (neg (zoneLow r)) (neg (lowBefore r)) && edgeB r (wholeF (nearAt r)) (zoneLow r) (lowBefore r)
+
+abbrev highTest : ℕ → Bool
+highTest r = nextB (highBefore r) (zoneHigh r) && edgeB r (wholeF (farAt r)) (zoneHigh r) (highBefore r)
+
+-- past: reached at the clip alone, or nowhere, or to no purpose
+abbrev clipBefore : Float
+clipBefore = ofBits binary32 0x3F7FFFFD
+
+abbrev pastTest : ℕ → Bool
+pastTest r =
+    cond (eqb (zoneDrop r) 0) (cond (eqb (dropAt r) 0) true (positive (wholeF (pastAt r)) && not (le (wholeF (pastAt r)) (Y r clip))))
+    (eqb (dropAt r) (zoneDrop r) && (nextB clipBefore clip && edgeB r (wholeF (pastAt r)) clip clipBefore))
+
+all-edges : every (λ i. lowTest (suc i) && (highTest (suc i) && pastTest (suc i))) 7 ≡ true
+unfolding every nextB withinB edgeB zoneLow zoneHigh zoneDrop lowPattern highPattern nearAt farAt pastAt dropAt stepOf stepTable ofBits toBits fits neg add mul le ofInt
+all-edges = refl
+
+clip-within : Within clip
+unfolding withinB ofBits neg le
+clip-within = is-within clip refl
+
+-- ---- a row
+module _ (i : ℕ) (h : i < 7) where
+  abbrev r : ℕ
+  r = suc i
+
+  tested : (lowTest r && (highTest r && pastTest r)) ≡ true
+  tested = every-at (λ k. lowTest (suc k) && (highTest (suc k) && pastTest (suc k))) 7 i all-edges h
+
+  low-ok : lowTest r ≡ true
+  low-ok = and-fst (lowTest r) _ tested
+
+  high-ok : highTest r ≡ true
+  high-ok = and-fst (highTest r) _ (and-snd (lowTest r) _ tested)
+
+  past-ok : pastTest r ≡ true
+  past-ok = and-snd (highTest r) _ (and-snd (lowTest r) _ tested)
+
+  few : r ≤ 15
+  few = omega arith
+
+  module _ (x : Float) (f : T (fits binary32 x)) (w : Within x) where
+    pub near-from : le (wholeF (nearAt r)) (Y r x) ≡ le (zoneLow r) x
+    near-from =
+        reached-from r few (wholeF (nearAt r)) (zoneLow r) (lowBefore r)
+        (edge r (wholeF (nearAt r)) (zoneLow r) (lowBefore r) (and-snd (nextB (neg (zoneLow r)) (neg (lowBefore r))) _ low-ok)
+        (not-upper-below (lowBefore r) (zoneLow r) (are-next (neg (zoneLow r)) (neg (lowBefore r)) (and-fst (nextB (neg (zoneLow r)) (neg (lowBefore r))) _ low-ok))))
+        x f w
+
+    pub far-from : le (wholeF (farAt r)) (Y r x) ≡ le (zoneHigh r) x
+    far-from =
+        reached-from r few (wholeF (farAt r)) (zoneHigh r) (highBefore r)
+        (edge r (wholeF (farAt r)) (zoneHigh r) (highBefore r) (and-snd (nextB (highBefore r) (zoneHigh r)) _ high-ok)
+        (not-upper (highBefore r) (zoneHigh r) (are-next (highBefore r) (zoneHigh r) (and-fst (nextB (highBefore r) (zoneHigh r)) _ high-ok))))
+        x f w
+
+    never-past : (positive (wholeF (pastAt r)) && not (le (wholeF (pastAt r)) (Y r clip))) ≡ true → le (wholeF (pastAt r)) (Y r x) ≡ false
+    never-past e =
+        to-false (le (wholeF (pastAt r)) (Y r x))
+        (λ t. not-both (le (wholeF (pastAt r)) (Y r clip))
+        (le-trans-positive (wholeF (pastAt r)) (Y r x) (Y r clip) (isTrue (and-fst (positive (wholeF (pastAt r))) _ e)) (argument-positive r few x w)
+        (argument-positive r few clip clip-within) t (argument-grows r few x clip w clip-within (w .most)))
+        (isTrue (and-snd (positive (wholeF (pastAt r))) _ e)))
+
+    past-from : (nextB clipBefore clip && edgeB r (wholeF (pastAt r)) clip clipBefore) ≡ true → le (wholeF (pastAt r)) (Y r x) ≡ le clip x
+    past-from e =
+        reached-from r few (wholeF (pastAt r)) clip clipBefore
+        (edge r (wholeF (pastAt r)) clip clipBefore (and-snd (nextB clipBefore clip) _ e)
+        (not-upper clipBefore clip (are-next clipBefore clip (and-fst (nextB clipBefore clip) _ e))))
+        x f w
+
+    nothing : (b : Bool) (n : ℕ) → n ≡ 0 → cond b n 0 ≡ 0
+    nothing true n e = e
+    nothing false n e = refl
+
+    drop-from : cond (le (wholeF (pastAt r)) (Y r x)) (dropAt r) 0 ≡ cond (le clip x) (zoneDrop r) 0
+    drop-from = go (eqb (zoneDrop r) 0) (eqb (dropAt r) 0) refl refl past-ok
+      where
+        go : (p q : Bool) → eqb (zoneDrop r) 0 ≡ p → eqb (dropAt r) 0 ≡ q
+            → cond p (cond q true (positive (wholeF (pastAt r)) && not (le (wholeF (pastAt r)) (Y r clip))))
+            (eqb (dropAt r) (zoneDrop r) && (nextB clipBefore clip && edgeB r (wholeF (pastAt r)) clip clipBefore)) ≡ true
+            → cond (le (wholeF (pastAt r)) (Y r x)) (dropAt r) 0 ≡ cond (le clip x) (zoneDrop r) 0
+        go true true e g t = nothing (le (wholeF (pastAt r)) (Y r x)) (dropAt r) (eqb-true _ _ g) ∙ sym (nothing (le clip x) (zoneDrop r) (eqb-true _ _ e))
+        go true false e g t = ap (λ b. cond b (dropAt r) 0) (never-past t) ∙ sym (nothing (le clip x) (zoneDrop r) (eqb-true _ _ e))
+        go false q e g t =
+            ap (λ n. cond (le (wholeF (pastAt r)) (Y r x)) n 0) (eqb-true (dropAt r) (zoneDrop r) (and-fst (eqb (dropAt r) (zoneDrop r)) _ t))
+            ∙ ap (λ b. cond b (zoneDrop r) 0) (past-from (and-snd (eqb (dropAt r) (zoneDrop r)) _ t))
+
+    row-counted : highAt r + reachedF (zoneHigh r) x ≡ valueBits r x + (reachedF (zoneLow r) x + cond (le clip x) (zoneDrop r) 0)
+    unfolding marksAt ofInt
+    row-counted =
+        let one : le oneF (Y r x) ≡ true = is-true _ (argument-short r few x w .least) in
+        let e = value-counted r x (marksAt r) (omega arith) refl in
+        sym (ap (λ b. cond b (highAt r) 0 + reachedF (zoneHigh r) x) one)
+        ∙ sym (ap (λ b. cond (le oneF (Y r x)) (highAt r) 0 + cond b 1 0) far-from)
+        ∙ e
+        ∙ ap (λ b. valueBits r x + (cond b 1 0 + cond (le (wholeF (pastAt r)) (Y r x)) (dropAt r) 0)) near-from
+        ∙ ap (λ n. valueBits r x + (reachedF (zoneLow r) x + n)) drop-from
+
+-- ---- resolution 0 takes no bit
+pub zone-silent : (x : Float) → valueBits 0 x ≡ 0
+unfolding marksAt highAt dropAt nearAt farAt pastAt ofInt
+zone-silent x = go (le oneF (Y 0 x)) (valueBits 0 x) (value-counted 0 x (marksAt 0) (omega arith) refl)
+  where
+    go : (b : Bool) (v : ℕ) → cond b 0 0 + cond b 1 0 ≡ v + (cond b 1 0 + cond b 0 0) → v ≡ 0
+    go true v e = omega arith
+    go false v e = omega arith
+
+-- ---- of a value within the clip: its most, one more from high on, one less from low on, and at the clip what is dropped there
+pub zone-counted : (r : ℕ) → r < 8 → (x : Float) → T (fits binary32 x) → Within x
+    → highAt r + reachedF (zoneHigh r) x ≡ valueBits r x + (reachedF (zoneLow r) x + cond (le clip x) (zoneDrop r) 0)
+zone-counted zero h x f w = silent x
+  where
+    silent : (x : Float) → highAt 0 + reachedF (zoneHigh 0) x ≡ valueBits 0 x + (reachedF (zoneLow 0) x + cond (le clip x) (zoneDrop 0) 0)
+    silent x = unfold highAt zoneHigh zoneLow zoneDrop highPattern lowPattern in go (le (zoneHigh 0) x) (le clip x) (valueBits 0 x) (zone-silent x)
+      where
+        go : (b c : Bool) (v : ℕ) → v ≡ 0 → 0 + cond b 1 0 ≡ v + (cond b 1 0 + cond c 0 0)
+        go true true v e = omega arith
+        go true false v e = omega arith
+        go false true v e = omega arith
+        go false false v e = omega arith
+zone-counted (suc i) h x f w = row-counted i (omega arith) x f w
