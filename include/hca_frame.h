@@ -22,8 +22,9 @@
    A buffer may be longer than is needed: the rest is not looked at and stays as it was.
 
    Threads. There is no state, no heap, no lock, no file, no errno: any number of threads may call at once, each with
-   its own written buffers. Stack: at most 9,376 bytes a call, its arguments among them, whatever the layout; measured on
-   a painted stack over hostile calls of up to 16 channels (fuzz/run.sh stack). Plan with 16 KiB: a later build may differ.
+   its own written buffers. Stack: at most 18,784 bytes a call, its arguments among them, whatever the layout; measured
+   on a painted stack over hostile calls of up to 16 channels (fuzz/run.sh stack). Plan with 32 KiB: a later build may
+   differ.
 
    Result. 0 (HCA_OK) where the call delivered, else the number of the refusal: see enum hca_refusal. */
 #ifndef HCA_FRAME_H

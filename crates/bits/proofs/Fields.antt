@@ -3,7 +3,6 @@
 use mathlib.Core.Path.{_≡_, refl, sym, ap, ap₂, _∙_}
 use mathlib.Core.Bool.{Bool, true, false, cond}
 use mathlib.Core.List.{List, _++_}
-use mathlib.Core.Logic.{_⊎_, inl, inr}
 use Prim.Native.Nat.{ℕ, _+_, _-_, _*_, _/_, _^_, _≤_, _<_}
 use native.Mathlib.Omega.{arith}
 use lib.Dec.{leb}
@@ -11,12 +10,11 @@ use lib.ListN.{length, take, drop, length-append, length-drop, length-replicate,
 use lib.Seq.{take-append-le, take-at, take-take, drop-drop, length-take-le}
 use lib.Pow.{shr-lt}
 use borrow.Author.Tests.{le-leb, lt-leb, leb-true, leb-false}
-use Rattle.bits.specs.Bits.{bits, bitsOf, value, zeros, overwrite}
+use Rattle.bits.specs.Bits.{bits, bitsOf, value, zeros}
 use Rattle.bits.specs.Place.{leftAt, fieldAt, lookAt}
 use Rattle.bits.specs.declared.Place.{Place}
 use Rattle.bits.specs.declared.Field.the-variants.{Of, Past}
 use Rattle.bits.proofs.Numbers.{length-bits, bits-value, bits-add, value-lt, value-back, length-bits-of}
-use Rattle.bits.proofs.Overwrite.{overwrite-read, overwrite-before, overwrite-after}
 
 pub length-left : (s : List ℕ) (p : ℕ) → length (leftAt s p) ≡ 8 * length s - p
 length-left s p = length-drop p (bitsOf s) ∙ ap (λ n. n - p) (length-bits-of s)
@@ -28,29 +26,6 @@ module _ (s : List ℕ) (p n : ℕ) where
 
   pub field-past : 8 * length s < p + n → fieldAt s p n ≡ Past p
   field-past h = rw (lt-leb _ _ h)
-
--- ---- after a write
-
-module _ (s s′ : List ℕ) (p n v : ℕ) (same : length s′ ≡ length s) (h : p + n ≤ 8 * length s) (laid : bitsOf s′ ≡ overwrite (bitsOf s) p (bits n v)) where
-  -- the field that was laid is read
-  pub field-laid : v < 2 ^ n → fieldAt s′ p n ≡ Of v (record { at = p + n })
-  field-laid hv =
-      let hp : p ≤ length (bitsOf s) = rw length-bits-of (omega arith) in
-      let x : take n (drop p (bitsOf s′)) ≡ bits n v = rw laid (rw (length-bits n v) at (overwrite-read (bitsOf s) (bits n v) p hp)) in
-      field-in s′ p n (rw same h) ∙ rw (x, value-back n v hv)
-
-  -- a field elsewhere is untouched
-  pub field-kept : (q m : ℕ) → (q + m ≤ p) ⊎ (p + n ≤ q) → fieldAt s′ q m ≡ fieldAt s q m
-  field-kept q m a = rw (same, part a)
-    where
-      part : (q + m ≤ p) ⊎ (p + n ≤ q) → take m (drop q (bitsOf s′)) ≡ take m (drop q (bitsOf s))
-      part (inl b) =
-          let hp : p ≤ length (bitsOf s) = rw length-bits-of (omega arith) in
-          rw laid (overwrite-before (bitsOf s) (bits n v) p hp q m b)
-      part (inr b) =
-          let hp : p ≤ length (bitsOf s) = rw length-bits-of (omega arith) in
-          let k : p + length (bits n v) ≤ q = rw length-bits b in
-          rw (laid, overwrite-after (bitsOf s) (bits n v) p hp q k)
 
 -- ---- what an answer says
 

@@ -42,10 +42,6 @@ Bytes (b ∷ s) = (b < 256) × Bytes s
 abbrev pub zeros : ℕ → List Bool
 zeros n = replicate n false
 
--- a list with the bits of `run` in place of those from bit `at` on
-unfoldable pub overwrite : (old : List Bool) (at : ℕ) (run : List Bool) → List Bool
-overwrite old at run = take at old ++ (run ++ drop (at + length run) old)
-
 -- the three bytes of s from byte i on as one number, a byte past the end being 0
 unfoldable pub wordAt : (s : List ℕ) (i : ℕ) → ℕ
 wordAt s i = getD s i 0 * 2 ^ 16 + (getD s (i + 1) 0 * 2 ^ 8 + getD s (i + 2) 0)

@@ -9,7 +9,7 @@ ghost use Prim.Native.Nat.{_+_, _-_, _*_, _^_, _<_, _≤_};
 ghost use lib.ListN.{length, getD, take};
 ghost use Rattle.buffers.specs.Walk.{build};
 ghost use Rattle.bits.specs.Bits.{bits};
-ghost use Rattle.bits.specs.Place.{Writes};
+ghost use Rattle.emission.specs.Run.{Emits};
 ghost use Rattle.rules.specs.Format.{eachBits, times};
 ghost use Rattle.rules.specs.Layout.{Sizes, kindAt, kindsOf};
 ghost use Rattle.rules.specs.Width.{width};
@@ -17,7 +17,7 @@ ghost use Rattle.rules.specs.Record.{chanIn, chanOf};
 ghost use Rattle.rules.specs.Fields.{factorBits, allFactorBits, channelFields};
 ghost use Rattle.widths.specs.Previous.{factorBefore};
 use crate::values::write_delta;
-use bits::Place;
+use emission::Run;
 use layouts::coded_count;
 use layouts::side_count;
 use layouts::side_width;
@@ -25,34 +25,27 @@ use rules::Layout;
 use widths::calculate_optimal_delta_length;
 
 // Factor i at a width: the first, and each at width 6, in 6 bits.
-fn write_factor(place: Place, payload: &mut [u8], factors: &[u8], i: usize, width: usize) -> Place
-    requires { ⌜ (1 ≤ width) × (width ≤ 6) × (place .at < 2 ^ 49) × (i < length (now factors)) ⌝ }
-    ensures { λ r. ⌜ Writes (now (payload .entry)) (place .at)
-        (factorBits width (factorBefore i (getD (now (factors .entry)) (i - 1) 0)) (getD (now (factors .entry)) i 0)) (now (payload .exit)) (r .at)
-        × (r .at ≤ place .at + 11) ⌝ }
+fn write_factor(run: Run, payload: &mut [u8], factors: &[u8], i: usize, width: usize) -> Run
+    requires { ⌜ (1 ≤ width) × (width ≤ 6) × (run .n ≤ 7) × (run .at < 2 ^ 49) × (i < length (now factors)) ⌝ }
+    ensures { λ r. ⌜ Emits run (now (payload .entry))
+        (factorBits width (factorBefore i (getD (now (factors .entry)) (i - 1) 0)) (getD (now (factors .entry)) i 0)) r (now (payload .exit))
+        × (8 * r .at + r .n ≤ 8 * run .at + run .n + 11) ⌝ }
 {
     let factor = factors[i];
     if i == 0 {
-        return place.write(payload, factor as u32, 6);
+        return run.write(payload, factor as u32, 6);
     }
     if width == 6 {
-        return place.write(payload, factor as u32, 6);
+        return run.write(payload, factor as u32, 6);
     }
-    write_delta(place, payload, width, factors[i - 1], factor)
+    write_delta(run, payload, width, factors[i - 1], factor)
 }
 
-fn write_factors(
-    place: Place,
-    payload: &mut [u8],
-    factors: &[u8],
-    coded: usize,
-    width: usize,
-) -> Place
-    requires { ⌜ (1 ≤ width) × (width ≤ 6) × (place .at < 2 ^ 48) × (length (now factors) ≡ 128) × (coded ≤ 128) ⌝ }
-    ensures { λ r. ⌜ Writes (now (payload .entry)) (place .at) (allFactorBits width coded (take coded (now (factors .entry)))) (now (payload .exit))
-        (r .at) × (r .at ≤ place .at + 1408) ⌝ }
+fn write_factors(run: Run, payload: &mut [u8], factors: &[u8], coded: usize, width: usize) -> Run
+    requires { ⌜ (1 ≤ width) × (width ≤ 6) × (run .n ≤ 7) × (run .at < 2 ^ 48) × (length (now factors) ≡ 128) × (coded ≤ 128) ⌝ }
+    ensures { λ r. ⌜ Emits run (now (payload .entry)) (allFactorBits width coded (take coded (now (factors .entry)))) r (now (payload .exit)) × (8 * r .at + r .n ≤ 8 * run .at + run .n + 1408) ⌝ }
 {
-    let mut at = place;
+    let mut at = run;
     let mut i = 0;
     while i < coded {
         at = write_factor(at, payload, factors, i, width);
@@ -62,15 +55,15 @@ fn write_factors(
 }
 
 // The width in 3 bits, and the coded factors; width 0 has none.
-fn write_scale_factors(place: Place, payload: &mut [u8], factors: &[u8], coded: usize) -> Place
-    requires { ⌜ (place .at < 2 ^ 47) × (length (now factors) ≡ 128) × (coded ≤ 128) ⌝ }
-    ensures { λ r. ⌜ Writes (now (payload .entry)) (place .at)
+fn write_scale_factors(run: Run, payload: &mut [u8], factors: &[u8], coded: usize) -> Run
+    requires { ⌜ (run .n ≤ 7) × (run .at < 2 ^ 47) × (length (now factors) ≡ 128) × (coded ≤ 128) ⌝ }
+    ensures { λ r. ⌜ Emits run (now (payload .entry))
         (bits 3 (width (take coded (now (factors .entry)))) ++ allFactorBits (width (take coded (now (factors .entry)))) coded
-        (take coded (now (factors .entry)))) (now (payload .exit)) (r .at) × (r .at ≤ place .at + 1411) ⌝ }
+        (take coded (now (factors .entry)))) r (now (payload .exit)) × (8 * r .at + r .n ≤ 8 * run .at + run .n + 1411) ⌝ }
 {
     let best = calculate_optimal_delta_length(factors, coded);
     let width = best.bits;
-    let next = place.write(payload, width as u32, 3);
+    let next = run.write(payload, width as u32, 3);
     if width == 0 {
         return next;
     }
@@ -78,12 +71,12 @@ fn write_scale_factors(place: Place, payload: &mut [u8], factors: &[u8], coded: 
 }
 
 // The first side values, each in `width` bits.
-fn write_side(place: Place, payload: &mut [u8], side: &[u8], count: usize, width: u32) -> Place
-    requires { ⌜ (place .at < 2 ^ 47) × (length (now side) ≡ 8) × (count ≤ 8) × (width ≤ 6) ⌝ }
-    ensures { λ r. ⌜ Writes (now (payload .entry)) (place .at) (eachBits (λ _. bits width) (times count) (take count (now (side .entry))))
-        (now (payload .exit)) (r .at) × (r .at ≤ place .at + 48) ⌝ }
+fn write_side(run: Run, payload: &mut [u8], side: &[u8], count: usize, width: u32) -> Run
+    requires { ⌜ (run .n ≤ 7) × (run .at < 2 ^ 47) × (length (now side) ≡ 8) × (count ≤ 8) × (width ≤ 6) ⌝ }
+    ensures { λ r. ⌜ Emits run (now (payload .entry)) (eachBits (λ _. bits width) (times count) (take count (now (side .entry))))
+        r (now (payload .exit)) × (8 * r .at + r .n ≤ 8 * run .at + run .n + 48) ⌝ }
 {
-    let mut at = place;
+    let mut at = run;
     let mut i = 0;
     while i < count {
         at = at.write(payload, side[i] as u32, width);
@@ -94,41 +87,40 @@ fn write_side(place: Place, payload: &mut [u8], side: &[u8], count: usize, width
 
 // A channel's width, factors and side values.
 fn write_channel(
-    place: Place,
+    run: Run,
     payload: &mut [u8],
     layout: Layout,
     channel: usize,
     factors: &[u8],
     side: &[u8],
-) -> Place
+) -> Run
     requires { ⌜ Sizes layout ⌝ }
-    requires { ⌜ (place .at < 2 ^ 46) × (channel < 16) × (length (now factors) ≡ 128) × (length (now side) ≡ 8) ⌝ }
-    ensures { λ r. ⌜ Writes (now (payload .entry)) (place .at)
-        (channelFields layout (kindAt layout channel) (chanIn layout channel (now (factors .entry)) (now (side .entry)))) (now (payload .exit))
-        (r .at) × (r .at ≤ place .at + 1459) ⌝ }
+    requires { ⌜ (run .n ≤ 7) × (run .at < 2 ^ 46) × (channel < 16) × (length (now factors) ≡ 128) × (length (now side) ≡ 8) ⌝ }
+    ensures { λ r. ⌜ Emits run (now (payload .entry))
+        (channelFields layout (kindAt layout channel) (chanIn layout channel (now (factors .entry)) (now (side .entry)))) r (now (payload .exit)) × (8 * r .at + r .n ≤ 8 * run .at + run .n + 1459) ⌝ }
 {
     let coded = coded_count(layout, channel);
-    let next = write_scale_factors(place, payload, factors, coded);
+    let next = write_scale_factors(run, payload, factors, coded);
     let count = side_count(layout, channel);
     let width = side_width(layout, channel);
     write_side(next, payload, side, count, width)
 }
 
 pub fn write_channels(
-    place: Place,
+    run: Run,
     payload: &mut [u8],
     layout: Layout,
     factors: &[u8],
     side: &[u8],
-) -> Place
+) -> Run
     requires { ⌜ Sizes layout ⌝ }
-    requires { ⌜ (place .at < 2 ^ 45) × (length (now factors) ≡ layout .channels * 128) × (length (now side) ≡ layout .channels * 8) ⌝ }
-    ensures { λ r. ⌜ Writes (now (payload .entry)) (place .at)
+    requires { ⌜ (run .n ≤ 7) × (run .at < 2 ^ 45) × (length (now factors) ≡ layout .channels * 128) × (length (now side) ≡ layout .channels * 8) ⌝ }
+    ensures { λ r. ⌜ Emits run (now (payload .entry))
         (eachBits (channelFields layout) (kindsOf layout) (build (chanOf layout (now (factors .entry)) (now (side .entry))) (layout .channels)))
-        (now (payload .exit)) (r .at) × (r .at ≤ place .at + 23344) ⌝ }
+        r (now (payload .exit)) × (8 * r .at + r .n ≤ 8 * run .at + run .n + 23344) ⌝ }
 {
     let channels = layout.channels;
-    let mut at = place;
+    let mut at = run;
     let mut c = 0;
     while c < channels {
         let f = c * 128;

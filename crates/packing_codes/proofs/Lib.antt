@@ -1,1 +1,4 @@
-pub mod Codes
+pub mod Columns
+pub mod Ranges
+mod Walks
+mod Doubles

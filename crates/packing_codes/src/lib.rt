@@ -1,155 +1,203 @@
-// Document 01, **Frame**: the codes, subframe by subframe, channel by channel, band by band.
+// Document 01, **Frame**: the codes, subframe by subframe, channel by channel, band by band; a subframe's fields by columns.
 ghost use mathlib.Core.Path.{_≡_};
-ghost use Prim.Native.Nat.{_+_, _*_, _^_, _<_, _≤_};
+ghost use mathlib.Core.List.{_++_};
+ghost use Prim.Native.Nat.{_+_, _*_, _/_, _%_, _^_, _<_, _≤_};
 ghost use lib.IntN.{natAbs};
-ghost use lib.ListN.{length, take};
+ghost use lib.ListN.{length, getD, take, drop};
 ghost use Rattle.buffers.specs.Walk.{build, AtMost};
-ghost use Rattle.bits.specs.Place.{Writes};
+ghost use Rattle.emission.specs.Run.{Emits};
 ghost use Rattle.rules.specs.Format.{eachBits, times};
 ghost use Rattle.rules.specs.Layout.{Sizes};
 ghost use Rattle.rules.specs.Record.{codesIn};
+ghost use Rattle.rules.specs.Fields.{codeBits};
 ghost use Rattle.resolutions.specs.Coded.{codedResolutions};
-ghost use Rattle.rules.specs.Fields.{smallBits, signBits, codeBits};
-use bits::Place;
+ghost use Rattle.packing_codes.specs.Columns.{
+  ordinal,
+  ruleOf,
+  lengthOf,
+  wordOf,
+  ruleBits,
+  lengthAt,
+  wordAt,
+  AllRuled,
+  AllRanged,
+  Blank,
+  RowsRuled,
+  paddedRows,
+  paddedCodes,
+};
+use emission::Piece;
+use emission::Run;
 use layouts::coded_count;
-use quantizer::code_place;
-use quantizer::tables::code_length;
-use quantizer::tables::code_word;
-use quantizer::tables::magnitude_bits;
 use rules::Layout;
 
-// In 64 bits, since the magnitude of the least code has no negative in 32.
-fn code_magnitude(code: i32) -> u32
-    ensures { λ r. ⌜ r ≡ natAbs code ⌝ }
+// Of n words the first u have L - 1 bits, the others L: L + 16 u + 256 n.
+const RULES: [u32; 16] = [
+    0,
+    786,
+    1331,
+    1811,
+    2420,
+    2900,
+    3380,
+    3860,
+    7957,
+    16150,
+    32535,
+    65304,
+    130841,
+    261914,
+    524059,
+    1048348,
+];
+
+// The rule of each band's resolution.
+fn code_rules(resolutions: &[u8], rows: &mut [u32])
+    requires { ⌜ (length (now rows) ≡ length (now resolutions)) × AtMost 15 (now resolutions) ⌝ }
+    ensures { λ r. ⌜ now (rows .exit) ≡ build (λ i. ruleOf (getD (now (resolutions .entry)) i 0)) (length (now (resolutions .entry))) ⌝ }
 {
-    let wide = code as i64;
-    if wide < 0 {
-        return (0 - wide) as u32;
+    let rules = RULES;
+    let mut i = 0;
+    while i < resolutions.len() {
+        rows[i] = rules[resolutions[i] as usize];
+        i += 1;
     }
-    wide as u32
 }
 
-// 1 for a negative code, 0 for a positive one; 0 has no sign.
-fn write_sign(place: Place, payload: &mut [u8], code: i32) -> Place
-    requires { ⌜ place .at < 2 ^ 50 ⌝ }
-    ensures { λ r. ⌜ Writes (now (payload .entry)) (place .at) (signBits code) (now (payload .exit)) (r .at) × (r .at ≤ place .at + 1) ⌝ }
+// A code's number: 0, 1, -1, 2, -2, ..
+fn number_of(code: i32) -> u32
+    requires { ⌜ natAbs code ≤ 4095 ⌝ }
+    ensures { λ r. ⌜ (r ≡ ordinal code) × (r ≤ 8190) ⌝ }
 {
-    if code == 0 {
-        return place;
+    if 0 < code {
+        return (code + code - 1) as u32;
     }
-    if code < 0 {
-        return place.write(payload, 1, 1);
-    }
-    place.write(payload, 0, 1)
+    (0 - (code + code)) as u32
 }
 
-// Below resolution 8, by the tables.
-fn write_small(place: Place, payload: &mut [u8], resolution: u8, code: i32) -> Place
-    requires { ⌜ (place .at < 2 ^ 50) × (resolution < 8) ⌝ }
-    ensures { λ r. ⌜ Writes (now (payload .entry)) (place .at) (smallBits resolution code) (now (payload .exit)) (r .at) × (r .at ≤ place .at + 4) ⌝ }
+// The field of a number by a rule; none from the n-th on.
+fn field_of(rule: u32, number: u32) -> Piece
+    requires { ⌜ (number ≤ 8190) × (1 ≤ rule / 16 % 16 → 1 ≤ rule % 16) ⌝ }
+    ensures { λ r. ⌜ (r .length ≡ lengthOf rule number) × (r .word ≡ wordOf rule number) ⌝ }
 {
-    let at = code_place(code as i64);
-    let word = code_word(resolution, at);
-    let length = code_length(resolution, at);
-    place.write(payload, word, length)
+    let u = (rule >> 4) & 15;
+    if number < rule >> 8 {
+        if number < u {
+            return Piece {
+                word: number,
+                length: (rule & 15) - 1,
+            };
+        }
+        return Piece {
+            word: number + u,
+            length: rule & 15,
+        };
+    }
+    Piece { word: 0, length: 0 }
 }
 
-// The code of a band; nothing at resolution 0.
-fn write_code(place: Place, payload: &mut [u8], resolution: u8, code: i32) -> Place
-    requires { ⌜ (place .at < 2 ^ 49) × (resolution ≤ 15) ⌝ }
-    ensures { λ r. ⌜ Writes (now (payload .entry)) (place .at) (codeBits resolution code) (now (payload .exit)) (r .at) × (r .at ≤ place .at + 12) ⌝ }
+// The fields of the first n bands of a subframe, as columns of words and lengths.
+fn fields_of(rows: &[u32], codes: &[i32], n: usize, words: &mut [u32], lengths: &mut [u32])
+    requires { ⌜ (n ≤ length (now rows)) × (n ≤ length (now codes)) × (n ≤ length (now words)) × (n ≤ length (now lengths)) ⌝ }
+    requires { ⌜ AllRuled n (now rows) (now codes) ⌝ }
+    ensures { λ r. ⌜ (now (words .exit) ≡ build (wordAt (now (rows .entry)) (now (codes .entry))) n ++ drop n (now (words .entry)))
+        × (now (lengths .exit) ≡ build (lengthAt (now (rows .entry)) (now (codes .entry))) n ++ drop n (now (lengths .entry))) ⌝ }
 {
-    if resolution == 0 {
-        return place;
+    let mut b = 0;
+    while b < n {
+        let field = field_of(rows[b], number_of(codes[b]));
+        words[b] = field.word;
+        lengths[b] = field.length;
+        b += 1;
     }
-    if resolution < 8 {
-        return write_small(place, payload, resolution, code);
-    }
-    let magnitude = code_magnitude(code);
-    let count = magnitude_bits(resolution);
-    let next = place.write(payload, magnitude, count);
-    write_sign(next, payload, code)
 }
 
 // The codes of one subframe of one channel.
 fn write_spectra(
-    place: Place,
+    run: Run,
     payload: &mut [u8],
-    resolutions: &[u8],
+    rows: &[u32],
     codes: &[i32],
-    coded: usize,
-) -> Place
-    requires { ⌜ (place .at < 2 ^ 48) × (length (now resolutions) ≡ 128) × (length (now codes) ≡ 128) × (coded ≤ 128) ⌝ }
-    requires { ⌜ AtMost 15 (now resolutions) ⌝ }
-    ensures { λ r. ⌜ Writes (now (payload .entry)) (place .at)
-        (eachBits codeBits (take coded (now (resolutions .entry))) (take coded (now (codes .entry)))) (now (payload .exit)) (r .at)
-        × (r .at ≤ place .at + 1536) ⌝ }
+    n: usize,
+    words: &mut [u32],
+    lengths: &mut [u32],
+) -> Run
+    requires { ⌜ (run .n ≤ 7) × (run .at < 2 ^ 48) × (length (now rows) ≡ 128) × (length (now codes) ≡ 128) × (n ≤ 128) × (n % 4 ≡ 0)
+        × (128 ≤ length (now words)) × (128 ≤ length (now lengths)) ⌝ }
+    requires { ⌜ AllRuled n (now rows) (now codes) ⌝ }
+    ensures { λ r. ⌜ Emits run (now (payload .entry)) (eachBits ruleBits (take n (now (rows .entry))) (take n (now (codes .entry)))) r (now (payload .exit))
+        × (8 * r .at + r .n ≤ 8 * run .at + run .n + 1536) ⌝ }
 {
-    let mut at = place;
-    let mut b = 0;
-    while b < coded {
-        at = write_code(at, payload, resolutions[b], codes[b]);
-        b += 1;
-    }
-    at
+    fields_of(rows, codes, n, words, lengths);
+    run.put_all(payload, words, lengths, n)
 }
 
 // One subframe of every channel.
 fn write_subframe(
-    place: Place,
+    run: Run,
     payload: &mut [u8],
     layout: Layout,
     subframe: usize,
-    resolutions: &[u8],
+    rows: &[u32],
     codes: &[i32],
-) -> Place
+    words: &mut [u32],
+    lengths: &mut [u32],
+) -> Run
     requires { ⌜ Sizes layout ⌝ }
-    requires { ⌜ (place .at < 2 ^ 47) × (subframe < 8) × (length (now resolutions) ≡ layout .channels * 128)
-        × (length (now codes) ≡ layout .channels * 1024) ⌝ }
-    requires { ⌜ AtMost 15 (now resolutions) ⌝ }
-    ensures { λ r. ⌜ Writes (now (payload .entry)) (place .at)
-        (eachBits (eachBits codeBits) (build (codedResolutions layout (now (resolutions .entry))) (layout .channels))
-        (build (codesIn layout (now (codes .entry)) subframe) (layout .channels))) (now (payload .exit)) (r .at) × (r .at ≤ place .at + 24576) ⌝ }
+    requires { ⌜ (run .n ≤ 7) × (run .at < 2 ^ 47) × (subframe < 8) × (length (now rows) ≡ layout .channels * 128)
+        × (length (now codes) ≡ layout .channels * 1024) × (128 ≤ length (now words)) × (128 ≤ length (now lengths)) ⌝ }
+    requires { ⌜ RowsRuled layout (now rows) (now codes) ⌝ }
+    ensures { λ r. ⌜ Emits run (now (payload .entry))
+        (eachBits (eachBits ruleBits) (build (paddedRows layout (now (rows .entry))) (layout .channels))
+        (build (paddedCodes layout (now (codes .entry)) subframe) (layout .channels))) r (now (payload .exit))
+        × (8 * r .at + r .n ≤ 8 * run .at + run .n + 24576) ⌝ }
 {
     let channels = layout.channels;
-    let mut at = place;
+    let mut at = run;
     let mut c = 0;
     while c < channels {
-        let coded = coded_count(layout, c);
+        let coded = (coded_count(layout, c) + 7) / 8 * 8;
         let r = c * 128;
         let s = c * 1024 + subframe * 128;
         at = write_spectra(
             at,
             payload,
-            &resolutions[r..r + 128],
+            &rows[r..r + 128],
             &codes[s..s + 128],
             coded,
+            words,
+            lengths,
         );
         c += 1;
     }
     at
 }
 
-// All eight subframes.
+// All eight subframes. The rows, words and lengths are room to work in.
 pub fn write_codes(
-    place: Place,
+    run: Run,
     payload: &mut [u8],
     layout: Layout,
     resolutions: &[u8],
     codes: &[i32],
-) -> Place
+    rows: &mut [u32],
+    words: &mut [u32],
+    lengths: &mut [u32],
+) -> Run
     requires { ⌜ Sizes layout ⌝ }
-    requires { ⌜ (place .at < 2 ^ 46) × (length (now resolutions) ≡ layout .channels * 128) × (length (now codes) ≡ layout .channels * 1024) ⌝ }
-    requires { ⌜ AtMost 15 (now resolutions) ⌝ }
-    ensures { λ r. ⌜ Writes (now (payload .entry)) (place .at)
+    requires { ⌜ (run .n ≤ 7) × (run .at < 2 ^ 46) × (length (now resolutions) ≡ layout .channels * 128) × (length (now codes) ≡ layout .channels * 1024)
+        × (length (now rows) ≡ layout .channels * 128) × (128 ≤ length (now words)) × (128 ≤ length (now lengths)) ⌝ }
+    requires { ⌜ AtMost 15 (now resolutions) × Blank layout (now resolutions) × AllRanged layout (now resolutions) (now codes) ⌝ }
+    ensures { λ r. ⌜ Emits run (now (payload .entry))
         (eachBits (λ _. eachBits (eachBits codeBits) (build (codedResolutions layout (now (resolutions .entry))) (layout .channels))) (times 8)
-        (build (λ s. build (codesIn layout (now (codes .entry)) s) (layout .channels)) 8)) (now (payload .exit)) (r .at)
-        × (r .at ≤ place .at + 196608) ⌝ }
+        (build (λ s. build (codesIn layout (now (codes .entry)) s) (layout .channels)) 8)) r (now (payload .exit))
+        × (8 * r .at + r .n ≤ 8 * run .at + run .n + 196608) ⌝ }
 {
-    let mut at = place;
+    code_rules(resolutions, rows);
+    let mut at = run;
     let mut s = 0;
     while s < 8 {
-        at = write_subframe(at, payload, layout, s, resolutions, codes);
+        at = write_subframe(at, payload, layout, s, rows, codes, words, lengths);
         s += 1;
     }
     at

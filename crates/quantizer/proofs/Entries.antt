@@ -1,12 +1,12 @@
 -- The tables' entries, each table by one computed test of all its entries. Assumes nothing.
 use mathlib.Core.Path.{_≡_, refl, sym, ap, _∙_}
-use mathlib.Core.Bool.{Bool, true, cond, _&&_}
+use mathlib.Core.Bool.{Bool, true, cond}
 use mathlib.Core.List.{List, []}
 use mathlib.Core.Logic.{⊎-elim}
 use Prim.Native.Nat.{ℕ, zero, suc, _+_, _-_, _*_, _%_, _^_, _≤_, _<_}
 use native.Mathlib.Nat.{eq-or-lt-of-le}
 use native.Mathlib.Omega.{arith}
-use borrow.Author.Tests.{leb-true, ltb-true, le-ltb}
+use borrow.Author.Tests.{leb-true, le-ltb}
 use lib.Dec.{leb, ltb}
 use lib.IntN.{pos, natAbs}
 use lib.Ieee.{binary32, ofBits, ofInt, add, sub, toSigned}
@@ -14,10 +14,9 @@ use lib.ListN.{getD}
 use Rattle.buffers.specs.Walk.{build, every}
 use Rattle.buffers.proofs.Build.{build-at}
 use Rattle.buffers.proofs.Every.{every-at}
-use Rattle.buffers.proofs.Tests.{and-fst, and-snd}
-use Rattle.rules.specs.Tables.{stepTable, maxBitTable, spectrumBits, spectrumValue}
+use Rattle.rules.specs.Tables.{stepTable, maxBitTable, spectrumBits}
 use Rattle.rules.specs.Code.{stepOf, stepShift, magnitudeBits, codeLimit}
-use Rattle.quantizer.specs.Packed.{packedRow, entryOf}
+use Rattle.quantizer.specs.Packed.{entryOf}
 
 -- two functions that give the same list
 pub build-agrees : {A : Type 0} (f g : ℕ → A) (n : ℕ) → build f n ≡ build g n → (i : ℕ) → i < n → f i ≡ g i
@@ -33,41 +32,17 @@ last-arm zero r h o = omega arith
 last-arm (suc n) r h o =
     ⊎-elim (λ (e : r ≡ suc n). e) (λ (l : r < suc n). absurd (o .1 (last-arm n r (omega arith) (o .0)))) (eq-or-lt-of-le h)
 
--- ---- the rows of the spectrum tables
-module _ (t : List (List ℕ)) where
-  row-entry : build (λ (r : ℕ). build (λ (p : ℕ). entryOf (packedRow (getD t r [])) p) 16) 8 ≡ build (λ (r : ℕ). getD t r []) 8
-      → (r p : ℕ) → r < 8 → p ≤ 15 → entryOf (packedRow (getD t r [])) p ≡ getD (getD t r []) p 0
-  row-entry e r p h k =
-      sym (build-at (entryOf (packedRow (getD t r []))) 16 p 0 (omega arith))
-      ∙ ap (λ (l : List ℕ). getD l p 0) (build-agrees (λ (i : ℕ). build (λ (j : ℕ). entryOf (packedRow (getD t i [])) j) 16) (λ (i : ℕ). getD t i []) 8 e r h)
+-- ---- QUANTIZE_SPECTRUM_BITS
+short : ℕ → ℕ → Bool
+short r p = leb (getD (getD spectrumBits r []) p 0) 4
 
-pub length-entry : (r p : ℕ) → r < 8 → p ≤ 15 → entryOf (packedRow (getD spectrumBits r [])) p ≡ getD (getD spectrumBits r []) p 0
-unfolding build packedRow spectrumBits
-length-entry = row-entry spectrumBits refl
-
-pub word-entry : (r p : ℕ) → r < 8 → p ≤ 15 → entryOf (packedRow (getD spectrumValue r [])) p ≡ getD (getD spectrumValue r []) p 0
-unfolding build packedRow spectrumValue
-word-entry = row-entry spectrumValue refl
-
--- a length is at most 4, and a word has no more bits than its length
-small : ℕ → ℕ → Bool
-small r p =
-    leb (getD (getD spectrumBits r []) p 0) 4 && ltb (getD (getD spectrumValue r []) p 0) (2 ^ getD (getD spectrumBits r []) p 0)
-
-all-small : every (λ (r : ℕ). every (small r) 16) 8 ≡ true
-unfolding every small spectrumBits spectrumValue
-all-small = refl
-
-is-small : (r p : ℕ) → r < 8 → p ≤ 15 → small r p ≡ true
-is-small r p h k = every-at (small r) 16 p (every-at (λ (i : ℕ). every (small i) 16) 8 r all-small h) (omega arith)
+all-short : every (λ (r : ℕ). every (short r) 16) 8 ≡ true
+unfolding every short spectrumBits
+all-short = refl
 
 pub length-le : (r p : ℕ) → r < 8 → p ≤ 15 → getD (getD spectrumBits r []) p 0 ≤ 4
-unfolding small
-length-le r p h k = leb-true _ _ (and-fst _ _ (is-small r p h k))
-
-pub word-lt : (r p : ℕ) → r < 8 → p ≤ 15 → getD (getD spectrumValue r []) p 0 < 2 ^ getD (getD spectrumBits r []) p 0
-unfolding small
-word-lt r p h k = ltb-true _ _ (and-snd (leb (getD (getD spectrumBits r []) p 0) 4) _ (is-small r p h k))
+unfolding short
+length-le r p h k = leb-true _ _ (every-at (short r) 16 p (every-at (λ (i : ℕ). every (short i) 16) 8 r all-short h) (omega arith))
 
 -- ---- MAX_BIT_TABLE - 1, and the limit
 pub bits-entry : (r : ℕ) → r ≤ 15 → entryOf 0xBA98765433332210 r ≡ magnitudeBits r

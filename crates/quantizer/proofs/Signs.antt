@@ -2,7 +2,7 @@
 use mathlib.Core.Path.{_≡_, refl, subst, _∙_}
 use mathlib.Core.Bool.{Bool, true, false, cond}
 use Prim.Native.Nat.{ℕ, suc, _+_, _-_, _≤_, _<_, min, zero-le}
-use native.Mathlib.Nat.{add-comm, le-refl}
+use native.Mathlib.Nat.{le-refl}
 use native.Mathlib.Omega.{arith}
 use borrow.Author.Tests.{lt-ltb, le-ltb, ltb-true, ltb-false}
 use lib.Dec.{T, ltb}
@@ -49,22 +49,6 @@ held-nat top (negsuc n) = unfold heldZ in (refl, zero-le)
 pub place-le : (z : ℤ) → codePlace z ≤ 15
 unfolding codePlace
 place-le z = held-nat 15 (pos 8 +ℤ z) .1
-
-pub place-is : (z : ℤ) → heldZ (negsuc 7) (pos 7) z +ℤ pos 8 ≡ pos (codePlace z)
-unfolding codePlace heldZ
-place-is (pos n) = go (ltb 7 n) (ltb-true 7 n) (ltb-false 7 n)
-  where
-    go : (t : Bool) → (t ≡ true → 7 < n) → (t ≡ false → n ≤ 7) → cond t (pos 7) (pos n) +ℤ pos 8 ≡ pos (natAbs (heldTo 15 (pos (8 + n))))
-    go true l h = let z : 15 < 8 + n = omega (arith, l refl) in rw (held-over 15 (8 + n) z)
-    go false l h = let z : 8 + n ≤ 15 = omega (arith, h refl) in rw (held-in 15 (8 + n) z, add-comm n 8)
-place-is (negsuc n) = go (ltb 7 n) (ltb-true 7 n) (ltb-false 7 n)
-  where
-    go : (t : Bool) → (t ≡ true → 7 < n) → (t ≡ false → n ≤ 7) → cond t (negsuc 7) (negsuc n) +ℤ pos 8 ≡ pos (natAbs (heldTo 15 (pos 8 +ℤ negsuc n)))
-    go true l h = let z : 8 < suc n = omega (arith, l refl) in rw (lt-ltb 8 (suc n) z)
-    go false l h =
-        let z : suc n ≤ 8 = omega (arith, h refl) in
-        let y : 8 - suc n ≤ 15 = omega arith in
-        rw (le-ltb 8 (suc n) z, held-in 15 (8 - suc n) y)
 
 -- the place of a whole number less r + 1: 8 - (r + 1) higher, at most 15; of a negative one at most as high as of 0
 held-min : (top n : ℕ) → natAbs (heldTo top (pos n)) ≡ min n top

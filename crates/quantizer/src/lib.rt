@@ -2,7 +2,7 @@
 ghost use mathlib.Core.Path.{_≡_};
 ghost use Prim.Native.Nat.{_≤_};
 ghost use Rattle.rules.specs.Signed.{heldZ};
-ghost use Rattle.rules.specs.Code.{rawCode, codePlace, codeOf};
+ghost use Rattle.rules.specs.Code.{rawCode, codeOf};
 use self::tables::limit_of;
 use self::tables::shift_of;
 use self::tables::step_of;
@@ -33,13 +33,6 @@ fn raw_code(scaled: f32, r: u8) -> i64
     let up = step + 1.0;
     let whole = truncate(scaled * step + up);
     whole - shift_of(r)
-}
-
-// The place of a code in a row of the tables below resolution 8.
-pub fn code_place(z: i64) -> usize
-    ensures { λ r. ⌜ (r ≡ codePlace z) × (r ≤ 15) ⌝ }
-{
-    (held(z, -8, 7) + 8) as usize
 }
 
 pub fn code(scaled: f32, r: u8) -> i32

@@ -1,14 +1,13 @@
 // The tables by resolution. Entries below 16 stand sixteen in a number, the first in its lowest four
 // bits, and are shifted out: an array would be copied to the stack at each read.
 ghost use mathlib.Core.Path.{_≡_};
-ghost use mathlib.Core.List.{[]};
-ghost use Prim.Native.Nat.{_^_, _≤_, _<_};
+ghost use Prim.Native.Nat.{_≤_};
 ghost use lib.IntN.{pos};
 ghost use lib.Ieee.{nan};
 ghost use lib.ListN.{getD};
-ghost use Rattle.rules.specs.Tables.{deadZoneTable, spectrumBits, spectrumValue};
+ghost use Rattle.rules.specs.Tables.{deadZoneTable};
 ghost use Rattle.rules.specs.Code.{stepOf, stepShift, magnitudeBits, codeLimit};
-ghost use Rattle.quantizer.specs.Packed.{packedRow, entryOf};
+ghost use Rattle.quantizer.specs.Packed.{entryOf};
 
 // The entry at a place of a row.
 pub fn row_entry(row: u64, place: usize) -> u32
@@ -80,52 +79,4 @@ pub fn dead_zone(r: u8) -> f32
         14 => 4.885198e-4,
         _ => 2.4420026e-4,
     }
-}
-
-// QUANTIZE_SPECTRUM_BITS.
-fn length_row(r: u8) -> u64
-    requires { ⌜ r < 8 ⌝ }
-    ensures { λ n. ⌜ n ≡ packedRow (getD spectrumBits r []) ⌝ }
-{
-    match r {
-        0 => 0,
-        1 => 0x0000_0021_2000_0000,
-        2 => 0x0000_0322_2300_0000,
-        3 => 0x0000_3332_3330_0000,
-        4 => 0x0004_3333_3334_0000,
-        5 => 0x0044_4333_3344_4000,
-        6 => 0x0444_4433_3444_4400,
-        _ => 0x4444_4443_4444_4440,
-    }
-}
-
-// QUANTIZE_SPECTRUM_VALUE.
-fn word_row(r: u8) -> u64
-    requires { ⌜ r < 8 ⌝ }
-    ensures { λ n. ⌜ n ≡ packedRow (getD spectrumValue r []) ⌝ }
-{
-    match r {
-        0 => 0,
-        1 => 0x0000_0020_3000_0000,
-        2 => 0x0000_0610_2700_0000,
-        3 => 0x0000_6420_3570_0000,
-        4 => 0x000E_5310_246F_0000,
-        5 => 0x00EC_A310_24BD_F000,
-        6 => 0x0ECA_8610_279B_DF00,
-        _ => 0xECA8_6420_3579_BDF0,
-    }
-}
-
-pub fn code_length(r: u8, place: usize) -> u32
-    requires { ⌜ (r < 8) × (place ≤ 15) ⌝ }
-    ensures { λ n. ⌜ (n ≡ getD (getD spectrumBits r []) place 0) × (n ≤ 4) ⌝ }
-{
-    row_entry(length_row(r), place)
-}
-
-pub fn code_word(r: u8, place: usize) -> u32
-    requires { ⌜ (r < 8) × (place ≤ 15) ⌝ }
-    ensures { λ n. ⌜ (n ≡ getD (getD spectrumValue r []) place 0) × (n < 2 ^ getD (getD spectrumBits r []) place 0) ⌝ }
-{
-    row_entry(word_row(r), place)
 }

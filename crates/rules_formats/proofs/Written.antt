@@ -1,18 +1,13 @@
--- Fields written one after the other are blocks, one for each index; and what a loop keeps that writes them. Assumes nothing.
+-- Fields written one after the other are blocks, one for each index. Assumes nothing.
 use mathlib.Core.Path.{_≡_, refl, sym, _∙_, ap}
 use mathlib.Core.List.{List, [], _∷_, _++_, foldl, append-assoc, append-nil}
 use mathlib.Core.Bool.{Bool}
-use Prim.Native.Nat.{ℕ, zero, suc, _+_, _*_, _≤_}
-use native.Mathlib.Nat.{mul-suc}
-use native.Mathlib.Numerals.{add-one}
+use Prim.Native.Nat.{ℕ, zero, suc, _≤_}
 use native.Mathlib.Omega.{arith}
 use lib.ListN.{length, take, getD}
 use lib.Seq.{getD-take, length-take-le}
 use Rattle.buffers.specs.Walk.{build, blocks}
 use Rattle.buffers.proofs.Build.{length-build, build-of, build-const}
-use Rattle.buffers.proofs.Blocks.{blocks-suc}
-use Rattle.bits.specs.Place.{Writes}
-use Rattle.bits.proofs.Runs.{writes-none, writes-then}
 use Rattle.rules.specs.Format.{walkBits, eachBits, stay, times}
 
 -- one more value at the end
@@ -51,19 +46,3 @@ front-blocks w d e xs ys n h k = rw (front d xs n h, front e ys n k) (each-block
 
 pub times-blocks : {A : Type 0} (w : A → List Bool) (g : ℕ → A) (n : ℕ) → eachBits (λ _. w) (times n) (build g n) ≡ blocks (λ i. w (g i)) n
 times-blocks w g n = rw (← build-const (tt {0}) n) (each-blocks (λ _. w) (λ _. tt {0}) g n)
-
--- WHAT A LOOP KEEPS that writes block i in turn i, of at most m bits each
-pub record Wrote (g : ℕ → List Bool) (m : ℕ) (s₀ : List ℕ) (p₀ i : ℕ) (s : List ℕ) (p : ℕ) : Type 0 where
-  pub run : Writes s₀ p₀ (blocks g i) s p
-  pub bound : p ≤ p₀ + m * i
-
-module _ (g : ℕ → List Bool) (m : ℕ) (s₀ : List ℕ) (p₀ : ℕ) where
-  pub wrote-none : Wrote g m s₀ p₀ 0 s₀ p₀
-  unfolding blocks
-  wrote-none = record { run = writes-none s₀ p₀; bound = omega arith }
-
-  pub wrote-more : {i : ℕ} {s : List ℕ} {p : ℕ} {s′ : List ℕ} {p′ : ℕ} → Wrote g m s₀ p₀ i s p → Writes s p (g i) s′ p′ → p′ ≤ p + m → Wrote g m s₀ p₀ (i + 1) s′ p′
-  wrote-more {i} w h b = record { run = rw (add-one i, blocks-suc g i) (writes-then (w .run) h); bound = omega (arith, w .bound, mul-suc m i, ap (λ k. m * k) (add-one i)) }
-
-  pub wrote-all : {n i : ℕ} {W : List Bool} {s : List ℕ} {p : ℕ} → W ≡ blocks g n → i ≡ n → Wrote g m s₀ p₀ i s p → Writes s₀ p₀ W s p
-  wrote-all e h w = rw (e, ← h) (w .run)

@@ -1,90 +1,45 @@
--- `packing::pack_frame` meets its contract: cleared again where the fields do not fit, else sealed. Assumes nothing.
-use mathlib.Core.Path.{_≡_, sym, ap, _∙_}
-use borrow.Author.Tests.{lt-ltb, le-ltb}
-use lib.ListN.{replicate}
-use Rattle.rules.specs.Layout.{frameSize}
-use Rattle.rules.specs.Record.{Rec, recOf}
-use Rattle.packing.proofs.Frames.{part-length, count-is, packed-length, frame-is}
+-- `packing::pack_frame` meets its contract: room for the rows of sixteen channels, of which the layout's are lent. Assumes nothing.
+use mathlib.Core.Path.{_≡_, sym}
+use Prim.Native.Nat.{ℕ, _≤_}
+use native.Mathlib.Omega.{arith}
+use lib.ListN.{length, take, replicate, length-replicate}
+use lib.Seq.{length-take-le}
 use borrow.Author.Needs.{needs}
 use Rattle.packing.proofs.pack_frame.Statement.{statement}
 use Rattle.packing.proofs.pack_frame.Tie as tie
 
-clear-u8-requires : tie.Need-clear-u8-requires
-clear-u8-requires c κs = search needs
+-- the array has room for the part that is lent
+front : (m n v : ℕ) → n ≤ m → length (take n (replicate m v)) ≡ n
+front m n v h = length-take-le n (replicate m v) (rw (length-replicate m v) h)
 
-sub-end : tie.Need-sub-end
-sub-end c = search needs
+mul-n : tie.Need-mul-n
+mul-n c = search needs
 
-slice-relend-prefix-write-fields : tie.Need-slice-relend-prefix-write-fields
-slice-relend-prefix-write-fields c = search needs
+array-borrow-prefix-rows : tie.Need-array-borrow-prefix-rows
+array-borrow-prefix-rows c = search needs
 
-clear : (c : tie.After-clear-u8) → c .clear-u8 .last .0 ≡ replicate (frameSize (c .before .before .before .before .before .before .args .layout)) 0
-clear c = c .clear-u8 .ensures ∙ ap (λ n. replicate n 0) (c .before .before .before .before .before .before .pre .1 .1 .1 .1)
+slice-aggregate-packed : tie.Need-slice-aggregate-packed
+slice-aggregate-packed c = sym (front 2048 _ 0 (omega (arith, c .before .before .before .before .before .before .pre .0)))
 
-slice-aggregate-write-fields : tie.Need-slice-aggregate-write-fields
-slice-aggregate-write-fields c =
-    let s = c .before .before .before .before .before .before .before .before .before .before in
-    sym (part-length (s .args .layout) (s .pre .0) (clear (c .before .before .before .before)))
-
-write-fields-requires : tie.Need-write-fields-requires
-write-fields-requires c κs =
-    let s = c .before .before .before .before .before .before .before .before .before .before in
-    (s .pre .0, (s .pre .1 .0, (s .pre .1 .1 .0, s .pre .1 .1 .1 .0)))
-
--- the record whose frame it is
-abbrev rec : tie.Start → Rec
-rec c = recOf (c .args .layout) (c .args .level) (c .args .boundary) (c .args .factors .now) (c .args .side .now) (c .args .codes .now)
-
-mul-if1 : tie.Need-mul-if1
-mul-if1 c = search needs
-
-clear-u8-requires-2 : tie.Need-clear-u8-requires-2
-clear-u8-requires-2 c κs = search needs
+packed-requires : tie.Need-packed-requires
+packed-requires c κs =
+    let s = c .before .before .before .before .before .before .before in
+    let more = s .pre .1 .1 .1 in
+    (s .pre .0, (s .pre .1 .0, (s .pre .1 .1 .0, (more .0, (front 2048 _ 0 (omega (arith, s .pre .0)), more .1)))))
 
 same-length : tie.Need-same-length
 same-length c = search needs
 
 returns : tie.Need-returns
-returns c =
-    let s = c .before .before .before .before .before .before .before .before .before .before .before .before .before .before .before .before .before .before in
-    let l = s .args .layout in
-    let cleared = clear (c .before .before .before .before .before .before .before .before .before .before .before .before) in
-    let w = c .before .before .before .before .before .before .before .write-fields .ensures in (
-      count-is l (s .pre .0) cleared (rec s) w,
-      c .before .before .clear-u82 .ensures ∙ ap (λ n. replicate n 0) (packed-length l (s .pre .0) cleared (rec s) w) ∙ rw (lt-ltb _ _ (c .before .before .before .before .if1 .taken)),
-    )
-
-seal-requires : tie.Need-seal-requires
-seal-requires c κs = search needs
-
-same-length-2 : tie.Need-same-length-2
-same-length-2 c = search needs
-
-returns-2 : tie.Need-returns-2
-returns-2 c =
-    let s = c .before .before .before .before .before .before .before .before .before .before .before .before .before .before .before .before .before .before in
-    let l = s .args .layout in
-    let cleared = clear (c .before .before .before .before .before .before .before .before .before .before .before .before) in
-    let w = c .before .before .before .before .before .before .before .write-fields .ensures in
-    let fits = c .before .before .before .before .if1 .left in
-    let bytes = c .before .before .before .before .before .slice-known3 .given in (
-      count-is l (s .pre .0) cleared (rec s) w,
-      c .before .before .seal .ensures ∙ frame-is l (s .pre .0) cleared (rec s) w (λ k. bytes k .fits) fits ∙ rw (le-ltb _ _ fits),
-    )
+returns c = search needs
 
 pub pack-frame-spec : {M : Type 1} → statement M
 pack-frame-spec =
     tie.close
     (tie.spec
-    clear-u8-requires
-    sub-end
-    slice-relend-prefix-write-fields
-    slice-aggregate-write-fields
-    write-fields-requires
-    mul-if1
-    clear-u8-requires-2
+    mul-n
+    array-borrow-prefix-rows
+    slice-aggregate-packed
+    packed-requires
     same-length
-    returns
-    seal-requires
-    same-length-2
-    returns-2)
+    returns)

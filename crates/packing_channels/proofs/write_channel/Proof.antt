@@ -1,6 +1,6 @@
 -- `packing_channels::write_channel` meets its contract: the factors, then the side values. Assumes nothing.
 use native.Mathlib.Omega.{arith}
-use Rattle.bits.proofs.Runs.{writes-then}
+use Rattle.emission.proofs.Runs.{emits-then}
 use Rattle.rules.specs.Layout.{codedAt, sidesAt}
 use borrow.Author.Needs.{needs}
 use Rattle.packing_channels.proofs.write_channel.Statement.{statement}
@@ -32,7 +32,7 @@ returns c =
     let coded = c .before .before .before .before .before .before .before .before .before .before .coded-count .ensures .0 in
     let count = c .before .before .before .before .before .side-count .ensures .0 in
     let width = c .before .before .before .before .side-width .ensures .0 in
-    (rw (← coded, ← count, ← width) (writes-then (w .0) (v .0)), omega arith)
+    (rw (← coded, ← count, ← width) (emits-then (w .0) (v .0)), omega arith)
 
 pub write-channel-spec : {M : Type 1} → statement M
 write-channel-spec =

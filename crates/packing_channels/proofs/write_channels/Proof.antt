@@ -6,19 +6,20 @@ use Rattle.buffers.proofs.Build.{back-width}
 use Rattle.rules.specs.Layout.{kindAt, kindsOf}
 use Rattle.rules.specs.Record.{chanOf}
 use Rattle.rules.specs.Fields.{channelFields}
-use Rattle.rules_formats.proofs.Written.{Wrote, wrote-none, wrote-more, wrote-all, each-blocks}
+use Rattle.emission.proofs.Loops.{Sent, sent-none, sent-more, sent-all}
+use Rattle.rules_formats.proofs.Written.{each-blocks}
 use Rattle.packing_channels.proofs.write_channels.Statement.{statement}
 use Rattle.packing_channels.proofs.write_channels.Tie as tie
 
 abbrev Inv-loop : tie.InvT-loop
 Inv-loop payload₀ layout factors side channels at₀ c₀ payload at c =
-    (c ≤ channels) × Wrote (λ k. channelFields layout (kindAt layout k) (chanOf layout factors side k)) 1459 payload₀ (at₀ .at) c payload (at .at)
+    (c ≤ channels) × Sent (λ k. channelFields layout (kindAt layout k) (chanOf layout factors side k)) 1459 at₀ payload₀ c at payload
 
 abbrev μ-loop : tie.MeasureT-loop
 μ-loop payload₀ layout factors side channels at₀ c₀ payload at c = channels - c
 
 loop-holds : tie.Need-loop-holds Inv-loop μ-loop
-loop-holds c = (search needs, wrote-none _ _ _ _)
+loop-holds c = (search needs, sent-none _ _ _ _ (search needs))
 
 mul-f : tie.Need-mul-f Inv-loop μ-loop
 mul-f c = search needs
@@ -63,7 +64,7 @@ loop-again : tie.Need-loop-again Inv-loop μ-loop
 loop-again c =
     let l = c .before .before .before .before .before .before .before .loop in
     let w = c .before .before .write-channel .ensures in
-    (search needs, wrote-more _ _ _ _ (l .inv .1) (rw (back-width (l .c * 128) 128, back-width (l .c * 8) 8) at (w .0)) (w .1))
+    (search needs, sent-more _ _ _ _ (l .inv .1) (rw (back-width (l .c * 128) 128, back-width (l .c * 8) 8) at (w .0)) (w .1))
 
 same-length : tie.Need-same-length Inv-loop μ-loop
 same-length c = c .before .loop .inv .1 .run .same
@@ -74,7 +75,7 @@ returns c =
     let a = c .before .before .before .before .before .args in
     let l = c .before .loop in
     let blocks = each-blocks (channelFields (a .layout)) (kindAt (a .layout)) (chanOf (a .layout) (a .factors .now) (a .side .now)) (a .layout .channels) in
-    (wrote-all _ _ _ _ blocks (omega arith) (l .inv .1), omega (arith, l .inv .1 .bound))
+    (sent-all _ _ _ _ blocks (omega arith) (l .inv .1), omega (arith, l .inv .1 .bound))
 
 pub write-channels-spec : {M : Type 1} → statement M
 write-channels-spec =

@@ -1,7 +1,7 @@
 -- `packing_channels::write_scale_factors` meets its contract, with width 0 and with another. Assumes nothing.
 use mathlib.Core.List.{append-nil}
 use native.Mathlib.Omega.{arith}
-use Rattle.bits.proofs.Runs.{writes-then}
+use Rattle.emission.proofs.Runs.{emits-then}
 use Rattle.packing_channels.proofs.Walks.{no-factors}
 use borrow.Author.Needs.{needs}
 use Rattle.packing_channels.proofs.write_scale_factors.Statement.{statement}
@@ -34,7 +34,7 @@ returns-2 : tie.Need-returns-2
 returns-2 c =
     let w = c .before .before .before .before .before .before .before .write .ensures in
     let v = c .before .before .write-factors .ensures in
-    (rw (← c .before .before .before .before .before .before .before .before .before .calculate-optimal-delta-length .ensures .0) (writes-then (w .0) (v .0)), omega arith)
+    (rw (← c .before .before .before .before .before .before .before .before .before .calculate-optimal-delta-length .ensures .0) (emits-then (w .0) (v .0)), omega arith)
 
 pub write-scale-factors-spec : {M : Type 1} → statement M
 write-scale-factors-spec =

@@ -1,75 +1,44 @@
--- `packing_codes::write_spectra` meets its contract. The invariant: the first b bands are written. Assumes nothing.
-use Prim.Native.Nat.{_-_, _≤_}
+-- `packing_codes::write_spectra` meets its contract: the columns are filled, then emitted. Assumes nothing.
+use mathlib.Core.Path.{_≡_, sym, ap, ap₂, _∙_, subst}
 use native.Mathlib.Omega.{arith}
+use Prim.Native.Nat.{_+_, _*_, _≤_}
+use lib.ListN.{length, drop}
+use Rattle.packing_codes.proofs.Walks.{columns-bits, columns-fit}
 use borrow.Author.Needs.{needs}
-use lib.IntN.{pos}
-use lib.ListN.{getD}
-use mir.Syntax.{w32}
-use mir.ValLaws.{toZ-ofZ}
-use Rattle.rules.specs.Fields.{codeBits}
-use Rattle.rules_formats.proofs.Written.{Wrote, wrote-none, wrote-more, wrote-all, front-blocks}
 use Rattle.packing_codes.proofs.write_spectra.Statement.{statement}
 use Rattle.packing_codes.proofs.write_spectra.Tie as tie
 
-abbrev Inv-loop : tie.InvT-loop
-Inv-loop payload₀ resolutions codes coded at₀ b₀ payload at b =
-    (b ≤ coded) × Wrote (λ k. codeBits (getD resolutions k 0) (getD codes k (pos 0))) 12 payload₀ (at₀ .at) b payload (at .at)
+fields-of-requires : tie.Need-fields-of-requires
+fields-of-requires c κs = search needs
 
-abbrev μ-loop : tie.MeasureT-loop
-μ-loop payload₀ resolutions codes coded at₀ b₀ payload at b = coded - b
+put-all-requires : tie.Need-put-all-requires
+put-all-requires c κs =
+    let s = c .before .before .before .before .before .before .before .before .before .before .before .before .before .before in
+    let a = s .args in
+    let f = c .before .before .before .before .before .before .before .fields-of in (
+      (s .pre .0 .5, search needs, search needs, omega (arith, s .pre .0 .4), s .pre .0 .0, omega (arith, s .pre .0 .1)),
+      rw (f .ensures .0, f .ensures .1) (columns-fit (a .rows .now) (a .codes .now) (a .n) (drop (a .n) (a .words .now)) (drop (a .n) (a .lengths .now)) (s .pre .1)),
+    )
 
-loop-holds : tie.Need-loop-holds Inv-loop μ-loop
-loop-holds c = (search needs, wrote-none _ _ _ _)
+same-length : tie.Need-same-length
+same-length c = search needs
 
-shared-slice-read-write-code : tie.Need-shared-slice-read-write-code Inv-loop μ-loop
-shared-slice-read-write-code c = search needs
+same-length-2 : tie.Need-same-length-2
+same-length-2 c = search needs
 
-mul-write-code : tie.Need-mul-write-code Inv-loop μ-loop
-mul-write-code c = search needs
+same-length-3 : tie.Need-same-length-3
+same-length-3 c = search needs
 
-shared-slice-copy-out-write-code : tie.Need-shared-slice-copy-out-write-code Inv-loop μ-loop
-shared-slice-copy-out-write-code c = search needs
-
-write-code-requires : tie.Need-write-code-requires Inv-loop μ-loop
-write-code-requires c κs = (search needs, c .before .before .before .before .before .before .before .pre .1 (c .before .before .before .before .loop .b))
-
-add-b : tie.Need-add-b Inv-loop μ-loop
-add-b c = search needs
-
-loop-less : tie.Need-loop-less Inv-loop μ-loop
-loop-less c = search needs
-
-loop-again : tie.Need-loop-again Inv-loop μ-loop
-loop-again c =
-    let a = c .before .before .before .before .before .before .before .before .before .before .args in
-    let l = c .before .before .before .before .before .before .before .loop in
-    let w = c .before .before .write-code .ensures in
-    let back = toZ-ofZ w32 (getD (a .codes .now) (l .b) (pos 0)) (record { sfits = c .before .before .before .write-code-arg2 .given }) in
-    (search needs, wrote-more _ _ _ _ (l .inv .1) (rw back at (w .0)) (w .1))
-
-same-length : tie.Need-same-length Inv-loop μ-loop
-same-length c = c .before .loop .inv .1 .run .same
-
-returns : tie.Need-returns Inv-loop μ-loop
+returns : tie.Need-returns
 returns c =
-    let a = c .before .before .before .before .args in
-    let l = c .before .loop in
-    let blocks = front-blocks codeBits 0 (pos 0) (a .resolutions .now) (a .codes .now) (a .coded) (omega arith) (omega arith) in
-    (wrote-all _ _ _ _ blocks (omega arith) (l .inv .1), omega (arith, l .inv .1 .bound))
+    let s = c .before .before .before .before .before .before .before .before .before .before .before .before .before .before .before .before .before in
+    let a = s .args in
+    let f = c .before .before .before .before .before .before .before .before .before .before .fields-of in
+    let w = c .before .before .put-all .ensures in
+    let e = columns-bits (a .rows .now) (a .codes .now) (a .n) (drop (a .n) (a .words .now)) (drop (a .n) (a .lengths .now)) (omega (arith, s .pre .0 .2, s .pre .0 .4)) (omega (arith, s .pre .0 .3, s .pre .0 .4)) in
+    (rw (f .ensures .0, f .ensures .1, e) at (w .0), omega (arith, w .1, s .pre .0 .4))
 
 pub write-spectra-spec : {M : Type 1} → statement M
 write-spectra-spec =
     tie.close
-    (tie.spec
-    Inv-loop
-    μ-loop
-    loop-holds
-    shared-slice-read-write-code
-    mul-write-code
-    shared-slice-copy-out-write-code
-    write-code-requires
-    add-b
-    loop-less
-    loop-again
-    same-length
-    returns)
+    (tie.spec fields-of-requires put-all-requires same-length same-length-2 same-length-3 returns)

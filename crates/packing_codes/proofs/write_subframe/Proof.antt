@@ -1,32 +1,41 @@
--- `packing_codes::write_subframe` meets its contract. The invariant: the first c channels are written. Assumes nothing.
-use mathlib.Core.Path.{refl}
-use Prim.Native.Nat.{_+_, _-_, _*_, _≤_}
+-- `packing_codes::write_subframe` meets its contract. The invariant: the first c channels are there. Assumes nothing.
+use mathlib.Core.Path.{_≡_, refl, sym, ap, _∙_}
+use Prim.Native.Nat.{ℕ, _+_, _-_, _*_, _/_, _≤_, _<_}
 use native.Mathlib.Omega.{arith}
 use borrow.Author.Needs.{needs}
+use lib.ListN.{length, take, drop}
 use Rattle.buffers.proofs.Build.{back-width}
-use Rattle.buffers.proofs.Most.{part-most}
+use Rattle.emission.proofs.Loops.{Sent, sent-none, sent-more, sent-all}
 use Rattle.rules.specs.Format.{eachBits}
-use Rattle.rules.specs.Record.{codesIn}
-use Rattle.resolutions.specs.Coded.{codedResolutions}
-use Rattle.rules.specs.Fields.{codeBits}
+use Rattle.rules.specs.Layout.{codedAt}
 use Rattle.rules.proofs.Cuts.{subframe-cut}
 use Rattle.rules.proofs.LentRows.{next-le, nearer, next-fits}
-use Rattle.rules_formats.proofs.Written.{Wrote, wrote-none, wrote-more, wrote-all, each-blocks}
+use Rattle.rules_formats.proofs.Written.{each-blocks}
+use Rattle.packing_codes.specs.Columns.{ruleBits, AllRuled, padded, paddedRows, paddedCodes}
 use Rattle.packing_codes.proofs.write_subframe.Statement.{statement}
 use Rattle.packing_codes.proofs.write_subframe.Tie as tie
 
 abbrev Inv-loop : tie.InvT-loop
-Inv-loop payload₀ layout subframe resolutions codes channels at₀ c₀ payload at c =
-    (c ≤ channels) × Wrote (λ k. eachBits codeBits (codedResolutions layout resolutions k) (codesIn layout codes subframe k)) 1536 payload₀ (at₀ .at) c payload (at .at)
+Inv-loop payload₀ layout subframe rows codes words₀ lengths₀ channels at₀ c₀ payload words lengths at c =
+    (c ≤ channels)
+    × Sent (λ k. eachBits ruleBits (paddedRows layout rows k) (paddedCodes layout codes subframe k)) 1536 at₀ payload₀ c at payload
+    × (length words ≡ length words₀)
+    × (length lengths ≡ length lengths₀)
 
 abbrev μ-loop : tie.MeasureT-loop
-μ-loop payload₀ layout subframe resolutions codes channels at₀ c₀ payload at c = channels - c
+μ-loop payload₀ layout subframe rows codes words₀ lengths₀ channels at₀ c₀ payload words lengths at c = channels - c
 
 loop-holds : tie.Need-loop-holds Inv-loop μ-loop
-loop-holds c = (search needs, wrote-none _ _ _ _)
+loop-holds c = (search needs, sent-none _ _ _ _ (c .before .before .before .before .pre .1 .0 .0), refl, refl)
 
 coded-count-requires : tie.Need-coded-count-requires Inv-loop μ-loop
 coded-count-requires c κs = search needs
+
+add-coded : tie.Need-add-coded Inv-loop μ-loop
+add-coded c = search needs
+
+mul-coded : tie.Need-mul-coded Inv-loop μ-loop
+mul-coded c = search needs
 
 mul-r : tie.Need-mul-r Inv-loop μ-loop
 mul-r c = search needs
@@ -43,6 +52,9 @@ add-s c = search needs
 add-write-spectra : tie.Need-add-write-spectra Inv-loop μ-loop
 add-write-spectra c = search needs
 
+mul-write-spectra : tie.Need-mul-write-spectra Inv-loop μ-loop
+mul-write-spectra c = search needs
+
 sub-write-spectra : tie.Need-sub-write-spectra Inv-loop μ-loop
 sub-write-spectra c = search needs
 
@@ -55,8 +67,8 @@ part-write-spectra-end c = search needs
 add-write-spectra-2 : tie.Need-add-write-spectra-2 Inv-loop μ-loop
 add-write-spectra-2 c = search needs
 
-mul-write-spectra : tie.Need-mul-write-spectra Inv-loop μ-loop
-mul-write-spectra c = search needs
+mul-write-spectra-2 : tie.Need-mul-write-spectra-2 Inv-loop μ-loop
+mul-write-spectra-2 c = search needs
 
 sub-write-spectra-2 : tie.Need-sub-write-spectra-2 Inv-loop μ-loop
 sub-write-spectra-2 c = search needs
@@ -69,37 +81,50 @@ part-write-spectra-end-2 c = search needs
 
 write-spectra-requires : tie.Need-write-spectra-requires Inv-loop μ-loop
 write-spectra-requires c κs =
-    let at = c .before .before .before .before .before .loop .c * 128 in
-    let s = c .before .before .before .before .before .before .before .before in
-    (search needs, part-most 15 at (at + 128 - at) (s .args .resolutions .now) (s .pre .1 .1))
+    let s = c .before .before .before .before .before .before .before .before .before .before .before .before in
+    let l = c .before .before .before .before .before .before .before .loop in
+    let k = c .before .before .before .before .before .coded-count .ensures in
+    let ruled = s .pre .1 .1 (l .c) (s .args .subframe) (c .before .before .before .before .before .before .loop-test .taken) (s .pre .1 .0 .2) in
+    let at = l .c * 1024 + s .args .subframe * 128 in
+    let n = c .before .before .before .before .before .coded-count .result in
+    let few : (n + 7) / 8 * 8 ≤ 128 = omega (arith, k .1, s .pre .0 .bands) in
+    let all : AllRuled ((n + 7) / 8 * 8) (take 128 (drop (l .c * 128) (s .args .rows .now))) (take 128 (drop at (s .args .codes .now))) =
+    λ b h. rw (subframe-cut (s .args .codes .now) (l .c) (s .args .subframe) (s .pre .1 .0 .2)) at (ruled b (omega arith)) in (
+      (l .inv .1 .run .few, omega (arith, l .inv .1 .bound, s .pre .0 .few), search needs, search needs, few, omega arith, omega (arith, l .inv .2), omega (arith, l .inv .3)),
+      rw (back-width (l .c * 128) 128, back-width at 128) all,
+    )
 
 add-c : tie.Need-add-c Inv-loop μ-loop
-add-c c =
-    let start = c .before .before .before .before .before .before .before .before .before .before .before in
-    next-fits _ _ (c .before .before .before .before .before .before .before .loop-test .taken) 16 refl (start .pre .0 .few)
+add-c c = next-fits _ _ (c .before .before .before .before .before .before .before .before .before .before .before .before .before .loop-test .taken) 16 refl (c .before .before .before .before .before .before .before .before .before .before .before .before .before .before .before .before .before .before .before .pre .0 .few)
 
 loop-less : tie.Need-loop-less Inv-loop μ-loop
-loop-less c = nearer _ _ (c .before .before .before .before .before .before .before .loop-test .taken)
+loop-less c = nearer _ _ (c .before .before .before .before .before .before .before .before .before .before .before .before .before .loop-test .taken)
 
 loop-again : tie.Need-loop-again Inv-loop μ-loop
 loop-again c =
-    let s = c .before .before .before .before .before .before .before .before .before .before .before in
-    let l = c .before .before .before .before .before .before .before .before .loop in
-    let w = c .before .before .write-spectra .ensures in
+    let s = c .before .before .before .before .before .before .before .before .before .before .before .before .before .before .before .before .before .before .before in
+    let l = c .before .before .before .before .before .before .before .before .before .before .before .before .before .before .loop in
+    let w = c .before .before .before .before .before .before .write-spectra .ensures in
     let at = l .c * 1024 + s .args .subframe * 128 in
-    let h = rw (back-width (l .c * 128) 128, back-width at 128, c .before .before .before .before .before .before .coded-count .ensures .0) at (w .0) in
-    let next = next-le _ _ (c .before .before .before .before .before .before .before .loop-test .taken) in
-    (next, wrote-more _ _ _ _ (l .inv .1) (rw (subframe-cut (s .args .codes .now) (l .c) (s .args .subframe) (s .pre .1 .0 .1)) h) (w .1))
+    let h = rw (back-width (l .c * 128) 128, back-width at 128, c .before .before .before .before .before .before .before .before .before .before .before .before .coded-count .ensures .0) at (w .0) in
+    let next = next-le _ _ (c .before .before .before .before .before .before .before .before .before .before .before .before .before .loop-test .taken) in
+    (next, sent-more _ _ _ _ (l .inv .1) (rw (subframe-cut (s .args .codes .now) (l .c) (s .args .subframe) (s .pre .1 .0 .2)) h) (w .1), search needs, search needs)
 
 same-length : tie.Need-same-length Inv-loop μ-loop
 same-length c = c .before .loop .inv .1 .run .same
 
+same-length-2 : tie.Need-same-length-2 Inv-loop μ-loop
+same-length-2 c = c .before .loop .inv .2
+
+same-length-3 : tie.Need-same-length-3 Inv-loop μ-loop
+same-length-3 c = c .before .loop .inv .3
+
 returns : tie.Need-returns Inv-loop μ-loop
 returns c =
-    let a = c .before .before .before .before .args in
+    let a = c .before .before .before .before .before .before .args in
     let l = c .before .loop in
-    let blocks = each-blocks (eachBits codeBits) (codedResolutions (a .layout) (a .resolutions .now)) (codesIn (a .layout) (a .codes .now) (a .subframe)) (a .layout .channels) in
-    (wrote-all _ _ _ _ blocks (omega arith) (l .inv .1), omega (arith, l .inv .1 .bound))
+    let blocks = each-blocks (eachBits ruleBits) (paddedRows (a .layout) (a .rows .now)) (paddedCodes (a .layout) (a .codes .now) (a .subframe)) (a .layout .channels) in
+    (sent-all _ _ _ _ blocks (omega arith) (l .inv .1), omega (arith, l .inv .1 .bound, c .before .before .before .before .before .before .pre .0 .few))
 
 pub write-subframe-spec : {M : Type 1} → statement M
 write-subframe-spec =
@@ -109,16 +134,19 @@ write-subframe-spec =
     μ-loop
     loop-holds
     coded-count-requires
+    add-coded
+    mul-coded
     mul-r
     mul-s
     mul-s-2
     add-s
     add-write-spectra
+    mul-write-spectra
     sub-write-spectra
     part-write-spectra-start
     part-write-spectra-end
     add-write-spectra-2
-    mul-write-spectra
+    mul-write-spectra-2
     sub-write-spectra-2
     part-write-spectra-start-2
     part-write-spectra-end-2
@@ -127,4 +155,6 @@ write-subframe-spec =
     loop-less
     loop-again
     same-length
+    same-length-2
+    same-length-3
     returns)

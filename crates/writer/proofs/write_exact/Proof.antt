@@ -1,9 +1,11 @@
 -- `writer::write_exact` meets its contract. Assumes nothing.
-use mathlib.Core.Path.{_≡_, sym, _∙_}
+use mathlib.Core.Path.{_≡_, sym, _∙_, subst}
 use mathlib.Core.Bool.{true}
 use native.Mathlib.Omega.{arith}
 use borrow.Author.Needs.{needs}
 use Rattle.rules.specs.Record.{legalRecord, LegalHead}
+use Rattle.packing_codes.specs.Columns.{AllRanged}
+use Rattle.packing_codes.proofs.Ranges.{legal-ranged}
 use Rattle.rules_demands.proofs.LegalRecords.{record-held}
 use Rattle.writer.proofs.Answers.{run-illegal, run-ends}
 use Rattle.writer.proofs.write_exact.Statement.{statement}
@@ -22,7 +24,8 @@ pack-frame-requires c κs =
     let t = c .before .before in
     let s = t .before .before .before .before .before .before .before .before .before in
     let h : LegalHead (s .args .level) (s .args .boundary) = record-held _ _ _ _ _ _ (s .pre .0) (legal t) .head in
-    (s .pre .0, ((omega arith, omega arith), ((s .pre .1 .0, s .pre .1 .1, s .pre .1 .2), (t .before .before .before .is-legal .ensures .1 (t .if1 .taken), s .pre .1 .4))))
+    let resolved = t .before .before .before .is-legal .ensures .1 (t .if1 .taken) in
+    (s .pre .0, ((omega arith, omega arith), ((s .pre .1 .0, s .pre .1 .1, s .pre .1 .2), ((resolved, s .pre .1 .4), subst (λ rs. AllRanged (s .args .layout) rs (s .args .codes .now)) (sym resolved) (legal-ranged _ _ _ _ _ _ (legal t))))))
 
 sub-answered : tie.Need-sub-answered
 sub-answered c = search needs

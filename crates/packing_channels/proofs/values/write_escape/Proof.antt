@@ -1,6 +1,6 @@
 -- `packing_channels::values::write_escape` meets its contract: two fields, one after the other. Assumes nothing.
 use native.Mathlib.Omega.{arith}
-use Rattle.bits.proofs.Runs.{writes-then}
+use Rattle.emission.proofs.Runs.{emits-then}
 use borrow.Author.Needs.{needs}
 use Rattle.packing_channels.proofs.values.write_escape.Statement.{statement}
 use Rattle.packing_channels.proofs.values.write_escape.Tie as tie
@@ -24,7 +24,7 @@ returns : tie.Need-returns
 returns c =
     let first = c .before .before .before .before .before .before .write .ensures in
     let second = c .before .before .write2 .ensures in
-    (writes-then (rw (c .before .before .before .before .before .before .before .ones .ensures) at (first .0)) (second .0), omega arith)
+    (emits-then (rw (c .before .before .before .before .before .before .before .ones .ensures) at (first .0)) (second .0), omega arith)
 
 pub write-escape-spec : {M : Type 1} → statement M
 write-escape-spec =

@@ -1,6 +1,6 @@
 -- `packing_channels::values::write_head` meets its contract: three fields. Assumes nothing.
 use native.Mathlib.Omega.{arith}
-use Rattle.bits.proofs.Runs.{writes-then}
+use Rattle.emission.proofs.Runs.{emits-then}
 use borrow.Author.Needs.{needs}
 use Rattle.packing_channels.proofs.values.write_head.Statement.{statement}
 use Rattle.packing_channels.proofs.values.write_head.Tie as tie
@@ -28,7 +28,7 @@ returns c =
     let sync = c .before .before .before .before .before .before .before .before .before .before .write .ensures in
     let level = c .before .before .before .before .before .before .write2 .ensures in
     let boundary = c .before .before .write3 .ensures in
-    (writes-then (sync .0) (writes-then (level .0) (boundary .0)), omega arith)
+    (emits-then (sync .0) (emits-then (level .0) (boundary .0)), omega arith)
 
 pub write-head-spec : {M : Type 1} → statement M
 write-head-spec =

@@ -3,6 +3,7 @@ use mathlib.Core.Path.{_∙_, ap}
 use borrow.Author.Needs.{needs}
 use Rattle.rules.specs.Code.{allCodes}
 use Rattle.resolutions.proofs.Bands.{resolutions-most}
+use Rattle.packing_codes.proofs.Ranges.{made-ranged}
 use Rattle.stage.proofs.run.delivery.quantize.Statement.{statement}
 use Rattle.stage.proofs.run.delivery.quantize.Tie as tie
 
@@ -24,7 +25,10 @@ pack-frame-requires c κs =
         s .pre .1 .0,
         (
           (s .pre .1 .1 .0 .1, s .pre .1 .1 .0 .2, q .kept .1 .1 .1 .0 ∙ s .pre .1 .1 .1 .1),
-          (c .before .before .before .before .before .before .before .before .before .calculate-frame-resolutions .ensures, s .pre .1 .1 .1 .2),
+          (
+            (c .before .before .before .before .before .before .before .before .before .calculate-frame-resolutions .ensures, s .pre .1 .1 .1 .2),
+            rw (q .ensures) (made-ranged _ _ _),
+          ),
         ),
       ),
     )
