@@ -3,11 +3,11 @@ use mathlib.Core.Path.{_≡_, refl}
 use mathlib.Core.List.{[], _∷_, _++_, map}
 use mathlib.Core.Bool.{Bool, true, false}
 use Prim.Native.Nat.{ℕ}
-use lib.ListN.{replicate}
+use lib.ListN.{length, replicate}
 use Rattle.bits.specs.Bits.{bits, value, bitsOf}
 use Rattle.buffers.specs.Walk.{build}
 use Rattle.crc.specs.Check.{checksum}
-use Rattle.numbers.specs.Numbers.{highFirst}
+use Rattle.numbers.specs.Numbers.{highFirst, ofHigh}
 use Rattle.rules.specs.Layout.{legalLayout, bandsPerGroup, groupCount, ceilDiv}
 use Rattle.rules.specs.Refusals.{delivered, refused}
 use Rattle.rules.specs.declared.ChannelType.the-variants.{Discrete}
@@ -15,7 +15,7 @@ use Rattle.rules.specs.declared.Layout.{Layout}
 use Rattle.rules_files.specs.declared.header.LoopPoints.{LoopPoints}
 use Rattle.rules_files.specs.declared.header.LoopPoints.the-variants.{Absent, Given}
 use Rattle.rules_files.specs.declared.header.Stream.{Stream}
-use Rattle.rules_files.specs.FileHeader.{channelMapping, loopFields, loopPieces, afterLoop, pieces, byteOf, headerOf}
+use Rattle.rules_files.specs.FileHeader.{channelMapping, validMappings, loopFields, loopPieces, afterLoop, pieces, byteOf, headerOf}
 use Rattle.rules_files.specs.declared.header.HeaderAnswer.the-variants as answers
 use Rattle.rules_files.specs.FileHeader.{headerOutcome, fitsPoints, fitsHeader, headerWritten}
 
@@ -109,3 +109,10 @@ pub header-numbers :
     map headerOutcome (answers.Delivered ∷ answers.BadLayout ∷ answers.ShortBuffer ∷ answers.BadHeader ∷ []) ≡ delivered [] ∷ refused 1 0 ∷ refused 2 0 ∷ refused 16 0 ∷ []
 unfolding headerOutcome
 header-numbers = refl
+
+-- the Rust's second table, a byte an entry: which configurations are valid for 1 to 8 channels
+pub valid-row : (map ofHigh validMappings
+    ≡ 0x0001000000000000 ∷ 0x0100000000000000 ∷ 0x0001010001000000 ∷ 0x0100000100010000 ∷ 0x0001010000000001 ∷ 0x0000000100000000 ∷ 0x0000000000000001
+    ∷ 0x0000000100000000 ∷ []) × (map length validMappings ≡ replicate 8 8)
+unfolding validMappings ofHigh
+valid-row = (refl, refl)

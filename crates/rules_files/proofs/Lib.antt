@@ -3,6 +3,7 @@ pub mod Pieces
 pub mod HeaderFitting
 pub mod HeaderTheorems
 pub mod HeaderExamples
+pub mod HeaderFields
 -- A7: entries and lists, worked examples, and the theorems of the list's calls
 pub mod Entries
 pub mod Lists

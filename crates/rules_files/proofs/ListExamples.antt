@@ -126,14 +126,17 @@ pub bad-read : (map (λ list. listRead list (replicate 7 5) .outcome) badLists �
 unfolding badLists listRead readAs judgedList isMarked legalEntries legalEntry every entriesOf blocks entryAt entryFrom ofHigh
 bad-read = (refl, refl)
 
--- the writer: three numbers for one frame, sixteen bytes, a level of 512, in this order; what is lent stays. Then a longer buffer, whose rest stays
+-- the writer: three numbers for one frame, whether its bytes have room or not; sixteen bytes; a level of 512. What is lent stays. Then a longer buffer, whose
+-- rest stays
 abbrev wrote : (entries : List ℕ) (bytes : ℕ) → ListLeft
 wrote entries bytes = listWritten 1 entries (replicate bytes 5)
 
 abbrev kept : (number bytes : ℕ) → ListLeft
 kept number bytes = record { outcome = refused number 0; list = replicate bytes 5 }
 
-pub bad-written : wrote (512 ∷ 0 ∷ 0 ∷ []) 16 ∷ wrote (512 ∷ 0 ∷ 0 ∷ 0 ∷ []) 16 ∷ wrote (512 ∷ 0 ∷ 0 ∷ 0 ∷ []) 17 ∷ [] ≡ kept 2 16 ∷ kept 2 16 ∷ kept 21 17 ∷ []
+pub bad-written :
+    wrote (512 ∷ 0 ∷ 0 ∷ []) 16 ∷ wrote (0 ∷ 0 ∷ 0 ∷ []) 17 ∷ wrote (512 ∷ 0 ∷ 0 ∷ 0 ∷ []) 16 ∷ wrote (512 ∷ 0 ∷ 0 ∷ 0 ∷ []) 17 ∷ []
+    ≡ kept 2 16 ∷ kept 2 17 ∷ kept 2 16 ∷ kept 21 17 ∷ []
 unfolding listWritten legalEntries legalEntry every entryAt
 bad-written = refl
 

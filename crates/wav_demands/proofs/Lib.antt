@@ -6,3 +6,4 @@ pub mod Takes
 pub mod Outcomes
 pub mod Worked
 pub mod Orders
+pub mod Exactly
