@@ -20,3 +20,7 @@ target/release/replay-vectors vec/stereo.vec
 target/release/compare-stereo --small
 target/release/replay-vectors vec/line.vec
 target/release/compare-line --small
+# through the program too, where it is built
+program=$(cd .. && pwd)/target/hcaframe
+if [ -x "$program" ]; then export HCAFRAME="$program"; fi
+target/release/compare-convert --small

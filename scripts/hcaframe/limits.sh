@@ -11,7 +11,9 @@ commands() {
         "$program" list --list frames.list --svg x.svg --frame-size 200 >out 2>err </dev/null &&
         "$program" encode $sixteen --spectra sixteen.f32 --out x.hca >out 2>err </dev/null &&
         "$program" read $sixteen --frames x.hca --records x.bin >out 2>err </dev/null &&
-        "$program" write $sixteen --records x.bin --out y.hca >out 2>err </dev/null && same x.hca y.hca
+        "$program" write $sixteen --records x.bin --out y.hca >out 2>err </dev/null && same x.hca y.hca &&
+        "$program" convert "$here/sample/pair.wav" --bitrate 72000 --out x.hca >out 2>err </dev/null &&
+        "$program" bank --in "$here/sample" --out made --bitrate 72000 --force >out 2>err </dev/null && same x.hca made/pair.hca
 }
 sixteen='--kinds DDDDDDDDDDDDDDDD --base 100 --stereo 0 --total 128 --frame-size 65535'
 i=0

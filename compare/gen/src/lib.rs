@@ -1,6 +1,7 @@
 //! Cases for the comparing programs. A case is a pure function of seed and
 //! index, so that one number names it.
 pub mod bands;
+pub mod convert;
 pub mod corners;
 pub mod header;
 pub mod line;

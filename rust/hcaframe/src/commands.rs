@@ -1,10 +1,12 @@
 //! The commands, one a module.
+mod bank;
 mod check;
+mod convert;
 mod encode;
 mod header;
 mod list;
 mod read;
-mod wav;
+pub mod wav;
 mod write;
 
 use crate::files::{have_own_names, Ended};
@@ -20,6 +22,8 @@ pub fn run(options: &Options, text: &mut Text) -> Result<Ended, Stop> {
         have_own_names(options)?;
         return match options.command {
             Command::Wav => wav::run(options, text),
+            Command::Convert => convert::run(options, text),
+            Command::Bank => bank::run(options, text),
             _ => list::run(options, text),
         };
     }

@@ -6,7 +6,8 @@ use std::fmt::Write;
 const COMMANDS: &str = "\
 encode makes frames from spectra, read tells what frames hold, write makes frames from records,
 check tells which frames are good, header makes the header of an HCA file or the whole file,
-wav reads a WAV file, list tells what a list of frames holds. More: hcaframe COMMAND --help; hcaframe --version
+wav reads a WAV file, list tells what a list of frames holds, convert makes an HCA file of a WAV file, bank makes one of
+each WAV file in a folder. More: hcaframe COMMAND --help; hcaframe --version
 ";
 
 const LAYOUT: &str = "\
@@ -29,6 +30,24 @@ Status: 0 all is well, 1 a frame, a record, a WAV file or a list was refused, 2 
 A closed pipe ends the text, not the work. Where standard output is full or closed, the status is 2, and what is whole is said.
 ";
 
+/// What is proved of a conversion and what is not is said here and nowhere else in the help.
+const CONVERT: &str = "\
+Makes the HCA file of a WAV file. The word --in may be left out. The published encoder chooses the layout for the bit rate.
+Proved: reading the WAV file, mixing pairs, each frame, the header and the list are calls of the proved library. Not proved:
+the layout's choice, the number of frames and the MDCT, which are taken from the published encoder's source; runs show that the
+file is that of its encode_wav_to_hca, byte for byte. What it takes and convert refuses: samples that are NaN or infinite
+(refusal 25), of other depths than 16, 24 and 32 bits (24), more than 16777216 of them (30), and a loop that does not lie
+within the take (status 2). Samples beyond -1 and 1 are clipped, as there; so refusal 17 does not come. Not here: a cipher.
+";
+
+const BANK: &str = "\
+Makes the HCA file and the list of each take in a folder, by what convert does and with the same bytes, whatever the jobs.
+A take that is refused is told with its reason, and the others go on. One is skipped whose files are newer than it and were made
+with the same words, as bank.words in the output folder says; so a run that was cut off goes on, and what it left behind of its
+own takes is removed. Links to folders are not followed. Two runs at a time share a folder by --shard, and not without it.
+The end tells takes done, skipped and refused, their frames, bytes and highest level, and those of which bands were removed.
+";
+
 /// What a command does.
 fn purpose(command: Command) -> &'static str {
     match command {
@@ -49,6 +68,8 @@ fn purpose(command: Command) -> &'static str {
             "Reads a WAV file of up to 1073741824 bytes and tells its channels, rate, depth and samples, and the peak and the mean\n\
              of the magnitudes of all samples: six decimals, rounded, and the float's pattern in hex.\n"
         }
+        Command::Convert => CONVERT,
+        Command::Bank => BANK,
         Command::List => {
             "Tells the numbers of each frame that a list holds, and the highest level, the most pairs removed and all bits.\n"
         }
@@ -60,6 +81,8 @@ fn call(row: &Row, one: &Use) -> String {
     match one.value {
         Value::Nothing => row.word.to_string(),
         Value::Number => format!("{} N", row.word),
+        Value::Shard => format!("{} K/N", row.word),
+        Value::Folder => format!("{} FOLDER", row.word),
         Value::Kinds => format!("{} KINDS", row.word),
         Value::Input | Value::Output => format!("{} FILE", row.word),
     }
@@ -130,7 +153,10 @@ pub fn usage(command: Option<Command>) -> String {
     if command.takes_layout() {
         line.push_str(" LAYOUT");
     }
-    for row in OPTIONS.iter().filter(|row| !is_in_layout(command, row.name)) {
+    if let Some(name) = command.bare() {
+        let _ = write!(line, " [{}] FILE", name.word());
+    }
+    for row in OPTIONS.iter().filter(|row| !is_in_layout(command, row.name) && command.bare() != Some(row.name)) {
         if let Some(text) = row.of(command).and_then(|one| piece(command, row, one)) {
             let _ = write!(line, " {text}");
         }
@@ -194,6 +220,8 @@ usage: hcaframe header LAYOUT --rate N --count N --padding N [--loop-start N --l
 [--frames FILE [--unchecked]] --out FILE [--quiet]
 usage: hcaframe wav --in FILE [--samples FILE] [--quiet]
 usage: hcaframe list --list FILE [--frame N] [--svg FILE [--frame-size N]] [--quiet]
+usage: hcaframe convert [--in] FILE --bitrate N [--loop-start N --loop-end N] --out FILE [--list FILE] [--quiet]
+usage: hcaframe bank --bitrate N --in FOLDER --out FOLDER [--jobs N] [--shard K/N] [--report FILE] [--force] [--quiet]
 ";
         assert_eq!(all, expected);
     }

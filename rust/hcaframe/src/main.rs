@@ -1,9 +1,11 @@
 //! hcaframe, the command line over the proved library: files of spectra, frames, records, lists and WAV.
 //!
-//! Every step of the codec is a call of the crate `hca_frame`. What is here reads words and files, tells numbers and sees to it that an
+//! Every step of the codec is a call of the crate `hca_frame`; of a conversion, the layout and the MDCT are the published encoder's, by the crate
+//! `hca_convert`. What is here reads words and files, tells numbers and sees to it that an
 //! output is whole or not there.
 #![forbid(unsafe_code)]
 
+mod bank;
 mod commands;
 mod files;
 mod help;
@@ -18,6 +20,7 @@ mod progress;
 mod records;
 mod report;
 mod stop;
+mod take;
 mod text;
 mod wav_chunks;
 

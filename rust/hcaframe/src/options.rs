@@ -1,7 +1,7 @@
 //! The commands and their options. One table: the parser and the help are both made from it.
-use Command::{Check, Encode, Header, List, Read, Wav, Write};
+use Command::{Bank, Check, Convert, Encode, Header, List, Read, Wav, Write};
 use Need::{Either, Needed, Optional, With};
-use Value::{Input, Kinds, Nothing, Number, Output};
+use Value::{Folder, Input, Kinds, Nothing, Number, Output, Shard};
 
 /// What the first word asks for.
 #[derive(Clone, Copy, Debug, PartialEq, Eq)]
@@ -13,10 +13,12 @@ pub enum Command {
     Header,
     Wav,
     List,
+    Convert,
+    Bank,
 }
 
 impl Command {
-    pub const ALL: [Command; 7] = [Encode, Read, Write, Check, Header, Wav, List];
+    pub const ALL: [Command; 9] = [Encode, Read, Write, Check, Header, Wav, List, Convert, Bank];
 
     pub fn word(self) -> &'static str {
         match self {
@@ -27,6 +29,8 @@ impl Command {
             Header => "header",
             Wav => "wav",
             List => "list",
+            Convert => "convert",
+            Bank => "bank",
         }
     }
 
@@ -37,6 +41,14 @@ impl Command {
     /// Is a layout among its words?
     pub fn takes_layout(self) -> bool {
         Name::Layout.of_command(self).is_some()
+    }
+
+    /// The option whose value may stand without its word.
+    pub fn bare(self) -> Option<Name> {
+        match self {
+            Convert => Some(Name::In),
+            _ => None,
+        }
     }
 }
 
@@ -55,6 +67,7 @@ pub enum Name {
     Rate,
     Count,
     Padding,
+    Bitrate,
     LoopStart,
     LoopEnd,
     AnyKinds,
@@ -67,6 +80,10 @@ pub enum Name {
     List,
     Frame,
     Svg,
+    Jobs,
+    Shard,
+    Report,
+    Force,
     AllowEmpty,
     Quiet,
 }
@@ -81,6 +98,9 @@ pub enum Value {
     Input,
     /// A file that is written.
     Output,
+    Folder,
+    /// K/N, a part of N.
+    Shard,
 }
 
 /// Whether a command must be given an option.
@@ -121,7 +141,7 @@ const FRAMES: &[Command] = &[Encode, Read, Write, Check, Header];
 
 // The words of a layout have a text of their own in the help.
 #[rustfmt::skip]
-pub const OPTIONS: [Row; 26] = [
+pub const OPTIONS: [Row; 31] = [
     row(Name::Kinds, "--kinds", &[taken(FRAMES, Kinds, Needed, "")]),
     row(Name::Base, "--base", &[taken(FRAMES, Number, Needed, "")]),
     row(Name::Stereo, "--stereo", &[taken(FRAMES, Number, Needed, "")]),
@@ -146,15 +166,18 @@ pub const OPTIONS: [Row; 26] = [
     row(Name::Rate, "--rate", &[taken(&[Header], Number, Needed, "samples a second, 1 to 8388607")]),
     row(Name::Count, "--count", &[taken(&[Header], Number, Needed, "frames, at most 4294967295")]),
     row(Name::Padding, "--padding", &[taken(&[Header], Number, Needed, "samples that fill the last frame, at most 65535")]),
+    row(Name::Bitrate, "--bitrate", &[taken(&[Convert, Bank], Number, Needed, "bits a second, 1000 to 4294967295")]),
     row(Name::LoopStart, "--loop-start", &[
         taken(&[Header], Number, With(Name::LoopEnd), "the loop in samples, at most 4294967167; both or none"),
+        taken(&[Convert], Number, With(Name::LoopEnd), "the loop's first sample, and the one behind its last; both or none"),
     ]),
-    row(Name::LoopEnd, "--loop-end", &[taken(&[Header], Number, With(Name::LoopStart), "")]),
+    row(Name::LoopEnd, "--loop-end", &[taken(&[Header, Convert], Number, With(Name::LoopStart), "")]),
     row(Name::AnyKinds, "--any-kinds", &[
         taken(&[Header], Nothing, Optional, "a layout whose kinds are not those that decoders derive is no fault"),
     ]),
     row(Name::In, "--in", &[
-        taken(&[Wav], Input, Needed, "a WAV file with samples of 16, 24 or 32 bits; those of 32 bits are floats"),
+        taken(&[Wav, Convert], Input, Needed, "a WAV file with samples of 16, 24 or 32 bits; those of 32 bits are floats"),
+        taken(&[Bank], Folder, Needed, "each file below it whose name ends with .wav, in letters of any case, is a take"),
     ]),
     row(Name::Samples, "--samples", &[
         taken(&[Wav], Output, Optional, "the samples in the file's order: f32, low byte first"),
@@ -177,9 +200,11 @@ pub const OPTIONS: [Row; 26] = [
         taken(&[Encode], Output, Needed, "the frames, one after the other; written only if every frame is made"),
         taken(&[Write], Output, Needed, "the frames, one after the other; written only if every record is legal and fits"),
         taken(&[Header], Output, Needed, "the header, or header and frames as one file"),
+        taken(&[Convert], Output, Needed, "the HCA file; written only if every frame is made"),
+        taken(&[Bank], Folder, Needed, "NAME.hca and NAME.list of each take NAME.wav, in the same subfolder; made where it is not there"),
     ]),
     row(Name::List, "--list", &[
-        taken(&[Encode], Output, Optional, "a list with the numbers of each frame; written only if every frame is made"),
+        taken(&[Encode, Convert], Output, Optional, "a list with the numbers of each frame; written only if every frame is made"),
         taken(&[List], Input, Needed, "a list as hcaframe encode writes it"),
     ]),
     row(Name::Frame, "--frame", &[taken(&[List], Number, Optional, "this frame alone; the first is 0")]),
@@ -187,6 +212,14 @@ pub const OPTIONS: [Row; 26] = [
         taken(&[List], Output, Optional,
             "a picture: the level of each frame, the pairs removed, and the bits where --frame-size is given"),
     ]),
+    row(Name::Jobs, "--jobs", &[taken(&[Bank], Number, Optional, "takes reckoned at a time, 1 to 1024; else as many as there are processors")]),
+    row(Name::Shard, "--shard", &[
+        taken(&[Bank], Shard, Optional, "the K-th of every N takes, by name, for K from 1 to N: N machines share a bank so"),
+    ]),
+    row(Name::Report, "--report", &[
+        taken(&[Bank], Output, Optional, "a row a take, tab-separated: name, state, frames, bytes, highest level, pairs removed, text"),
+    ]),
+    row(Name::Force, "--force", &[taken(&[Bank], Nothing, Optional, "every take is made, also where its files are up to date")]),
     row(Name::AllowEmpty, "--allow-empty", &[
         taken(&[Encode, Read, Write, Check], Nothing, Optional, "an input without a frame is no fault"),
     ]),

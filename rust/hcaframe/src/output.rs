@@ -92,6 +92,21 @@ fn temporary_name(path: &OsStr, number: u32) -> PathBuf {
     PathBuf::from(OsString::from_vec([folder, kept, format!(".tmp-{number}").as_bytes()].concat()))
 }
 
+/// What stands before the end of a temporary name of the file.
+pub fn temporary_stem(name: &OsStr) -> OsString {
+    let bytes = name.as_bytes();
+    OsStr::from_bytes(&bytes[..bytes.len().min(LONGEST_NAME - LONGEST_END)]).to_owned()
+}
+
+/// The stem of a temporary name; none of another name.
+pub fn temporary_of(name: &OsStr) -> Option<OsString> {
+    const MARK: &[u8] = b".tmp-";
+    let bytes = name.as_bytes();
+    let digits = bytes.iter().rev().take_while(|b| b.is_ascii_digit()).count();
+    let stem = bytes[..bytes.len() - digits].strip_suffix(MARK).filter(|_| (1..=10).contains(&digits))?;
+    Some(OsStr::from_bytes(stem).to_owned())
+}
+
 /// Makes a file that was not there before: one with the process's number, or the next that is free.
 fn create(path: &OsStr) -> io::Result<(File, Temporary)> {
     let mut number = process::id();
@@ -221,5 +236,16 @@ mod tests {
         let name = temporary_name(OsStr::new(&long), 4_294_967_295);
         assert_eq!(name.file_name().unwrap().len(), 255);
         assert!(name.to_str().unwrap().ends_with("x.tmp-4294967295"));
+        assert_eq!(temporary_of(name.file_name().unwrap()).unwrap(), temporary_stem(OsStr::new(&long[3..])));
+    }
+
+    #[test]
+    fn temporary_names_are_known() {
+        let stem = |name: &str| temporary_of(OsStr::new(name)).map(|stem| stem.into_string().unwrap());
+        assert_eq!(stem("x.hca.tmp-7").as_deref(), Some("x.hca"));
+        assert_eq!(stem("x.hca.tmp-4294967295").as_deref(), Some("x.hca"));
+        for name in ["x.hca", "x.hca.tmp-", "x.hca.tmp-7a", "x.hca.tmp", "tmp-7", "x.hca.tmp-42949672950"] {
+            assert_eq!(stem(name), None, "{name}");
+        }
     }
 }

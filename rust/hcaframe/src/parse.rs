@@ -15,6 +15,9 @@ enum Given {
     Number(u64),
     Kinds(Vec<Kind>),
     File(OsString),
+    Folder(OsString),
+    /// A part, and of how many.
+    Shard(u64, u64),
 }
 
 /// What the words say.
@@ -44,6 +47,22 @@ impl Options {
         match &self.values[name as usize] {
             Some(Given::File(path)) => Some(path),
             _ => None,
+        }
+    }
+
+    /// The folder that an option names.
+    pub fn folder(&self, name: Name) -> &OsStr {
+        match &self.values[name as usize] {
+            Some(Given::Folder(path)) => path,
+            _ => OsStr::new("."),
+        }
+    }
+
+    /// The part that is asked for, from 1 on, and the number of parts.
+    pub fn shard(&self) -> (u64, u64) {
+        match self.values[Name::Shard as usize] {
+            Some(Given::Shard(part, of)) => (part, of),
+            _ => (1, 1),
         }
     }
 
@@ -149,6 +168,12 @@ impl Parser {
     /// An option, with the value that stands behind its =, or that comes next.
     fn take_option(&mut self, word: &OsStr) -> Result<(), Stop> {
         let bytes = word.as_bytes();
+        if let Some(name) = self.options.command.bare().filter(|_| !bytes.starts_with(b"-") || bytes == b"-") {
+            return match self.options.is_given(name) {
+                true => Err(self.refuse(format!("{} is a second file", shown(word)))),
+                false => self.take_value(name, word),
+            };
+        }
         let end = bytes.iter().position(|&b| b == b'=').unwrap_or(bytes.len());
         let (name, one) = self.use_of(OsStr::from_bytes(&bytes[..end]))?;
         if end < bytes.len() {
@@ -172,7 +197,13 @@ impl Parser {
                 Ok(kinds) => Given::Kinds(kinds),
                 Err(fault) => return Err(self.refuse_value(name, word, fault)),
             },
+            Value::Shard => match spelt_shard(word.as_bytes()) {
+                Some((part, of)) => Given::Shard(part, of),
+                None => return Err(self.refuse_value(name, word, " is not K/N with K from 1 to N")),
+            },
             Value::Nothing => return Err(self.refuse(format!("{} has no value", name.word()))),
+            Value::Folder if word.is_empty() => return Err(self.refuse(format!("{} names no folder", name.word()))),
+            Value::Folder => Given::Folder(word.to_owned()),
             Value::Input | Value::Output if word.is_empty() => {
                 return Err(self.refuse(format!("{} names no file", name.word())));
             }
@@ -242,6 +273,13 @@ fn spelt_number(word: &[u8]) -> Option<u64> {
     })
 }
 
+/// K/N, with K from 1 to N.
+fn spelt_shard(word: &[u8]) -> Option<(u64, u64)> {
+    let at = word.iter().position(|&b| b == b'/')?;
+    let (part, of) = (spelt_number(&word[..at])?, spelt_number(&word[at + 1..])?);
+    (1..=of).contains(&part).then_some((part, of))
+}
+
 /// A letter a channel; or what is wrong with them.
 fn spelt_kinds(word: &[u8]) -> Result<Vec<Kind>, &'static str> {
     let kind = |letter: &u8| match letter {
@@ -305,6 +343,29 @@ mod tests {
         for word in [&b""[..], b"-1", b"+1", b"4x", b"1000000000000000000"] {
             assert_eq!(spelt_number(word), None);
         }
+    }
+
+    #[test]
+    fn parts() {
+        assert_eq!(spelt_shard(b"2/3"), Some((2, 3)));
+        assert_eq!(spelt_shard(b"1/1"), Some((1, 1)));
+        for word in [&b"0/3"[..], b"4/3", b"3", b"/3", b"1/", b"1/2/3", b"-1/3", b"1/0"] {
+            assert_eq!(spelt_shard(word), None);
+        }
+    }
+
+    #[test]
+    fn a_take_without_its_word() {
+        let parsed = |line: &str| parse(Command::Convert, &words(line));
+        let file = |line: &str| parsed(line).unwrap().file(Name::In).map(OsStr::to_owned);
+        assert_eq!(file("x.wav --bitrate 48000 --out y").unwrap(), "x.wav");
+        assert_eq!(file("--bitrate 48000 --out=y -").unwrap(), "-");
+        assert_eq!(file("--in --x --bitrate 48000 --out y").unwrap(), "--x");
+        assert!(parsed("x.wav z.wav --bitrate 48000 --out y")
+            .unwrap_err()
+            .text
+            .starts_with("hcaframe: z.wav is a second file\n"));
+        assert!(parsed("-x --bitrate 48000 --out y").unwrap_err().text.starts_with("hcaframe: -x is an unknown word\n"));
     }
 
     #[test]

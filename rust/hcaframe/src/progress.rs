@@ -26,13 +26,39 @@ impl Progress {
         Progress { is_watched, all, begin: Instant::now(), last: None }
     }
 
+    /// Of work whose text comes at its end, or of none.
+    pub fn alone(options: &Options) -> Progress {
+        let is_watched = io::stderr().is_terminal() && !options.is_given(Name::Quiet);
+        Progress { is_watched, all: None, begin: Instant::now(), last: None }
+    }
+
+    /// So many frames of so many are done.
+    pub fn at_of(&mut self, done: u64, all: u64) {
+        self.all = Some(all);
+        self.at(done);
+    }
+
     /// So many frames are done.
     pub fn at(&mut self, done: u64) {
+        let all = self.all;
+        self.tell(|time| line(done, all, time));
+    }
+
+    /// The line for what was done in so much time, where it is due.
+    pub fn tell(&mut self, line: impl FnOnce(Duration) -> String) {
         if !self.is_watched || self.begin.elapsed() < LONG || self.last.is_some_and(|last| last.elapsed() < PAUSE) {
             return;
         }
         self.last = Some(Instant::now());
-        complain(&format!("\r{}\x1b[K", line(done, self.all, self.begin.elapsed())));
+        complain(&format!("\r{}\x1b[K", line(self.begin.elapsed())));
+    }
+
+    /// Something else is said in the line's place.
+    pub fn interrupted(&mut self, text: &str) {
+        if self.last.take().is_some() {
+            complain("\r\x1b[K");
+        }
+        complain(text);
     }
 }
 

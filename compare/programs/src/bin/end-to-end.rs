@@ -1,12 +1,12 @@
 //! Speech to HCA files and back.
 //!
 //! end-to-end encode WAV BITRATE OURS.hca RUST.hca
-//!     the Rust's header and front end around the library's frames, and the Rust's own file; says whether they are equal
+//!     the Rust's front end before the library's header and frames, and the Rust's own file; says whether they are equal
 //! end-to-end measure WAV OURS.f32 RUST.f32
 //!     the signal-to-noise ratio of each decoded file (raw f32, little endian) against the WAV file, at the best delay
 //!     and polarity: the transforms of encoder and decoder stand outside the frame, and may differ in sign
 use compare::front::{encoder_for, layout_of, read_wav, stage_calls, Wav};
-use hca_frame::Encoder;
+use hca_frame::{write_header, Encoder, Stream};
 use std::io::Cursor;
 
 /// The most samples that a decoder may put before the signal.
@@ -15,10 +15,11 @@ const LONGEST_DELAY: usize = 4096;
 fn library_file(wav: &Wav, bitrate: u32) -> Result<Vec<u8>, String> {
     let mut e = encoder_for(wav, bitrate)?;
     let calls = stage_calls(&mut e, wav);
-    let mut file = Cursor::new(Vec::new());
-    e.write_header(&mut file, calls.len() as u32).map_err(|e| e.to_string())?;
-    let mut file = file.into_inner();
-    let mut encoder = Encoder::new(layout_of(&calls[0]));
+    let layout = layout_of(&calls[0]);
+    let padding = e.encoder_padding.into();
+    let stream = Stream { rate: wav.rate.into(), frames: calls.len() as u64, padding, loop_points: None };
+    let mut file = write_header(&layout, &stream).map_err(|no| format!("the header: {no}"))?.to_vec();
+    let mut encoder = Encoder::new(layout);
     for (k, call) in calls.iter().enumerate() {
         encoder
             .encode_frame(&call.spectra, &call.intensities)

@@ -24,7 +24,9 @@ pub fn run(options: &Options, text: &mut Text) -> Result<Ended, Stop> {
     let mut outputs = files.outputs();
     let wav = content(&mut input)?;
     let result = read_wav(&wav);
-    say_notes(&wav);
+    for note in notes(&wav) {
+        complain(&format!("hcaframe: {note}\n"));
+    }
     let take = result.map_err(refused)?;
     say_take(text, &take);
     if outputs.of(Name::Samples).is_some() {
@@ -39,7 +41,7 @@ fn refused(refusal: Refusal) -> Stop {
 }
 
 /// The whole file. It is judged by its mark before its size, and by its size before it is read.
-fn content(input: &mut Input) -> Result<Vec<u8>, Stop> {
+pub fn content(input: &mut Input) -> Result<Vec<u8>, Stop> {
     let mut wav = vec![0; MARK];
     let n = fill(&input.file, &mut wav).map_err(|error| unread(&error))?;
     wav.truncate(n);
@@ -69,14 +71,16 @@ fn left(input: &mut Input) -> Option<u64> {
 }
 
 /// What the samples' numbers do not tell.
-fn say_notes(wav: &[u8]) {
-    let Some(data) = data_of(wav) else { return };
+pub fn notes(wav: &[u8]) -> Vec<String> {
+    let Some(data) = data_of(wav) else { return Vec::new() };
+    let mut notes = Vec::new();
     if data.present < data.claimed {
-        complain(&format!("hcaframe: the data chunk claims {} bytes, and the file has {} of them\n", data.claimed, data.present));
+        notes.push(format!("the data chunk claims {} bytes, and the file has {} of them", data.claimed, data.present));
     }
     if data.has_wide_integers {
-        complain("hcaframe: the format tag says integers of 32 bits, and they are read as floats: convert to 24 bits\n");
+        notes.push("the format tag says integers of 32 bits, and they are read as floats: convert to 24 bits".to_string());
     }
+    notes
 }
 
 fn say_take(text: &mut Text, take: &Take) {
