@@ -73,6 +73,6 @@ module _ (spectra : List Float) (intensities : List ℕ) (scaled : List Float) (
   left-names = (refl, refl, refl, refl, refl, refl, refl, refl, refl)
 
 -- the number of each answer
-pub line-numbers : map lineOutcome (Delivered ∷ BadLayout ∷ BadBatch ∷ ShortBuffer ∷ []) ≡ delivered [] ∷ refused 1 0 ∷ refused 18 0 ∷ refused 2 0 ∷ []
+pub number-row : map lineOutcome (Delivered ∷ BadLayout ∷ BadBatch ∷ ShortBuffer ∷ []) ≡ delivered [] ∷ refused 1 0 ∷ refused 18 0 ∷ refused 2 0 ∷ []
 unfolding lineOutcome
-line-numbers = refl
+number-row = refl

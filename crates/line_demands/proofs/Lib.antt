@@ -2,3 +2,5 @@ pub mod Singles
 pub mod Standing
 pub mod Lines
 pub mod Corners
+pub mod LineExactly
+pub mod WorkedLine

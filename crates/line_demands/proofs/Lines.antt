@@ -77,10 +77,10 @@ unfolding line lineGated
 line-after l count t a = ap (λ o. lineGated o t (lineAfter l t count)) a
 
 module _ (l : Layout) (count : ℕ) (t : LineLent) (a : Admits l count t) where
-  granted : Admitted l count (lineLengths t) (length (t .answers)) (t .tally)
+  pub granted : Admitted l count (lineLengths t) (length (t .answers)) (t .tally)
   granted = gate-open l count (lineLengths t) (length (t .answers)) (t .tally) a
 
-  standing : Stands l t count (line l count t)
+  pub standing : Stands l t count (line l count t)
   standing = subst (Stands l t count) (sym (line-after l count t a)) (stands l t count granted count (omega arith))
 
   -- a shorter line is let in too

@@ -1,3 +1,5 @@
 pub mod StageEntries
 pub mod SameHead
 pub mod Agreement
+pub mod StereoAgreement
+pub mod LineAgreement

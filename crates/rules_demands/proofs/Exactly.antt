@@ -1,5 +1,6 @@
 -- Demand 1 for the stage as it is called: refusals 1 to 4 come exactly when the scope says, each with its number beside it. Assumes nothing.
 use mathlib.Core.Path.{_≡_, sym, ap}
+use mathlib.Core.List.{List, [], _∷_}
 use mathlib.Core.Option.{Option}
 use mathlib.Core.Logic.{_↔_}
 use mathlib.Core.Bool.{Bool, true, false, not}
@@ -18,7 +19,7 @@ use Rattle.rules.specs.Stage.{StageLent, StageLeft, gated, lentRoom, stageHasRo
 use Rattle.rules.specs.declared.Layout.{Layout}
 use Rattle.rules.proofs.Cuts.{by-order}
 use Rattle.rules_demands.proofs.FoundLevel.{not-both}
-use Rattle.rules_demands.proofs.StageAnswers.{Passes, madeBy}
+use Rattle.rules_demands.proofs.StageAnswers.{Passes, madeBy, levelBy, pairsBy, boundaryBy, bitsBy, passes, too-long, delivers}
 
 -- ---- the first index with a property
 
@@ -140,6 +141,13 @@ module _ (l : Layout) (t : StageLent) where
       (λ _. cond-both P (ltb (fieldEnd l) (length (fields l (madeRecord l m)))) (λ _ e. let z = ap numberOf e in omega arith)
       (λ _ e. let z : _≡_ {A = ℕ} 0 1 = cc e in absurd (omega arith)))
 
+  -- so where nothing of the input is bad
+  pub good-late : Good l t → (n k : ℕ) → stage l t .outcome ≡ refused n k → 5 ≤ n
+  good-late g n k =
+      judged (λ o. o ≡ refused n k → 5 ≤ n) (λ a _. absurd (not-both a (g .layout))) (λ _ b _. absurd (not-both b (g .room)))
+      (λ _ _ i f _. absurd (not-both (g .intensities i (f .below)) (f .there)))
+      (λ _ _ _ i f _. absurd (not-both (g .spectra i (f .below)) (f .there))) (λ _ e. settled-late (madeBy l t) n k e)
+
   -- Refusal 1: the layout is outside the limits.
   pub one-exactly : (p : ℕ) → (stage l t .outcome ≡ refused 1 p) ↔ ((legalLayout l ≡ false) × (p ≡ 0))
   unfolding stage gate gated
@@ -184,4 +192,21 @@ module _ (l : Layout) (t : StageLent) where
         (λ a b n j f e. let z : j ≡ i = ap besideOf e in (a, b, n, rw z at f)) (λ _ e. absurd (omega (arith, settled-late (madeBy l t) 4 i e))),
     (λ x. let (a, b, n, f) = x in
         rw (a, b, le-ltb _ _ (first-none (badIntensity l (t .intensities)) (sideLength l) n), at-first _ _ i f, lt-ltb i (spectrumLength l) (f .below))),
+  )
+
+  -- ---- refusal 7 and the delivery, of every call
+
+  -- Refusal 7: nothing of the input is bad, a level is found and the fields do not fit; beside it the sum of their lengths.
+  pub seven-exactly : (n : ℕ) → (stage l t .outcome ≡ refused 7 n) ↔ (Good l t × (levelBy l t ≤ 254) × (fieldEnd l < bitsBy l t) × (n ≡ bitsBy l t))
+  seven-exactly n = (
+    (λ e. let k = passes l t (rw e (omega arith)) in let (h, g, q) = too-long l t n k .0 e in (passes-good l t k, h, g, q)),
+    (λ x. let (k, h, g, q) = x in too-long l t n (good-passes l t k) .1 (h, g, q)),
+  )
+
+  -- A frame comes: nothing of the input is bad, a level is found and the fields fit; the answer is level, boundary, pairs and the sum of their lengths.
+  pub delivered-exactly : (ns : List ℕ) → (stage l t .outcome ≡ delivered ns)
+      ↔ (Good l t × (levelBy l t ≤ 254) × (bitsBy l t ≤ fieldEnd l) × (ns ≡ levelBy l t ∷ boundaryBy l t ∷ pairsBy l t ∷ bitsBy l t ∷ []))
+  delivered-exactly ns = (
+    (λ e. let k = passes l t (rw e (omega arith)) in let (h, g, q) = delivers l t ns k .0 e in (passes-good l t k, h, g, q)),
+    (λ x. let (k, h, g, q) = x in delivers l t ns (good-passes l t k) .1 (h, g, q)),
   )

@@ -4,6 +4,7 @@ pub mod Probes
 pub mod FoundLevel
 pub mod FoundBoundary
 pub mod FoundPairs
+pub mod SignedSearch
 -- records in buffers, and the stage's
 pub mod Stores
 pub mod LegalRecords

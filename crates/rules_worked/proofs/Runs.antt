@@ -28,7 +28,7 @@ use Rattle.rules.specs.Fields.{fields}
 use Rattle.rules.specs.Frame.{fieldEnd, frameOf}
 use Rattle.rules.specs.Refusals.{delivered, refused}
 use Rattle.rules.specs.Lent.{noFloats, noCodes, noFactors, noSide, noFrame, laid}
-use Rattle.rules.specs.Stage.{StageLent, Made, cleared, stageLaid, gated, lentRoom, stageHasRoom, badIntensity, badSpectrum, gate, foundOf, boundaryFor, madeFrom, made, madeRecord, finished, packed, settled, stage}
+use Rattle.rules.specs.Stage.{StageLent, StageLeft, Made, cleared, stageLaid, gated, lentRoom, stageHasRoom, badIntensity, badSpectrum, gate, foundOf, boundaryFor, madeFrom, made, madeRecord, finished, packed, settled, stage}
 use Rattle.rules.specs.declared.Layout.{Layout}
 use Rattle.rules.proofs.Cuts.{getD-copies}
 use Rattle.rules_demands.proofs.MadeRecord.{finished-outcome}
@@ -142,6 +142,22 @@ module _ (l : Layout) (t : StageLent) where
 pub settled-finished : (l : Layout) (m : Made) → m .found .level ≤ 254 → length (fields l (madeRecord l m)) ≤ fieldEnd l → settled l m ≡ finished l m
 unfolding settled packed
 settled-finished l m h n = rw (le-ltb 254 (m .found .level) h, le-ltb (fieldEnd l) (length (fields l (madeRecord l m))) n)
+
+-- by its bits and bytes
+abbrev pub done : (m : Made) (bits : ℕ) (bytes : List ℕ) → StageLeft
+done m bits bytes = record {
+  outcome = delivered (m .found .level ∷ m .boundary ∷ m .found .pairs ∷ bits ∷ []);
+  scaled = m .scaled;
+  codes = m .codes;
+  factors = m .found .factors;
+  side = m .side;
+  frame = bytes;
+}
+
+pub settled-done : (l : Layout) (m : Made) (bits : ℕ) (bytes : List ℕ) → m .found .level ≤ 254 → length (fields l (madeRecord l m)) ≡ bits → bits ≤ fieldEnd l
+    → frameOf l (madeRecord l m) ≡ bytes → settled l m ≡ done m bits bytes
+unfolding finished
+settled-done l m bits bytes h p n q = settled-finished l m h (omega (arith, p)) ∙ rw (p, q)
 
 -- ---- on an input
 

@@ -134,7 +134,7 @@ module _ (l : Layout) (sizes : Sizes l) where
 
 -- ---- channels
 module _ (l : Layout) (sizes : Sizes l) (c : ℕ) (t : Signal) (e : length (t .spectra) ≡ spectrumLength l) (q : c + 1 < l .channels) where
-  pair-fits : c * 1024 + 2048 ≤ length (t .spectra)
+  pub pair-fits : c * 1024 + 2048 ≤ length (t .spectra)
   pair-fits = omega (arith, e, mul-le-mul-right 1024 (le-two q))
     where
       le-two : c + 1 < l .channels → c + 2 ≤ l .channels

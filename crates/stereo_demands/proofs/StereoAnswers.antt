@@ -1,31 +1,27 @@
--- Demands 1 and 2 said of the stereo stage: what each refusal leaves in all seven buffers, when 17 comes, which numbers can come, how large the numbers
+-- Demands 1 and 2 said of the stereo stage: what each refusal leaves in all seven buffers, which numbers can come, how large the numbers
 -- are, and that two outcomes which the contract allows coincide. Assumes nothing.
 use mathlib.Core.Path.{_≡_, refl, sym, _∙_, ap, subst}
 use mathlib.Core.List.{List, [], _∷_}
-use mathlib.Core.Logic.{_↔_}
-use Prim.Native.Nat.{ℕ, _≤_, _<_}
+use Prim.Native.Nat.{ℕ, _≤_}
 use native.Mathlib.Omega.{arith}
-use borrow.Author.Tests.{le-ltb, lt-ltb}
 use lib.Dec.{ltb}
 use lib.ListN.{length}
-use types.Run.{OneOf, miss}
+use types.Run.{miss}
 use Rattle.buffers.proofs.Tests.{cond-both}
-use Rattle.rules.specs.Layout.{spectrumLength}
 use Rattle.rules.specs.Fields.{fields}
 use Rattle.rules.specs.Frame.{fieldEnd}
-use Rattle.rules.specs.Refusals.{Outcome, delivered, refused, stageOutcome}
-use Rattle.rules.specs.Stage.{StageLent, StageLeft, cleared, kept, stageLaid, Made, made, madeRecord, finished, packed, settled, gate, stage}
+use Rattle.rules.specs.Refusals.{Outcome, refused, stageOutcome}
+use Rattle.rules.specs.Stage.{StageLent, StageLeft, cleared, kept, stageLaid, Made, made, madeRecord, finished, packed, settled}
 use Rattle.rules.specs.declared.Layout.{Layout}
 use Rattle.rules.specs.declared.StageAnswer.{StageAnswer}
 use Rattle.rules.specs.declared.StageAnswer.the-variants as stage-of
 use Rattle.rules.proofs.Answers.{Numbered, numbered, unnumbered, never, stageNumbers, stage-answers}
 use Rattle.rules_demands.proofs.Outcomes.{stage-numbers-differ}
-use Rattle.rules_demands.proofs.StageAnswers.{StageBounded, beside-bounded, stage-bounds, stage-numbers}
-use Rattle.rules_demands.proofs.Exactly.{Good, good-passes, numberOf}
-use Rattle.rules_stereo.specs.Stereo.{stereoOutcome, StereoLeft, withSignal, judgedLoud, stereoGate, lentSignal, mixedFront, stereoRun, stereoGated, stereo}
+use Rattle.rules_demands.proofs.StageAnswers.{StageBounded, beside-bounded, stage-bounds}
+use Rattle.rules_stereo.specs.Stereo.{stereoOutcome, StereoLeft, withSignal, lentSignal, mixedFront, stereoRun, stereo}
 use Rattle.rules_stereo.specs.declared.StereoAnswer.{StereoAnswer}
 use Rattle.rules_stereo.specs.declared.StereoAnswer.the-variants.{TooLoud, Of}
-use Rattle.stereo_demands.proofs.StereoIsStage.{mixedLent, loudBy, StereoGood, run-is-stage, stereo-case}
+use Rattle.stereo_demands.proofs.StereoIsStage.{mixedLent, run-is-stage, stereo-case}
 
 -- ---- WHAT A REFUSAL LEAVES
 
@@ -84,19 +80,6 @@ stereo-answers (Of (stage-of.TooLong bits)) = numbered stereoNumbers 7 bits tt
 -- the stage never answers 17
 pub not-stage : {A : Type 0} (o : Outcome) (k : ℕ) → Numbered stageNumbers o → o ≡ refused 17 k → A
 not-stage o k h e = absurd (miss stageNumbers 17 tt (h 17 k e))
-
--- ---- WHEN 17 COMES: a magnitude above 65,536 in any band, of an input of which nothing is bad
-pub seventeen-exactly : (l : Layout) (t : StageLent) (k : ℕ) → (stereo l t .outcome ≡ refused 17 k) ↔ (Good l t × (loudBy l t < spectrumLength l) × (k ≡ 0))
-unfolding stereo stereoGate judgedLoud stereoGated gate
-seventeen-exactly l t k = (
-  stereo-case l t (λ x. x .outcome ≡ refused 17 k → Good l t × (loudBy l t < spectrumLength l) × (k ≡ 0))
-      (λ n j h _ e. let z : n ≡ 17 = cc e in absurd (omega arith))
-      (λ g h e. (g, h, (cc)))
-      (λ h e. not-stage (stage l (mixedLent l t) .outcome) k (stage-numbers l (mixedLent l t)) (ap (λ (x : StereoLeft). x .outcome) (sym (run-is-stage l t h)) ∙ e)),
-  (λ x. let (g, h, z) = x in
-      let p = good-passes l t g in
-      rw (p .layout, p .room, le-ltb _ _ (p .intensities), le-ltb _ _ (p .spectra), lt-ltb _ _ h, z)),
-)
 
 -- ---- HOW LARGE THE NUMBERS ARE, in every call
 pub stereo-bounds : (l : Layout) (t : StageLent) → StageBounded (stereo l t .outcome)

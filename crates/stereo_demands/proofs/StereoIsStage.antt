@@ -46,10 +46,10 @@ pub record StereoGood (l : Layout) (t : StageLent) : Type 0 where
   pub quiet : None (tooLoud (t .spectra)) (spectrumLength l)
 
 -- ---- a list laid over a longer one
-laid-length : {A : Type 0} (new old : List A) → length new ≤ length old → length (laid new old) ≡ length old
+pub laid-length : {A : Type 0} (new old : List A) → length new ≤ length old → length (laid new old) ≡ length old
 laid-length new old h = simp (length-append, length-drop) (omega arith)
 
-laid-at : {A : Type 0} (z : A) (new old : List A) (i : ℕ) → i < length new → getD (laid new old) i z ≡ getD new i z
+pub laid-at : {A : Type 0} (z : A) (new old : List A) (i : ℕ) → i < length new → getD (laid new old) i z ≡ getD new i z
 laid-at z new old i h = List·getD-append new (drop (length new) old) z i h
 
 -- ---- the stage behind its own gate
@@ -62,7 +62,7 @@ module _ (l : Layout) (t : StageLent) (h : StereoGood l t) where
   sizes : Sizes l
   sizes = legal-sizes l (h .good .layout)
 
-  room : (spectrumLength l ≤ length (t .spectra)) × (sideLength l ≤ length (t .intensities))
+  pub room : (spectrumLength l ≤ length (t .spectra)) × (sideLength l ≤ length (t .intensities))
   unfolding stageHasRoom
   room = (
     leb-true _ _ (and-fst (leb (spectrumLength l) (length (t .spectra))) _ (h .good .room)),
