@@ -1,4 +1,5 @@
--- Entries of counts: a band's is that of its eight values, a channel's and a frame's say what `Counted` does, and a count is taken from its entry. Assumes nothing.
+-- Entries of counts: a band's is that of its eight values, a channel's and a frame's say what `Counted` does, and a count is taken from its entry. Assumes
+-- nothing.
 use mathlib.Core.Path.{_≡_, refl, sym, ap, ap₂, _∙_}
 use mathlib.Core.Bool.{Bool, true, false, cond}
 use mathlib.Core.List.{List, _++_}
@@ -16,7 +17,7 @@ use Rattle.buffers.proofs.Tests.{cond-bound}
 use Rattle.buffers.proofs.Scan.{sum-bound}
 use Rattle.buffers.proofs.Build.{length-build, build-at, back-width}
 use Rattle.buffers.proofs.Blocks.{length-blocks, length-blocked, blocks-at}
-use Rattle.rules.specs.Layout.{Sizes, codedAt, spectrumLength, part}
+use Rattle.rules.specs.Layout.{LegalLayout, codedCountAt, spectrumLength, part}
 use Rattle.floats.specs.Single.{absF}
 use Rattle.rules.specs.Tables.{deadZoneTable}
 use Rattle.rules.specs.Code.{rawCode, codePlace}
@@ -66,13 +67,13 @@ module _ (sc : List Float) (coded : ℕ) (before : List ℤ) where
 
 -- ---- a frame
 abbrev pub channelAt : (l : Layout) (scaled : List Float) (before : List ℤ) (channel : ℕ) → List ℤ
-channelAt l scaled before c = channelCounts (part 1024 scaled c) (codedAt l c) (part 1024 before c)
+channelAt l scaled before c = channelCounts (part 1024 scaled c) (codedCountAt l c) (part 1024 before c)
 
-module _ (l : Layout) (z : Sizes l) (scaled : List Float) (before : List ℤ) (e : length before ≡ spectrumLength l) where
+module _ (l : Layout) (z : LegalLayout l) (scaled : List Float) (before : List ℤ) (e : length before ≡ spectrumLength l) where
   pub channel-size : (c : ℕ) → c < l .channels → length (channelAt l scaled before c) ≡ 1024
   channel-size c h =
       let n : length (part 1024 before c) ≡ 1024 = length-part 1024 (l .channels) c before (omega arith) h in
-      channel-long (part 1024 scaled c) (codedAt l c) (part 1024 before c) (omega (arith, n, coded-few l z c)) ∙ n
+      channel-long (part 1024 scaled c) (codedCountAt l c) (part 1024 before c) (omega (arith, n, coded-few l z c)) ∙ n
 
   pub frame-counted : (counts : List ℤ) → counts ≡ blocks (channelAt l scaled before) (l .channels) → Counted l scaled counts
   frame-counted counts q = record {
@@ -80,11 +81,12 @@ module _ (l : Layout) (z : Sizes l) (scaled : List Float) (before : List ℤ) (e
     at = λ c h b g k i.
         ap (λ xs. getD (part 1024 xs c) (b * 8 + k) (pos 0)) q
         ∙ ap (λ xs. getD xs (b * 8 + k) (pos 0)) (block-part (channelAt l scaled before) 1024 (l .channels) c channel-size h)
-        ∙ channel-counted (part 1024 scaled c) (codedAt l c) (part 1024 before c) b g k i;
+        ∙ channel-counted (part 1024 scaled c) (codedCountAt l c) (part 1024 before c) b g k i;
   }
 
 -- a channel's part, as a loop lends it
-pub counted-part : (l : Layout) (scaled : List Float) (counts : List ℤ) → Counted l scaled counts → (c : ℕ) → c < l .channels → (coded : ℕ) → coded ≡ codedAt l c
+pub counted-part : (l : Layout) (scaled : List Float) (counts : List ℤ) → Counted l scaled counts → (c : ℕ) → c < l .channels → (coded : ℕ) → coded
+    ≡ codedCountAt l c
     → ChannelCounted (take (c * 1024 + 1024 - c * 1024) (drop (c * 1024) scaled)) coded (take (c * 1024 + 1024 - c * 1024) (drop (c * 1024) counts))
 counted-part l scaled counts w c h coded e = rw (back-width (c * 1024) 1024, e) (w .at c h)
 
@@ -103,7 +105,8 @@ unfolding valueBits
 value-le r x h =
     cond-bound (ltb r 8)
     (λ e. let l = length-le r (codePlace (rawCode r x)) (ltb-true r 8 e) (place-le (rawCode r x)) in omega arith)
-    (λ e. let l = bits-le r h in let m = cond-bound {a = 1} {b = 0} {n = 1} (le (getD deadZoneTable r nan) (absF x)) (λ _. omega arith) (λ _. omega arith) in omega arith)
+    (λ e. let l = bits-le r h in let m = cond-bound {a = 1} {b = 0} {n = 1} (le (getD deadZoneTable r nan) (absF x)) (λ _. omega arith) (λ _. omega arith) in
+    omega arith)
 
 pub band-le : (sc : List Float) (b r : ℕ) → r ≤ 15 → bandBits sc b r ≤ 96
 unfolding bandBits

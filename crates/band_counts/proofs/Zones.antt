@@ -75,7 +75,17 @@ module _ (r : ℕ) (h : 8 ≤ r) where
   pub eight-wide : (e : Eight) → 8 * magnitudeBits r + eightReached (getD deadZoneTable r nan) (sizesOf e) ≡ eightBits r e
   unfolding eightReached eightBits sizesOf
   eight-wide e =
-      omega (arith, wide-value (e .v0), wide-value (e .v1), wide-value (e .v2), wide-value (e .v3), wide-value (e .v4), wide-value (e .v5), wide-value (e .v6), wide-value (e .v7))
+      omega (
+        arith,
+        wide-value (e .v0),
+        wide-value (e .v1),
+        wide-value (e .v2),
+        wide-value (e .v3),
+        wide-value (e .v4),
+        wide-value (e .v5),
+        wide-value (e .v6),
+        wide-value (e .v7),
+      )
 
 -- ---- what passes the test
 four-within : (a b c d : Float) → fourWithin a b c d ≡ true → Within a × Within b × Within c × Within d

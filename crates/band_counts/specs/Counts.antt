@@ -9,7 +9,7 @@ use lib.Ieee.{Float, nan, binary32, fits}
 use lib.ListN.{length, getD, drop}
 use Rattle.buffers.specs.Walk.{build, blocks}
 use Rattle.floats.specs.Single.{absF}
-use Rattle.rules.specs.Layout.{codedAt, spectrumLength, part}
+use Rattle.rules.specs.Layout.{codedCountAt, spectrumLength, part}
 use Rattle.rules.specs.Estimate.{valueBits, bandBits}
 use Rattle.rules.specs.declared.Layout.{Layout}
 use Rattle.within.specs.Within.{Within, withinB}
@@ -18,15 +18,15 @@ use Rattle.band_counts.specs.declared.eight.Eight.{Eight}
 
 -- the eight values of band b of a channel
 unfoldable pub eightOf : (scaled : List Float) (band : ℕ) → Eight
-eightOf sc b = record {
-  v0 = getD sc (b * 8) nan;
-  v1 = getD sc (b * 8 + 1) nan;
-  v2 = getD sc (b * 8 + 2) nan;
-  v3 = getD sc (b * 8 + 3) nan;
-  v4 = getD sc (b * 8 + 4) nan;
-  v5 = getD sc (b * 8 + 5) nan;
-  v6 = getD sc (b * 8 + 6) nan;
-  v7 = getD sc (b * 8 + 7) nan;
+eightOf scaled band = record {
+  v0 = getD scaled (band * 8) nan;
+  v1 = getD scaled (band * 8 + 1) nan;
+  v2 = getD scaled (band * 8 + 2) nan;
+  v3 = getD scaled (band * 8 + 3) nan;
+  v4 = getD scaled (band * 8 + 4) nan;
+  v5 = getD scaled (band * 8 + 5) nan;
+  v6 = getD scaled (band * 8 + 6) nan;
+  v7 = getD scaled (band * 8 + 7) nan;
 }
 
 -- their magnitudes
@@ -80,34 +80,34 @@ eightReached mark e = fourReached mark (e .v0) (e .v1) (e .v2) (e .v3) + fourRea
 
 -- the bits of four values, and of eight
 abbrev pub fourBits : (resolution : ℕ) (a b c d : Float) → ℕ
-fourBits r a b c d = valueBits r a + valueBits r b + valueBits r c + valueBits r d
+fourBits resolution a b c d = valueBits resolution a + valueBits resolution b + valueBits resolution c + valueBits resolution d
 
 unfoldable pub eightBits : (resolution : ℕ) (e : Eight) → ℕ
-eightBits r e = fourBits r (e .v0) (e .v1) (e .v2) (e .v3) + fourBits r (e .v4) (e .v5) (e .v6) (e .v7)
+eightBits resolution e = fourBits resolution (e .v0) (e .v1) (e .v2) (e .v3) + fourBits resolution (e .v4) (e .v5) (e .v6) (e .v7)
 
 -- an entry: the count of k and, eight bits higher, that of k + 8
 unfoldable pub entryOf : (e : Eight) (k : ℕ) → ℤ
 entryOf e k = pos (eightBits k e + 256 * eightBits (k + 8) e)
 
 abbrev pub countEntry : (scaled : List Float) (band k : ℕ) → ℤ
-countEntry sc b k = pos (bandBits sc b k + 256 * bandBits sc b (k + 8))
+countEntry scaled band k = pos (bandBits scaled band k + 256 * bandBits scaled band (k + 8))
 
 -- a resolution's count, of an entry
 unfoldable pub countIn : (entry : ℤ) (resolution : ℕ) → ℕ
-countIn z r = cond (ltb r 8) (natAbs z % 256) (natAbs z / 256 % 256)
+countIn entry resolution = cond (ltb resolution 8) (natAbs entry % 256) (natAbs entry / 256 % 256)
 
 -- a channel's entries: those of its coded bands, and what stood past them
 unfoldable pub channelCounts : (scaled : List Float) (coded : ℕ) (before : List ℤ) → List ℤ
-channelCounts sc coded before = blocks (λ b. build (entryOf (eightOf sc b)) 8) coded ++ drop (coded * 8) before
+channelCounts scaled coded before = blocks (λ b. build (entryOf (eightOf scaled b)) 8) coded ++ drop (coded * 8) before
 
 -- what a channel's entries say of a band, and of its coded bands
 abbrev pub BandCounted : (scaled : List Float) (counts : List ℤ) (band : ℕ) → Type 0
-BandCounted sc counts b = (k : ℕ) → k < 8 → getD counts (b * 8 + k) (pos 0) ≡ countEntry sc b k
+BandCounted scaled counts band = (k : ℕ) → k < 8 → getD counts (band * 8 + k) (pos 0) ≡ countEntry scaled band k
 
 abbrev pub ChannelCounted : (scaled : List Float) (coded : ℕ) (counts : List ℤ) → Type 0
-ChannelCounted sc coded counts = (b : ℕ) → b < coded → BandCounted sc counts b
+ChannelCounted scaled coded counts = (b : ℕ) → b < coded → BandCounted scaled counts b
 
 -- and those of a frame of every channel's
 pub record Counted (l : Layout) (scaled : List Float) (counts : List ℤ) : Type 0 where
   pub long : length counts ≡ spectrumLength l
-  pub at : (c : ℕ) → c < l .channels → ChannelCounted (part 1024 scaled c) (codedAt l c) (part 1024 counts c)
+  pub at : (c : ℕ) → c < l .channels → ChannelCounted (part 1024 scaled c) (codedCountAt l c) (part 1024 counts c)

@@ -5,7 +5,7 @@ ghost use Prim.Native.Nat.{_+_, _*_, _≤_, _<_};
 ghost use lib.IntN.{pos, natAbs};
 ghost use lib.ListN.{length};
 ghost use Rattle.buffers.specs.Walk.{build};
-ghost use Rattle.rules.specs.Layout.{Sizes, spectrumLength};
+ghost use Rattle.rules.specs.Layout.{LegalLayout, spectrumLength};
 ghost use Rattle.rules.specs.Scaling.{clip};
 ghost use Rattle.band_counts.specs.Counts.{EachWithin, EachSingle, sizesOf, eightReached, entryOf, channelCounts, Counted, countIn};
 ghost use Rattle.band_counts.specs.Tables.{IsMarks, IsSizes};
@@ -94,7 +94,7 @@ pub fn channel_counts(scaled: &[f32], coded: usize, counts: &mut [i32])
 
 // Of every channel.
 pub fn frame_counts(layout: Layout, scaled: &[f32], counts: &mut [i32])
-    requires { ⌜ Sizes layout ⌝ }
+    requires { ⌜ LegalLayout layout ⌝ }
     requires { ⌜ (length (now scaled) ≡ spectrumLength layout) × (length (now counts) ≡ spectrumLength layout) ⌝ }
     ensures { λ _. ⌜ Counted layout (now (scaled .entry)) (now (counts .exit)) ⌝ }
 {

@@ -40,7 +40,8 @@ module _ (s : List ℕ) (p n : ℕ) where
   pub got : {v : ℕ} {q : Place} → fieldAt s p n ≡ Of v q → Got s p n v (q .at)
   got {v} {q} = go (leb (p + n) (8 * length s)) refl
     where
-      go : (b : Bool) → leb (p + n) (8 * length s) ≡ b → cond b (Of (value (take n (drop p (bitsOf s)))) (record { at = p + n })) (Past p) ≡ Of v q → Got s p n v (q .at)
+      go : (b : Bool) → leb (p + n) (8 * length s) ≡ b → cond b (Of (value (take n (drop p (bitsOf s)))) (record { at = p + n })) (Past p) ≡ Of v q
+          → Got s p n v (q .at)
       go true t e =
           let h : p + n ≤ 8 * length s = leb-true _ _ t in
           let l : List Bool = take n (drop p (bitsOf s)) in
@@ -51,14 +52,16 @@ module _ (s : List ℕ) (p n : ℕ) where
             next = eq;
             fits = rw eq h;
             small = rw ev (rw hl at (value-lt l));
-            stands = rw (eq, ev) (sym (take-append-drop n (drop p (bitsOf s))) ∙ ap₂ (λ (x y : List Bool). x ++ y) (sym (rw hl at (bits-value l))) (drop-drop n p (bitsOf s)));
+            stands = rw (eq, ev) (sym (take-append-drop n (drop p (bitsOf s)))
+                ∙ ap₂ (λ (x y : List Bool). x ++ y) (sym (rw hl at (bits-value l))) (drop-drop n p (bitsOf s)));
           }
       go false t e = absurd (let z : _≡_ {A = ℕ} 0 1 = cc in omega arith)
 
   pub past : {b : ℕ} → fieldAt s p n ≡ Past b → (b ≡ p) × (8 * length s < p + n)
   past {b} = go (leb (p + n) (8 * length s)) refl
     where
-      go : (t : Bool) → leb (p + n) (8 * length s) ≡ t → cond t (Of (value (take n (drop p (bitsOf s)))) (record { at = p + n })) (Past p) ≡ Past b → (b ≡ p) × (8 * length s < p + n)
+      go : (t : Bool) → leb (p + n) (8 * length s) ≡ t → cond t (Of (value (take n (drop p (bitsOf s)))) (record { at = p + n })) (Past p) ≡ Past b → (b ≡ p)
+          × (8 * length s < p + n)
       go true t x = absurd (let z : _≡_ {A = ℕ} 0 1 = cc in omega arith)
       go false t x = (cc, leb-false _ _ t)
 

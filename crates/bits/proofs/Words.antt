@@ -29,7 +29,15 @@ bits-part x n r w =
 word-join : (a b c : ℕ) → b < 2 ^ 8 → c < 2 ^ 8 → bits 24 (a * 2 ^ 16 + (b * 2 ^ 8 + c)) ≡ bits 8 a ++ (bits 8 b ++ bits 8 c)
 word-join a b c hb hc =
     let h16 : b * 2 ^ 8 + c < 2 ^ 16 = omega arith in
-    rw (bits-add 8 16 (a * 2 ^ 16 + (b * 2 ^ 8 + c)), high a 16 h16, bits-above 16 a (b * 2 ^ 8 + c), bits-add 8 8 (b * 2 ^ 8 + c), high b 8 hc, bits-above 8 b c)
+    rw (
+      bits-add 8 16 (a * 2 ^ 16 + (b * 2 ^ 8 + c)),
+      high a 16 h16,
+      bits-above 16 a (b * 2 ^ 8 + c),
+      bits-add 8 8 (b * 2 ^ 8 + c),
+      high b 8 hc,
+      bits-above 8 b
+          c,
+    )
 
 word-suc : (b : ℕ) (s : List ℕ) (i : ℕ) → wordAt (b ∷ s) (suc i) ≡ wordAt s i
 unfolding wordAt

@@ -68,16 +68,19 @@ Blocked g k d n xs = (length xs ≡ length d) × (xs ≡ blocks g n ++ drop (n *
 pub blocked-none : {A : Type 0} (g : ℕ → List A) (k : ℕ) (d : List A) → Blocked g k d 0 d
 blocked-none g k d = (refl, rw (zero-mul k) (blocks-start g d))
 
-pub blocked-all : {A : Type 0} (g : ℕ → List A) (k : ℕ) (d : List A) (n m : ℕ) (xs : List A) → m ≤ n → n ≤ m → Blocked g k d n xs → xs ≡ blocks g m ++ drop (m * k) d
+pub blocked-all : {A : Type 0} (g : ℕ → List A) (k : ℕ) (d : List A) (n m : ℕ) (xs : List A) → m ≤ n → n ≤ m → Blocked g k d n xs → xs ≡ blocks g m
+    ++ drop (m * k) d
 blocked-all g k d n m xs h h′ w = let q : n ≡ m = omega arith in w .1 ∙ rw q
 
 -- of a list that has no more than its m blocks
-pub blocked-exact : {A : Type 0} (g : ℕ → List A) (k : ℕ) (d : List A) (n m : ℕ) (xs : List A) → length d ≡ m * k → m ≤ n → n ≤ m → Blocked g k d n xs → xs ≡ blocks g m
+pub blocked-exact : {A : Type 0} (g : ℕ → List A) (k : ℕ) (d : List A) (n m : ℕ) (xs : List A) → length d ≡ m * k → m ≤ n → n ≤ m → Blocked g k d n xs → xs
+    ≡ blocks g m
 blocked-exact g k d n m xs e h h′ w =
     let z : length d ≤ m * k = omega arith in
     blocked-all g k d n m xs h h′ w ∙ rw (drop-of-length-le d z, append-nil (blocks g m))
 
-module _ {A : Type 0} (g : ℕ → List A) (k m : ℕ) (d : List A) (size : (c : ℕ) → c < m → length (g c) ≡ k) (n : ℕ) (xs : List A) (h : n < m) (w : Blocked g k d n xs) where
+module _ {A : Type 0} (g : ℕ → List A) (k m : ℕ) (d : List A) (size : (c : ℕ) → c < m → length (g c) ≡ k) (n : ℕ) (xs : List A) (h : n < m)
+    (w : Blocked g k d n xs) where
   -- what a turn is lent is as it was at first
   pub blocked-lent : take (n * k + k - n * k) (drop (n * k) xs) ≡ take k (drop (n * k) d)
   blocked-lent = rw (back-width (n * k) k, w .1, blocks-rest g k m size n d (le-of-lt h))

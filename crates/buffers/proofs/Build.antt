@@ -77,7 +77,8 @@ Filled f d n xs = (length xs ≡ length d) × (xs ≡ build f n ++ drop n d)
 pub filled-none : {A : Type 0} (f : ℕ → A) (d : List A) → Filled f d 0 d
 filled-none f d = (refl, build-start f d)
 
-pub filled-more : {A : Type 0} (f : ℕ → A) (d : List A) (n : ℕ) (xs : List A) (v : A) → n < length d → Filled f d n xs → v ≡ f n → Filled f d (n + 1) (set xs n v)
+pub filled-more : {A : Type 0} (f : ℕ → A) (d : List A) (n : ℕ) (xs : List A) (v : A) → n < length d → Filled f d n xs → v ≡ f n
+    → Filled f d (n + 1) (set xs n v)
 filled-more f d n xs v h w e = (length-set xs n v ∙ w .0, rw (w .1, e) (build-store f n d h))
 
 pub filled-all : {A : Type 0} (f : ℕ → A) (d : List A) (n m : ℕ) (xs : List A) → length d ≡ m → m ≤ n → n ≤ m → Filled f d n xs → xs ≡ build f m
@@ -87,7 +88,8 @@ filled-all f d n m xs e h h′ w =
     w .1 ∙ rw q (build-all f m d z)
 
 -- the same of one value
-pub filled-same : {A : Type 0} (x : A) (d : List A) (n : ℕ) (xs : List A) → length d ≤ n → n ≤ length d → Filled (λ (i : ℕ). x) d n xs → xs ≡ replicate (length d) x
+pub filled-same : {A : Type 0} (x : A) (d : List A) (n : ℕ) (xs : List A) → length d ≤ n → n ≤ length d → Filled (λ (i : ℕ). x) d n xs → xs
+    ≡ replicate (length d) x
 filled-same x d n xs h h′ w = filled-all (λ (i : ℕ). x) d n (length d) xs refl h h′ w ∙ build-const x (length d)
 
 -- the width of a part that starts at n

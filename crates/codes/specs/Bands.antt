@@ -8,5 +8,6 @@ use Rattle.rules.specs.Code.{recordedCode}
 
 -- band b's codes of the first n subframes, laid over a channel's
 unfoldable pub bandLaid : (resolution : ℕ) (scaled : List Float) (band n : ℕ) (codes : List ℤ) → List ℤ
-bandLaid r sc b zero codes = codes
-bandLaid r sc b (suc s) codes = set (bandLaid r sc b s codes) (s * 128 + b) (recordedCode r (getD sc (b * 8 + s) nan))
+bandLaid resolution scaled band zero codes = codes
+bandLaid resolution scaled band (suc s) codes = set (bandLaid resolution scaled band s codes) (s * 128 + band)
+    (recordedCode resolution (getD scaled (band * 8 + s) nan))

@@ -3,7 +3,7 @@ ghost use mathlib.Core.Path.{_≡_};
 ghost use Prim.Native.Nat.{_≤_, _<_};
 ghost use lib.ListN.{length};
 ghost use Rattle.buffers.specs.Walk.{AtMost};
-ghost use Rattle.rules.specs.Layout.{Sizes, spectrumLength, factorLength};
+ghost use Rattle.rules.specs.Layout.{LegalLayout, spectrumLength, factorLength};
 ghost use Rattle.rules.specs.Code.{recordedCode, channelCodes, allCodes};
 ghost use Rattle.codes.specs.Bands.{bandLaid};
 use rules::Layout;
@@ -47,7 +47,7 @@ fn channel_codes(resolutions: &[u8], scaled: &[f32], codes: &mut [i32])
 
 // Of every channel, at the resolutions of its bands.
 pub fn quantize_spectra(layout: Layout, resolutions: &[u8], scaled: &[f32], codes: &mut [i32])
-    requires { ⌜ Sizes layout ⌝ }
+    requires { ⌜ LegalLayout layout ⌝ }
     requires { ⌜ AtMost 15 (now resolutions) ⌝ }
     requires { ⌜ (length (now resolutions) ≡ factorLength layout) × (length (now scaled) ≡ spectrumLength layout)
         × (length (now codes) ≡ spectrumLength layout) ⌝ }

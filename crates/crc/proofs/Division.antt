@@ -10,7 +10,8 @@ use native.Mathlib.Omega.{arith}
 use lib.ListN.{length, length-append, length-replicate}
 use Rattle.bits.specs.Bits.{zeros}
 use Rattle.crc.specs.Poly.{Poly, plus, add, scale, degree, mul, step, steps, quotients, quotient, remainder}
-use Rattle.crc.proofs.Sums.{add-nil, add-comm, add-assoc, add-swap, add-twice, add-append, add-zeros, zeros-add, length-scale, length-add, scale-plus, scale-false}
+use Rattle.crc.proofs.Sums.{add-nil, add-comm, add-assoc, add-swap, add-twice, add-append, add-zeros, zeros-add, length-scale, length-add, scale-plus}
+use Rattle.crc.proofs.Sums.{scale-false}
 
 -- The divisor is 1 and then g: a polynomial of degree length g with leading coefficient 1.
 module _ (g : Poly) where
@@ -162,5 +163,10 @@ module _ (g : Poly) where
       → (quotient d p ≡ q) × (remainder d p ≡ r)
   division-only p q r h e =
       let n : length p - length g ≡ length q =
-      rw e (omega (arith, length-add (mul q d) (zeros (length q) ++ r) (omega (arith, length-mul q, length-padded (length q) r)), length-padded (length q) r)) in
+      rw e (omega (
+        arith,
+        length-add (mul q d) (zeros (length q) ++ r) (omega (arith, length-mul q, length-padded (length q) r)),
+        length-padded (length q)
+            r,
+      )) in
       (ap₂ (quotients d) n e ∙ quotient-unique q r h, ap₂ (steps d) n e ∙ remainder-unique q r h)

@@ -43,7 +43,8 @@ fed-by-halves m b hi lo e h8 l8 =
     let moved : checksum m * 2 ^ 8 % 2 ^ 16 ≡ value lo * 2 ^ 8 = omega arith in
     let back : bits 8 (value hi) ≡ hi = rw h8 at (bits-value hi) in
     let tail-value : value (lo ++ zeros (length hi)) ≡ value lo * 2 ^ 8 =
-    value-append lo (zeros (length hi)) ∙ ap₂ (λ n v. value lo * 2 ^ n + v) (length-replicate (length hi) false ∙ h8) (value-zeros (length hi)) ∙ add-zero (value lo * 2 ^ 8) in
+    value-append lo (zeros (length hi)) ∙ ap₂ (λ n v. value lo * 2 ^ n + v) (length-replicate (length hi) false ∙ h8) (value-zeros (length hi))
+    ∙ add-zero (value lo * 2 ^ 8) in
     checksum-rest (m ++ (b ∷ []))
     ∙ ap (λ p. value (rest g p)) (bits-of-append m (b ∷ []) ∙ ap (λ p. bitsOf m ++ p) (byte-bits b))
     ∙ ap value (rest-next g (bitsOf m) (bits 8 b) hi lo e (h8 ∙ sym (length-bits 8 b)))

@@ -25,9 +25,14 @@ module _ (g : ℕ → List Bool) (m : ℕ) (r₀ : Run) (s₀ : List ℕ) where
   unfolding blocks
   sent-none h = record { run = emits-none r₀ s₀ h; bound = omega arith }
 
-  pub sent-more : {i : ℕ} {r : Run} {s : List ℕ} {r′ : Run} {s′ : List ℕ} → Sent g m r₀ s₀ i r s → Emits r s (g i) r′ s′ → 8 * r′ .at + r′ .n ≤ 8 * r .at + r .n + m
+  pub sent-more : {i : ℕ} {r : Run} {s : List ℕ} {r′ : Run} {s′ : List ℕ} → Sent g m r₀ s₀ i r s → Emits r s (g i) r′ s′
+      → 8 * r′ .at + r′ .n ≤ 8 * r .at + r .n + m
       → Sent g m r₀ s₀ (i + 1) r′ s′
-  sent-more {i} w h b = record { run = rw (add-one i, blocks-suc g i) (emits-then (w .run) h); bound = omega (arith, w .bound, mul-suc m i, ap (λ k. m * k) (add-one i)) }
+  sent-more {i} w h b = record {
+    run = rw (add-one i, blocks-suc g i) (emits-then (w .run) h);
+    bound =
+        omega (arith, w .bound, mul-suc m i, ap (λ k. m * k) (add-one i));
+  }
 
   pub sent-all : {n i : ℕ} {W : List Bool} {r : Run} {s : List ℕ} → W ≡ blocks g n → i ≡ n → Sent g m r₀ s₀ i r s → Emits r₀ s₀ W r s
   sent-all e h w = rw (e, ← h) (w .run)

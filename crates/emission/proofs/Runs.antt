@@ -71,7 +71,8 @@ bits-part x n r w =
     rw (bits-add x (n + r) w, drop-at (bits x (w / 2 ^ (n + r))) (bits (n + r) w) x (length-bits x _), bits-add n r w)
     (take-at (bits n (w / 2 ^ r)) (bits r w) n (length-bits n _))
 
-module _ {run : Run} {s s′ : List ℕ} {top : ℕ} (h : run .n ≤ 56) (d : Stored 8 s (run .at) top s′) (t : bits 64 top ≡ bits (run .n) (run .bits) ++ zeros (64 - run .n)) where
+module _ {run : Run} {s s′ : List ℕ} {top : ℕ} (h : run .n ≤ 56) (d : Stored 8 s (run .at) top s′)
+    (t : bits 64 top ≡ bits (run .n) (run .bits) ++ zeros (64 - run .n)) where
   -- byte j of the eight holds the bits that wait there
   byte-waits : (w : List Bool) → Waits w run s → (j : ℕ) → run .at + j < length s → 8 * j < run .n → bits 8 (getD s′ (run .at + j) 0) ≡ byteBits w (run .at + j)
   byte-waits w x j l g =
@@ -84,7 +85,12 @@ module _ {run : Run} {s s′ : List ℕ} {top : ℕ} (h : run .n ≤ 56) (d : St
       ap (bits 8) (d .bytes j (omega arith) l)
       ∙ bits-low 8 (top / 2 ^ (56 - 8 * j))
       ∙ sym part
-      ∙ rw (t, drop-append-le (8 * j) (bits n (run .bits)) (zeros (64 - n)) inside, fill-take (drop (8 * j) (bits n (run .bits))) 8 (64 - n) (omega arith), rest)
+      ∙ rw (
+        t,
+        drop-append-le (8 * j) (bits n (run .bits)) (zeros (64 - n)) inside,
+        fill-take (drop (8 * j) (bits n (run .bits))) 8 (64 - n) (omega arith),
+        rest,
+      )
 
   pub flushed : Flushes run s (record { bits = run .bits; n = run .n % 8; at = run .at + run .n / 8 }) s′
   flushed = record {
@@ -104,13 +110,15 @@ module _ {run : Run} {s s′ : List ℕ} {top : ℕ} (h : run .n ≤ 56) (d : St
           let n : ℕ = run .n in
           let e : 8 * (n / 8) + n % 8 ≡ n = omega arith in
           let place : 8 * run .at + 8 * (n / 8) ≡ 8 * (run .at + n / 8) = omega arith in
-          let all : bits n (run .bits) ≡ bits (8 * (n / 8)) (run .bits / 2 ^ (n % 8)) ++ bits (n % 8) (run .bits) = rw e at (bits-add (8 * (n / 8)) (n % 8) (run .bits)) in
+          let all : bits n (run .bits) ≡ bits (8 * (n / 8)) (run .bits / 2 ^ (n % 8))
+          ++ bits (n % 8) (run .bits) = rw e at (bits-add (8 * (n / 8)) (n % 8) (run .bits)) in
           sym (drop-at (bits (8 * (n / 8)) (run .bits / 2 ^ (n % 8))) (bits (n % 8) (run .bits)) (8 * (n / 8)) (length-bits _ _))
           ∙ ap (drop (8 * (n / 8))) (sym all ∙ x .waiting)
           ∙ drop-drop (8 * (n / 8)) (8 * run .at) w
           ∙ rw place
 
-      stands : (w : List Bool) → Waits w run s → (k : ℕ) → k < length s′ → 8 * k < length w → (k < run .at) ⊎ (run .at ≤ k) → bits 8 (getD s′ k 0) ≡ byteBits w k
+      stands : (w : List Bool) → Waits w run s → (k : ℕ) → k < length s′ → 8 * k < length w → (k < run .at) ⊎ (run .at ≤ k) → bits 8 (getD s′ k 0)
+          ≡ byteBits w k
       stands w x k l g (inl b) = ap (bits 8) (d .before k b) ∙ x .stands k (omega (arith, d .same)) b
       stands w x k l g (inr b) =
           let e : run .at + (k - run .at) ≡ k = omega arith in
@@ -119,7 +127,8 @@ module _ {run : Run} {s s′ : List ℕ} {top : ℕ} (h : run .n ≤ 56) (d : St
 -- ---- the end
 
 -- bytes that hold w, and zeros after it
-filled : (s : List ℕ) (w : List Bool) → ((k : ℕ) → k < length s → bits 8 (getD s k 0) ≡ byteBits w k) → bitsOf s ≡ take (8 * length s) (w ++ zeros (8 * length s))
+filled : (s : List ℕ) (w : List Bool) → ((k : ℕ) → k < length s → bits 8 (getD s k 0) ≡ byteBits w k) → bitsOf s
+    ≡ take (8 * length s) (w ++ zeros (8 * length s))
 unfolding bitsOf
 filled [] w h = refl
 filled (b ∷ s) w h =
@@ -142,9 +151,15 @@ eight-none = refl
 
 pub closed : {run : Run} {s s′ : List ℕ} → length s′ ≡ length s → ((k : ℕ) → 8 * k < 8 * run .at + run .n → getD s′ k 0 ≡ getD s k 0)
     → ((k : ℕ) → k < length s → 8 * run .at + run .n ≤ 8 * k → getD s′ k 0 ≡ 0) → Closes run s (8 * run .at + run .n) s′
-closed {run} {s} {s′} l before after = record { total = refl; same = l; holds = λ w x. filled s′ w (λ k g. byte w x k g (sides (8 * k) (8 * run .at + run .n))) }
+closed {run} {s} {s′} l before after = record {
+  total = refl;
+  same = l;
+  holds =
+      λ w x. filled s′ w (λ k g. byte w x k g (sides (8 * k) (8 * run .at + run .n)));
+}
   where
-    byte : (w : List Bool) → Emitted w run s → (k : ℕ) → k < length s′ → (8 * k < 8 * run .at + run .n) ⊎ (8 * run .at + run .n ≤ 8 * k) → bits 8 (getD s′ k 0) ≡ byteBits w k
+    byte : (w : List Bool) → Emitted w run s → (k : ℕ) → k < length s′ → (8 * k < 8 * run .at + run .n) ⊎ (8 * run .at + run .n ≤ 8 * k) → bits 8 (getD s′ k 0)
+        ≡ byteBits w k
     byte w x k g (inl h) = ap (bits 8) (before k h) ∙ x .stands k (omega arith) (omega (arith, x .place))
     byte w x k g (inr h) =
         let short : length w ≤ 8 * k = omega (arith, x .place) in
@@ -162,5 +177,6 @@ module _ {run : Run} {s : List ℕ} {count : ℕ} {s′ : List ℕ} {w : List Bo
     held = λ h.
         let m : ℕ = 8 * length s′ in
         let e : length w + (m - length w) ≡ m = omega arith in
-        d .holds w x ∙ ap (λ k. take k (w ++ zeros m)) (sym e) ∙ take-append-add w (zeros m) (m - length w) ∙ ap (λ l. w ++ l) (take-copies false (m - length w) m (omega arith));
+        d .holds w x ∙ ap (λ k. take k (w ++ zeros m)) (sym e) ∙ take-append-add w (zeros m) (m - length w)
+        ∙ ap (λ l. w ++ l) (take-copies false (m - length w) m (omega arith));
   }

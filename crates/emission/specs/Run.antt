@@ -67,7 +67,7 @@ fieldBits (l ∷ ls) (w ∷ ws) = bits l w ++ fieldBits ls ws
 
 -- the first n of them fit
 abbrev pub AllFit : (m : ℕ) (lengths words : List ℕ) (n : ℕ) → Type 0
-AllFit m ls ws n = (i : ℕ) → i < n → (getD ls i 0 ≤ m) × (getD ws i 0 < 2 ^ getD ls i 0)
+AllFit m lengths words n = (i : ℕ) → i < n → (getD lengths i 0 ≤ m) × (getD words i 0 < 2 ^ getD lengths i 0)
 
 -- ---- the end
 

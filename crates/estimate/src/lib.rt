@@ -8,7 +8,7 @@ ghost use mathlib.Core.Path.{_≡_};
 ghost use Prim.Native.Nat.{_+_, _*_, _≤_, _<_};
 ghost use lib.ListN.{length};
 ghost use Rattle.buffers.specs.Walk.{AtMost};
-ghost use Rattle.rules.specs.Layout.{Sizes, spectrumLength, factorLength};
+ghost use Rattle.rules.specs.Layout.{LegalLayout, spectrumLength, factorLength};
 ghost use Rattle.rules.specs.Resolution.{resolution};
 ghost use Rattle.rules.specs.Estimate.{bandBits, channelBits, fixedBits, spectralBits, usedBits};
 ghost use Rattle.resolutions.specs.Stretched.{IsStretched};
@@ -68,7 +68,7 @@ fn spectral_total(
     factors: &[u8],
     level: usize,
 ) -> usize
-    requires { ⌜ Sizes layout ⌝ }
+    requires { ⌜ LegalLayout layout ⌝ }
     requires { ⌜ IsStretched (now curve) × Counted layout (now scaled) (now counts) × AtMost 63 (now factors) ⌝ }
     requires { ⌜ (length (now scaled) ≡ spectrumLength layout) × (length (now factors) ≡ factorLength layout) × (level ≤ 254) ⌝ }
     ensures { λ r. ⌜ (r ≡ spectralBits layout (now (scaled .entry)) (now (factors .entry)) level 0) × (r ≤ 196608) ⌝ }
@@ -104,7 +104,7 @@ pub fn calculate_used_bits(
     fixed: usize,
     level: usize,
 ) -> usize
-    requires { ⌜ Sizes layout ⌝ }
+    requires { ⌜ LegalLayout layout ⌝ }
     requires { ⌜ IsStretched (now curve) × Counted layout (now scaled) (now counts) × AtMost 63 (now factors) ⌝ }
     requires { ⌜ (length (now scaled) ≡ spectrumLength layout) × (length (now factors) ≡ factorLength layout) ⌝ }
     requires { ⌜ (fixed ≡ fixedBits layout (now factors)) × (fixed ≤ 13152) × (level ≤ 254) ⌝ }

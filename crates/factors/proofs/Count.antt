@@ -80,7 +80,8 @@ none-after : (v x : Float) (r : List Float) → T (rises (x ∷ r)) → T (not (
 unfolding countLe
 none-after v x [] t n = refl
 none-after v x (y ∷ r) t n =
-    let m : T (not (le y v)) = flip (le x v) (le y v) (λ k. le-through x y v (head-positive x (y ∷ r) t) (head-positive y r (tail-rises x (y ∷ r) t)) (next-le x y r t) k) n in
+    let m : T (not (le y v)) = flip (le x v) (le y v) (λ k. le-through x y v (head-positive x (y ∷ r) t) (head-positive y r (tail-rises x (y ∷ r) t))
+    (next-le x y r t) k) n in
     count-no v y r m ∙ none-after v y r (tail-rises x (y ∷ r) t) m
   where
     flip : (a b : Bool) → (T b → T a) → T (not a) → T (not b)

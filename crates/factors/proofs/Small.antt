@@ -6,14 +6,14 @@ use lib.Ieee.{Float}
 use lib.ListN.{getD}
 use Rattle.buffers.specs.Walk.{AtMost}
 use Rattle.buffers.proofs.Most.{build-most, blocks-most}
-use Rattle.rules.specs.Layout.{codedAt, part}
+use Rattle.rules.specs.Layout.{codedCountAt, part}
 use Rattle.rules.specs.Factor.{channelFactors, allFactors}
 use Rattle.rules.specs.declared.Layout.{Layout}
 use Rattle.rules.proofs.Made.{band-held}
 
 factors-most : (l : Layout) (xs : List Float) → AtMost 63 (allFactors l xs)
 unfolding allFactors channelFactors
-factors-most l xs = blocks-most 63 _ (λ c. build-most 63 _ (band-held (part 1024 xs c) (codedAt l c)) 128) (l .channels)
+factors-most l xs = blocks-most 63 _ (λ c. build-most 63 _ (band-held (part 1024 xs c) (codedCountAt l c)) 128) (l .channels)
 
 pub factors-small : (l : Layout) (xs : List Float) (i : ℕ) → getD (allFactors l xs) i 0 < 64
 factors-small l xs i = omega (arith, factors-most l xs i)

@@ -2,7 +2,7 @@
 ghost use mathlib.Core.Path.{_≡_};
 ghost use Prim.Native.Nat.{_≤_, _<_};
 ghost use lib.ListN.{length};
-ghost use Rattle.rules.specs.Layout.{Sizes, spectrumLength, factorLength};
+ghost use Rattle.rules.specs.Layout.{LegalLayout, spectrumLength, factorLength};
 ghost use Rattle.rules.specs.Factor.{factorOf, bandFactor, channelFactors, allFactors};
 ghost use Rattle.factors.specs.Scaling.{IsScaling};
 ghost use Rattle.factors.specs.Guess.{guessOf};
@@ -74,7 +74,7 @@ pub fn calculate_scale_factors(
     spectra: &[f32],
     factors: &mut [u8],
 )
-    requires { ⌜ Sizes layout ⌝ }
+    requires { ⌜ LegalLayout layout ⌝ }
     requires { ⌜ IsScaling (now table) ⌝ }
     requires { ⌜ (length (now spectra) ≡ spectrumLength layout) × (length (now factors) ≡ factorLength layout) ⌝ }
     ensures { λ _. ⌜ now (factors .exit) ≡ allFactors layout (now (spectra .entry)) ⌝ }

@@ -11,7 +11,7 @@ use Rattle.rules.specs.Layout.{legalLayout}
 use Rattle.rules.specs.declared.Layout.{Layout}
 use Rattle.rules_files.specs.declared.header.Stream.{Stream}
 use Rattle.rules_files.specs.declared.header.HeaderAnswer.the-variants.{Delivered, BadLayout, ShortBuffer, BadHeader}
-use Rattle.rules_files.specs.FileHeader.{pieces, stamped, headerOf, fitsHeader, headerOutcome, headerLeft, headerWritten}
+use Rattle.rules_files.specs.FileHeader.{pieces, stamped, headerOf, fitsHeader, headerOutcome, headerLeft, writeHeader}
 use Rattle.rules_files.proofs.Pieces.{stamped-length, header-within, header-body}
 use Rattle.rules_files.proofs.HeaderTheorems.{header-bytes}
 
@@ -27,21 +27,21 @@ module _ (l : Layout) (st : Stream) where
       closed ∙ ap sealed (ap (λ (n : ℕ). take n u) k ∙ ap (take 94) e ∙ header-body l st)
 
 module _ (l : Layout) (st : Stream) (h : List ℕ) where
-  pub gate-layout : legalLayout l ≡ false → headerLeft BadLayout h ≡ headerWritten l st h
-  unfolding headerWritten headerOutcome
+  pub gate-layout : legalLayout l ≡ false → headerLeft BadLayout h ≡ writeHeader l st h
+  unfolding writeHeader headerOutcome
   gate-layout e = rw e
 
   module _ (e : legalLayout l ≡ true) where
-    pub gate-short : length h < 96 → headerLeft ShortBuffer h ≡ headerWritten l st h
-    unfolding headerWritten headerOutcome
+    pub gate-short : length h < 96 → headerLeft ShortBuffer h ≡ writeHeader l st h
+    unfolding writeHeader headerOutcome
     gate-short g = rw (e, lt-ltb _ _ g)
 
     module _ (g : 96 ≤ length h) where
-      pub gate-unfit : fitsHeader l st ≡ false → headerLeft BadHeader h ≡ headerWritten l st h
-      unfolding headerWritten headerOutcome
+      pub gate-unfit : fitsHeader l st ≡ false → headerLeft BadHeader h ≡ writeHeader l st h
+      unfolding writeHeader headerOutcome
       gate-unfit f = rw (e, le-ltb _ _ g, f)
 
       -- a longer buffer's rest stays
-      pub header-done : fitsHeader l st ≡ true → (new : List ℕ) → new ≡ headerOf l st → headerLeft Delivered (new ++ drop 96 h) ≡ headerWritten l st h
-      unfolding headerWritten headerOutcome
+      pub header-done : fitsHeader l st ≡ true → (new : List ℕ) → new ≡ headerOf l st → headerLeft Delivered (new ++ drop 96 h) ≡ writeHeader l st h
+      unfolding writeHeader headerOutcome
       header-done f new q = rw (e, le-ltb _ _ g, f, header-bytes l st .0, q)

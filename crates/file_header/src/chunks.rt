@@ -2,7 +2,7 @@
 ghost use mathlib.Core.Path.{_≡_};
 ghost use Prim.Native.Nat.{_≤_};
 ghost use lib.ListN.{length};
-ghost use Rattle.rules.specs.Layout.{Sizes};
+ghost use Rattle.rules.specs.Layout.{LegalLayout};
 ghost use Rattle.rules_files.specs.FileHeader.{stamped, magicPieces, formatPieces, framePieces, bandPieces};
 ghost use Rattle.rules_files.specs.FileHeader.{fieldPieces, loopPieces, tailPieces, afterLoop, channelConfig, PointsFit};
 use crate::loop_points::loop_fields;
@@ -64,7 +64,7 @@ pub fn put_frame(layout: Layout, header: &mut [u8])
 
 // The rest of `comp`.
 pub fn put_bands(layout: Layout, header: &mut [u8])
-    requires { ⌜ Sizes layout ⌝ }
+    requires { ⌜ LegalLayout layout ⌝ }
     requires { ⌜ (layout .channels ≤ 8) × (length (now header) ≡ 96) ⌝ }
     ensures { λ _. ⌜ now (header .exit) ≡ stamped (bandPieces layout) (now (header .entry)) ⌝ }
 {

@@ -7,8 +7,8 @@ pub mod chunks;
 
 ghost use mathlib.Core.Path.{_≡_};
 ghost use lib.ListN.{length};
-ghost use Rattle.rules.specs.Layout.{Sizes};
-ghost use Rattle.rules_files.specs.FileHeader.{pieces, stamped, headerOf, fitsPoints, fitsHeader, HeaderFits, headerLeft, headerWritten};
+ghost use Rattle.rules.specs.Layout.{LegalLayout};
+ghost use Rattle.rules_files.specs.FileHeader.{pieces, stamped, headerOf, fitsPoints, fitsHeader, HeaderFits, headerLeft, writeHeader};
 use crate::chunks::put_bands;
 use crate::chunks::put_format;
 use crate::chunks::put_frame;
@@ -63,7 +63,7 @@ fn fits_header(layout: Layout, stream: Stream) -> bool
 }
 
 fn put_chunks(layout: Layout, stream: Stream, header: &mut [u8])
-    requires { ⌜ Sizes layout ⌝ }
+    requires { ⌜ LegalLayout layout ⌝ }
     requires { ⌜ HeaderFits layout stream ⌝ }
     requires { ⌜ length (now header) ≡ 96 ⌝ }
     ensures { λ _. ⌜ now (header .exit) ≡ stamped (pieces layout stream) (now (header .entry)) ⌝ }
@@ -78,7 +78,7 @@ fn put_chunks(layout: Layout, stream: Stream, header: &mut [u8])
 }
 
 fn write_exact(layout: Layout, stream: Stream, header: &mut [u8])
-    requires { ⌜ Sizes layout ⌝ }
+    requires { ⌜ LegalLayout layout ⌝ }
     requires { ⌜ HeaderFits layout stream ⌝ }
     requires { ⌜ length (now header) ≡ 96 ⌝ }
     ensures { λ _. ⌜ now (header .exit) ≡ headerOf layout stream ⌝ }
@@ -90,7 +90,7 @@ fn write_exact(layout: Layout, stream: Stream, header: &mut [u8])
 
 // Takes any arguments. Refusals 1, 2 and 16, in this order.
 pub fn write_header(layout: Layout, stream: Stream, header: &mut [u8]) -> HeaderAnswer
-    ensures { λ r. ⌜ headerLeft r (now (header .exit)) ≡ headerWritten layout stream (now (header .entry)) ⌝ }
+    ensures { λ r. ⌜ headerLeft r (now (header .exit)) ≡ writeHeader layout stream (now (header .entry)) ⌝ }
 {
     if !legal(layout) {
         return HeaderAnswer::BadLayout;

@@ -25,7 +25,8 @@ abs-cond false b s v w e = e
 abs-fields : (f : Format) (s : Bool) (x t : ℕ) → absF (ofFields f s x t) ≡ ofFields f false x t
 unfolding ofFields
 abs-fields f s zero t = abs-odd (prec f) s t 0 (low f)
-abs-fields f s (suc x) t = abs-cond (eqb (suc x) (ones f)) (eqb t 0) s (odd (prec f) s (hid f + t) x (low f)) (odd (prec f) false (hid f + t) x (low f)) (abs-odd (prec f) s (hid f + t) x (low f))
+abs-fields f s (suc x) t = abs-cond (eqb (suc x) (ones f)) (eqb t 0) s (odd (prec f) s (hid f + t) x (low f)) (odd (prec f) false (hid f + t) x (low f))
+    (abs-odd (prec f) s (hid f + t) x (low f))
 
 top-pos : (f : Format) → 0 < top f
 top-pos f = mul-pos (pow-pos (prec f - 1)) (zero-lt-suc (ones f))

@@ -30,14 +30,16 @@ cut-odd c p s q k l = cut-value c (odd p s q k l) s (q * 2 ^ k) (2 ^ l) (pow-pos
 
 -- ---- the sign
 signed-cond : (h : ℕ) (a b : Bool) (s : Bool) (v : Float) → toSigned h v ≡ cond s (negℤ (pos (cutTo (2 ^ h) v))) (pos (cutTo (2 ^ h - 1) v))
-    → toSigned h (cond a (cond b (inf s) nan) v) ≡ cond s (negℤ (pos (cutTo (2 ^ h) (cond a (cond b (inf s) nan) v)))) (pos (cutTo (2 ^ h - 1) (cond a (cond b (inf s) nan) v)))
+    → toSigned h (cond a (cond b (inf s) nan) v) ≡ cond s (negℤ (pos (cutTo (2 ^ h) (cond a (cond b (inf s) nan) v))))
+    (pos (cutTo (2 ^ h - 1) (cond a (cond b (inf s) nan) v)))
 unfolding toSigned cutTo
 signed-cond h true true s v e = refl
 signed-cond h true false true v e = refl
 signed-cond h true false false v e = refl
 signed-cond h false b s v e = e
 
-signed-odd : (h d : ℕ) (s : Bool) (q k l : ℕ) → toSigned h (odd d s q k l) ≡ cond s (negℤ (pos (cutTo (2 ^ h) (odd d s q k l)))) (pos (cutTo (2 ^ h - 1) (odd d s q k l)))
+signed-odd : (h d : ℕ) (s : Bool) (q k l : ℕ) → toSigned h (odd d s q k l)
+    ≡ cond s (negℤ (pos (cutTo (2 ^ h) (odd d s q k l)))) (pos (cutTo (2 ^ h - 1) (odd d s q k l)))
 unfolding toSigned cutTo odd
 signed-odd h d s zero k l = refl
 signed-odd h d s (suc q) k l = refl
@@ -46,7 +48,8 @@ signed-fields : (f : Format) (h : ℕ) (s : Bool) (x t : ℕ)
     → toSigned h (ofFields f s x t) ≡ cond s (negℤ (pos (cutTo (2 ^ h) (ofFields f s x t)))) (pos (cutTo (2 ^ h - 1) (ofFields f s x t)))
 unfolding ofFields
 signed-fields f h s zero t = signed-odd h (prec f) s t 0 (low f)
-signed-fields f h s (suc x) t = signed-cond h (eqb (suc x) (ones f)) (eqb t 0) s (odd (prec f) s (hid f + t) x (low f)) (signed-odd h (prec f) s (hid f + t) x (low f))
+signed-fields f h s (suc x) t = signed-cond h (eqb (suc x) (ones f)) (eqb t 0) s (odd (prec f) s (hid f + t) x (low f))
+    (signed-odd h (prec f) s (hid f + t) x (low f))
 
 pub signed-bits : (f : Format) (h b : ℕ)
     → toSigned h (ofBits f b) ≡ cond (leb (top f) b) (negℤ (pos (cutTo (2 ^ h) (ofBits f b)))) (pos (cutTo (2 ^ h - 1) (ofBits f b)))
@@ -87,7 +90,8 @@ cut-zero c t = cut-odd c 24 false t 0 149
 cut-mid : (c x t : ℕ) → suc x < 255 → cutTo c (ofFields binary32 false (suc x) t) ≡ min ((8388608 + t) * 2 ^ x / 2 ^ 149) c
 unfolding ofFields
 cut-mid c x t h =
-    ap (cutTo c) (cond-no (eqb (suc x) 255) (cond (eqb t 0) (inf false) nan) (odd 24 false (8388608 + t) x 149) (not-T (eqb (suc x) 255) (λ u. below-not (suc x) 255 h (eqb→eq (suc x) 255 u))))
+    ap (cutTo c) (cond-no (eqb (suc x) 255) (cond (eqb t 0) (inf false) nan) (odd 24 false (8388608 + t) x 149)
+    (not-T (eqb (suc x) 255) (λ u. below-not (suc x) 255 h (eqb→eq (suc x) 255 u))))
     ∙ cut-odd c 24 false (8388608 + t) x 149
   where
     below-not : (a b : ℕ) → a < b → a ≡ b → ⊥
@@ -106,7 +110,8 @@ none : (q x l : ℕ) → q < 2 ^ 24 → 24 + x ≤ l → q * 2 ^ x / 2 ^ l ≡ 0
 none q x l h k = div-eq-of-lt (lt-of-lt-of-le (shl-lt 24 x h) (pow-mono k))
 
 right : (q x l : ℕ) → x ≤ l → q * 2 ^ x / 2 ^ l ≡ q / 2 ^ (l - x)
-right q x l h = div-same (q * 2 ^ x) (2 ^ l) q (2 ^ (l - x)) (pow-pos l) (pow-pos (l - x)) (mul-assoc q (2 ^ x) (2 ^ (l - x)) ∙ ap (λ (z : ℕ). q * z) (sym (pow-add 2 x (l - x)) ∙ ap (λ (z : ℕ). 2 ^ z) (join x l h)))
+right q x l h = div-same (q * 2 ^ x) (2 ^ l) q (2 ^ (l - x)) (pow-pos l) (pow-pos (l - x))
+    (mul-assoc q (2 ^ x) (2 ^ (l - x)) ∙ ap (λ (z : ℕ). q * z) (sym (pow-add 2 x (l - x)) ∙ ap (λ (z : ℕ). 2 ^ z) (join x l h)))
   where
     join : (x l : ℕ) → x ≤ l → x + (l - x) ≡ l
     join x l h = omega arith
@@ -130,7 +135,8 @@ min-right w c h = omega arith
 pub cut-below-one : (e t : ℕ) → t < 8388608 → e < 127 → cutTo (2 ^ 31) (ofFields binary32 false e t) ≡ 0
 cut-below-one zero t d h = cut-zero (2 ^ 31) t ∙ ap (λ (w : ℕ). min w (2 ^ 31)) (none t 0 149 (omega arith) (omega arith)) ∙ min-left 0 (2 ^ 31) (omega arith)
 cut-below-one (suc x) t d h =
-    cut-mid (2 ^ 31) x t (omega arith) ∙ ap (λ (w : ℕ). min w (2 ^ 31)) (none (8388608 + t) x 149 (omega arith) (omega arith)) ∙ min-left 0 (2 ^ 31) (omega arith)
+    cut-mid (2 ^ 31) x t (omega arith) ∙ ap (λ (w : ℕ). min w (2 ^ 31)) (none (8388608 + t) x 149 (omega arith) (omega arith))
+    ∙ min-left 0 (2 ^ 31) (omega arith)
 
 pub cut-right : (e t : ℕ) → t < 8388608 → 127 ≤ e → e ≤ 150 → (t + 8388608) / 2 ^ (150 - e) ≡ cutTo (2 ^ 31) (ofFields binary32 false e t)
 cut-right zero t d h k = absurd (not-suc-le-zero h)
@@ -179,14 +185,16 @@ pub signed-yes : (x : Float) → T (fits binary32 x) → 2147483648 ≤ toBits b
 signed-yes x t h =
     let b = toBits binary32 x in
     subst (λ (y : Float). toSigned 31 y ≡ negℤ (pos (cutTo (2 ^ 31) y))) (ofBits-toBits binary32 x t)
-    (signed-bits binary32 31 b ∙ ap (λ (s : Bool). cond s (negℤ (pos (cutTo (2 ^ 31) (ofBits binary32 b)))) (pos (cutTo (2 ^ 31 - 1) (ofBits binary32 b)))) (is-true (leb 2147483648 b) (le→leb 2147483648 b h)))
+    (signed-bits binary32 31 b ∙ ap (λ (s : Bool). cond s (negℤ (pos (cutTo (2 ^ 31) (ofBits binary32 b)))) (pos (cutTo (2 ^ 31 - 1) (ofBits binary32 b))))
+    (is-true (leb 2147483648 b) (le→leb 2147483648 b h)))
 
 pub signed-no : (x : Float) → T (fits binary32 x) → toBits binary32 x < 2147483648 → toSigned 31 x ≡ pos (min (cutTo (2 ^ 31) x) 2147483647)
 signed-no x t h =
     let b = toBits binary32 x in
     subst (λ (y : Float). toSigned 31 y ≡ pos (min (cutTo (2 ^ 31) y) 2147483647)) (ofBits-toBits binary32 x t)
     (signed-bits binary32 31 b
-    ∙ ap (λ (s : Bool). cond s (negℤ (pos (cutTo (2 ^ 31) (ofBits binary32 b)))) (pos (cutTo (2 ^ 31 - 1) (ofBits binary32 b)))) (is-false (leb 2147483648 b) (lt→nleb 2147483648 b h))
+    ∙ ap (λ (s : Bool). cond s (negℤ (pos (cutTo (2 ^ 31) (ofBits binary32 b)))) (pos (cutTo (2 ^ 31 - 1) (ofBits binary32 b))))
+    (is-false (leb 2147483648 b) (lt→nleb 2147483648 b h))
     ∙ ap pos (cut-less (2 ^ 31) (ofBits binary32 b)))
 
 pub signed-nan : (x : Float) → ne x x ≡ true → pos 0 ≡ toSigned 31 x
@@ -195,4 +203,6 @@ signed-nan x h = subst (λ (y : Float). pos 0 ≡ toSigned 31 y) (sym (differs-f
 
 -- the pattern without its sign is at most the infinity's
 pub bits-top : (x : Float) → T (fits binary32 x) → T (not (isNan x)) → toBits binary32 x % 2147483648 ≤ 2139095040
-bits-top x t n = nltb→le 2139095040 (toBits binary32 x % 2147483648) (subst (λ (b : Bool). T (not b)) (nanBits-above binary32 (toBits binary32 x % 2147483648) ∙ ap (λ (r : ℕ). ltb 2139095040 r) (mod-mod (toBits binary32 x) 2147483648)) (abs-no-nan binary32 x t n))
+bits-top x t n = nltb→le 2139095040 (toBits binary32 x % 2147483648)
+    (subst (λ (b : Bool). T (not b)) (nanBits-above binary32 (toBits binary32 x % 2147483648)
+    ∙ ap (λ (r : ℕ). ltb 2139095040 r) (mod-mod (toBits binary32 x) 2147483648)) (abs-no-nan binary32 x t n))

@@ -45,8 +45,8 @@ minF a b = cond (lt b a) b a
 
 -- n values of xs, `stride` apart from `at` on, taken into s one after the other
 unfoldable pub folded : (op : Float → Float → Float) (xs : List Float) (start stride count : ℕ) (s : Float) → Float
-folded op xs at stride zero s = s
-folded op xs at stride (suc n) s = folded op xs (at + stride) stride n (op s (getD xs at nan))
+folded op xs start stride zero s = s
+folded op xs start stride (suc n) s = folded op xs (start + stride) stride n (op s (getD xs start nan))
 
 -- the sum with one magnitude more, and the larger of s and a magnitude
 abbrev pub addAbs : (s x : Float) → Float
@@ -67,7 +67,7 @@ unfoldable pub withOne : (a : Average) (x : Float) → Average
 withOne a x = record { sum = addAbs (a .sum) x; count = a .count + 1 }
 
 unfoldable pub withEight : (xs : List Float) (start stride : ℕ) (a : Average) → Average
-withEight xs at stride a = record { sum = folded addAbs xs at stride 8 (a .sum); count = a .count + 8 }
+withEight xs start stride a = record { sum = folded addAbs xs start stride 8 (a .sum); count = a .count + 8 }
 
 unfoldable pub mean : (a : Average) → Float
 mean a = meanF (a .sum) (a .count)

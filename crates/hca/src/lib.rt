@@ -4,14 +4,14 @@ ghost use Rattle.crc.specs.Check.{checksum};
 ghost use Rattle.rules.specs.Stage.{stageLent};
 ghost use Rattle.rules.specs.Reader.{readerLent};
 ghost use Rattle.rules_line.specs.Line.{lineLent};
-ghost use Rattle.hca_encode.specs.Encoded.{encodedAs, encoded};
-ghost use Rattle.hca_encode.specs.StereoEncoded.{stereoEncodedAs, stereoEncoded};
-ghost use Rattle.hca_encode.specs.Lined.{linedAs, lined};
-ghost use Rattle.hca_records.specs.Returned.{returnedAs, returned};
-ghost use Rattle.hca_records.specs.Wrote.{wroteAs, wrote};
-ghost use Rattle.hca_files.specs.HeaderWrote.{headerAs, headerWrote};
-ghost use Rattle.hca_files.specs.Takes.{takeAs, takeRead};
-ghost use Rattle.hca_files.specs.Listed.{listWroteAs, listWrote, listReturnedAs, listReturned, answeredAs, entryAnswered, summaryAnswered};
+ghost use Rattle.hca_encode.specs.EncodeFrame.{cStageLeft, cEncodeFrame};
+ghost use Rattle.hca_encode.specs.EncodeStereoFrame.{cStereoLeft, cEncodeStereoFrame};
+ghost use Rattle.hca_encode.specs.EncodeLine.{cLineLeft, cEncodeLine};
+ghost use Rattle.hca_records.specs.ReadFrame.{cReaderLeft, cReadFrame};
+ghost use Rattle.hca_records.specs.WriteRecord.{cWriterLeft, cWriteRecord};
+ghost use Rattle.hca_files.specs.WriteHeader.{cHeaderLeft, cWriteHeader};
+ghost use Rattle.hca_files.specs.ReadWav.{cWavLeft, cReadWav};
+ghost use Rattle.hca_files.specs.Lists.{cListLeft, cWriteList, cEntriesLeft, cReadList, cAnswerLeft, cListEntry, cListSummary};
 use hca_encode::frame::encode_frame;
 use hca_encode::line::encode_line;
 use hca_encode::stereo_frame::encode_stereo_frame;
@@ -38,8 +38,8 @@ pub extern "C" fn hca_encode_frame(
     frame: &mut [u8],
     answer: &mut [u32],
 ) -> u32
-    ensures { λ r. ⌜ encodedAs r (now (answer .exit)) (now (scaled .exit)) (now (codes .exit)) (now (factors .exit)) (now (side .exit))
-        (now (frame .exit)) ≡ encoded (now (layout .entry)) (now (kinds .entry))
+    ensures { λ r. ⌜ cStageLeft r (now (answer .exit)) (now (scaled .exit)) (now (codes .exit)) (now (factors .exit)) (now (side .exit))
+        (now (frame .exit)) ≡ cEncodeFrame (now (layout .entry)) (now (kinds .entry))
         (stageLent (now (spectra .entry)) (now (intensities .entry)) (now (scaled .entry)) (now (codes .entry)) (now (factors .entry))
         (now (side .entry)) (now (frame .entry))) (now (answer .entry)) ⌝ }
 {
@@ -71,9 +71,9 @@ pub extern "C" fn hca_encode_stereo_frame(
     frame: &mut [u8],
     answer: &mut [u32],
 ) -> u32
-    ensures { λ r. ⌜ stereoEncodedAs r (now (answer .exit)) (now (spectra .exit)) (now (intensities .exit)) (now (scaled .exit)) (now (codes .exit))
+    ensures { λ r. ⌜ cStereoLeft r (now (answer .exit)) (now (spectra .exit)) (now (intensities .exit)) (now (scaled .exit)) (now (codes .exit))
         (now (factors .exit)) (now (side .exit)) (now (frame .exit))
-        ≡ stereoEncoded (now (layout .entry)) (now (kinds .entry))
+        ≡ cEncodeStereoFrame (now (layout .entry)) (now (kinds .entry))
         (stageLent (now (spectra .entry)) (now (intensities .entry)) (now (scaled .entry)) (now (codes .entry)) (now (factors .entry))
         (now (side .entry)) (now (frame .entry))) (now (answer .entry)) ⌝ }
 {
@@ -108,8 +108,8 @@ pub extern "C" fn hca_encode_line(
     tally: &mut [u64],
     answer: &mut [u32],
 ) -> u32
-    ensures { λ r. ⌜ linedAs r (now (answer .exit)) (now (scaled .exit)) (now (codes .exit)) (now (factors .exit)) (now (side .exit))
-        (now (frames .exit)) (now (answers .exit)) (now (tally .exit)) ≡ lined (now (layout .entry)) (now (kinds .entry)) count
+    ensures { λ r. ⌜ cLineLeft r (now (answer .exit)) (now (scaled .exit)) (now (codes .exit)) (now (factors .exit)) (now (side .exit))
+        (now (frames .exit)) (now (answers .exit)) (now (tally .exit)) ≡ cEncodeLine (now (layout .entry)) (now (kinds .entry)) count
         (lineLent (now (spectra .entry)) (now (intensities .entry)) (now (scaled .entry)) (now (codes .entry)) (now (factors .entry))
         (now (side .entry)) (now (frames .entry)) (now (answers .entry))) (now (tally .entry)) (now (answer .entry)) ⌝ }
 {
@@ -142,8 +142,8 @@ pub extern "C" fn hca_write_record(
     frame: &mut [u8],
     answer: &mut [u32],
 ) -> u32
-    ensures { λ r. ⌜ wroteAs r (now (answer .exit)) (now (frame .exit))
-        ≡ wrote (now (layout .entry)) (now (kinds .entry)) (now («record» .entry)) (now (factors .entry)) (now (side .entry)) (now (codes .entry))
+    ensures { λ r. ⌜ cWriterLeft r (now (answer .exit)) (now (frame .exit))
+        ≡ cWriteRecord (now (layout .entry)) (now (kinds .entry)) (now («record» .entry)) (now (factors .entry)) (now (side .entry)) (now (codes .entry))
         (now (frame .entry)) (now (answer .entry)) ⌝ }
 {
     write_record(layout, kinds, record, factors, side, codes, frame, answer)
@@ -160,8 +160,8 @@ pub extern "C" fn hca_read_frame(
     codes: &mut [i32],
     answer: &mut [u32],
 ) -> u32
-    ensures { λ r. ⌜ returnedAs r (now (answer .exit)) (now (factors .exit)) (now (side .exit)) (now (codes .exit))
-        ≡ returned (now (layout .entry)) (now (kinds .entry))
+    ensures { λ r. ⌜ cReaderLeft r (now (answer .exit)) (now (factors .exit)) (now (side .exit)) (now (codes .exit))
+        ≡ cReadFrame (now (layout .entry)) (now (kinds .entry))
         (readerLent (now (frame .entry)) (now (factors .entry)) (now (side .entry)) (now (codes .entry))) (now (answer .entry)) ⌝ }
 {
     read_frame(layout, kinds, frame, factors, side, codes, answer)
@@ -176,7 +176,7 @@ pub extern "C" fn hca_write_header(
     points: &[u64],
     header: &mut [u8],
 ) -> u32
-    ensures { λ r. ⌜ headerAs r (now (header .exit)) ≡ headerWrote (now (layout .entry)) (now (kinds .entry)) (now (stream .entry))
+    ensures { λ r. ⌜ cHeaderLeft r (now (header .exit)) ≡ cWriteHeader (now (layout .entry)) (now (kinds .entry)) (now (stream .entry))
         (now (points .entry)) (now (header .entry)) ⌝ }
 {
     write_header(layout, kinds, stream, points, header)
@@ -190,8 +190,8 @@ pub extern "C" fn hca_read_wav(
     note: &mut [f32],
     answer: &mut [u32],
 ) -> u32
-    ensures { λ r. ⌜ takeAs r (now (samples .exit)) (now (note .exit)) (now (answer .exit))
-        ≡ takeRead (now (wav .entry)) (now (samples .entry)) (now (note .entry)) (now (answer .entry)) ⌝ }
+    ensures { λ r. ⌜ cWavLeft r (now (samples .exit)) (now (note .exit)) (now (answer .exit))
+        ≡ cReadWav (now (wav .entry)) (now (samples .entry)) (now (note .entry)) (now (answer .entry)) ⌝ }
 {
     read_wav(wav, samples, note, answer)
 }
@@ -199,7 +199,7 @@ pub extern "C" fn hca_read_wav(
 // The writer of the list beside the bank.
 #[no_mangle]
 pub extern "C" fn hca_list_write(frames: u32, entries: &[u32], list: &mut [u8]) -> u32
-    ensures { λ r. ⌜ listWroteAs r (now (list .exit)) ≡ listWrote frames (now (entries .entry)) (now (list .entry)) ⌝ }
+    ensures { λ r. ⌜ cListLeft r (now (list .exit)) ≡ cWriteList frames (now (entries .entry)) (now (list .entry)) ⌝ }
 {
     list_write(frames, entries, list)
 }
@@ -207,8 +207,8 @@ pub extern "C" fn hca_list_write(frames: u32, entries: &[u32], list: &mut [u8]) 
 // The list's reader. answer: frames.
 #[no_mangle]
 pub extern "C" fn hca_list_read(list: &[u8], entries: &mut [u32], answer: &mut [u32]) -> u32
-    ensures { λ r. ⌜ listReturnedAs r (now (entries .exit)) (now (answer .exit))
-        ≡ listReturned (now (list .entry)) (now (entries .entry)) (now (answer .entry)) ⌝ }
+    ensures { λ r. ⌜ cEntriesLeft r (now (entries .exit)) (now (answer .exit))
+        ≡ cReadList (now (list .entry)) (now (entries .entry)) (now (answer .entry)) ⌝ }
 {
     list_read(list, entries, answer)
 }
@@ -216,7 +216,7 @@ pub extern "C" fn hca_list_read(list: &[u8], entries: &mut [u32], answer: &mut [
 // The list's lookup by frame number. answer: level, boundary, pairs, bits.
 #[no_mangle]
 pub extern "C" fn hca_list_lookup(list: &[u8], frame: u32, answer: &mut [u32]) -> u32
-    ensures { λ r. ⌜ answeredAs r (now (answer .exit)) ≡ entryAnswered (now (list .entry)) frame (now (answer .entry)) ⌝ }
+    ensures { λ r. ⌜ cAnswerLeft r (now (answer .exit)) ≡ cListEntry (now (list .entry)) frame (now (answer .entry)) ⌝ }
 {
     list_lookup(list, frame, answer)
 }
@@ -224,7 +224,7 @@ pub extern "C" fn hca_list_lookup(list: &[u8], frame: u32, answer: &mut [u32]) -
 // The list's summary. answer: highest level, most pairs, total of bits.
 #[no_mangle]
 pub extern "C" fn hca_list_summary(list: &[u8], answer: &mut [u64]) -> u32
-    ensures { λ r. ⌜ answeredAs r (now (answer .exit)) ≡ summaryAnswered (now (list .entry)) (now (answer .entry)) ⌝ }
+    ensures { λ r. ⌜ cAnswerLeft r (now (answer .exit)) ≡ cListSummary (now (list .entry)) (now (answer .entry)) ⌝ }
 {
     list_summary(list, answer)
 }

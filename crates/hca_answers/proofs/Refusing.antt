@@ -17,7 +17,7 @@ use Rattle.rules.proofs.WriteAnswer as Write
 use Rattle.rules.proofs.ReadAnswer as Read
 use Rattle.refusals.specs.Refusals.{refusalOf}
 use Rattle.refusals.specs.declared.Refusal.{Refusal}
-use Rattle.hca_answers.specs.Outcomes.{Small, Told}
+use Rattle.hca_answers.specs.Outcomes.{Small, AnswerStored}
 use Rattle.hca_answers.proofs.Fitting.{of-refused}
 
 -- a refusal, its number at most 15
@@ -63,8 +63,8 @@ unfolding refusalOf
 refusal-fits o r (refuses number beside k) e h =
     subst (λ (x : Refusal). (x .number < 4294967296) × (x .beside < 4294967296)) (sym e) (omega arith, of-refused number beside h)
 
-pub refusal-told : (o : Outcome) (r : Refusal) {result : ℕ} {before after : List ℕ} → Refuses o → r ≡ refusalOf o
-    → Told (refused (r .number) (r .beside)) result before after → Told o result before after
+pub refusal-stored : (o : Outcome) (r : Refusal) {result : ℕ} {before after : List ℕ} → Refuses o → r ≡ refusalOf o
+    → AnswerStored (refused (r .number) (r .beside)) result before after → AnswerStored o result before after
 unfolding refusalOf
-refusal-told o r {result} {before} {after} (refuses number beside k) e h =
-    subst (λ (x : Refusal). Told (refused (x .number) (x .beside)) result before after) e h
+refusal-stored o r {result} {before} {after} (refuses number beside k) e h =
+    subst (λ (x : Refusal). AnswerStored (refused (x .number) (x .beside)) result before after) e h

@@ -9,8 +9,8 @@ use Rattle.rules_stereo.specs.declared.StereoAnswer.{StereoAnswer}
 use Rattle.rules_stereo.specs.declared.StereoAnswer.the-variants.{TooLoud}
 use Rattle.refusals.specs.Refusals.{refusalOf}
 use Rattle.refusals.specs.declared.Refusal.{Refusal}
-use Rattle.hca_answers.specs.Outcomes.{Told}
-use Rattle.hca_answers.proofs.Places.{told-by}
+use Rattle.hca_answers.specs.Outcomes.{AnswerStored}
+use Rattle.hca_answers.proofs.Places.{stored-by}
 
 module _ (a : StereoAnswer) (r : Refusal) (e : a ≡ TooLoud) (q : r ≡ refusalOf (stereoOutcome a)) where
   seventeen : r ≡ record { number = 17; beside = 0 }
@@ -20,7 +20,8 @@ module _ (a : StereoAnswer) (r : Refusal) (e : a ≡ TooLoud) (q : r ≡ refusal
   pub loud-fits : (r .number < 4294967296) × (r .beside < 4294967296)
   loud-fits = subst (λ (x : Refusal). (x .number < 4294967296) × (x .beside < 4294967296)) (sym seventeen) (omega arith, omega arith)
 
-  pub loud-told : {result : ℕ} {before after : List ℕ} → Told (refused (r .number) (r .beside)) result before after → Told (stereoOutcome a) result before after
+  pub loud-stored : {result : ℕ} {before after : List ℕ} → AnswerStored (refused (r .number) (r .beside)) result before after
+      → AnswerStored (stereoOutcome a) result before after
   unfolding stereoOutcome
-  loud-told {result} {before} {after} h =
-      told-by stereoOutcome e (subst (λ (x : Refusal). Told (refused (x .number) (x .beside)) result before after) seventeen h)
+  loud-stored {result} {before} {after} h =
+      stored-by stereoOutcome e (subst (λ (x : Refusal). AnswerStored (refused (x .number) (x .beside)) result before after) seventeen h)

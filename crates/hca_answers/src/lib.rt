@@ -4,7 +4,7 @@ pub mod stereo;
 ghost use mathlib.Core.List.{[], _∷_};
 ghost use Prim.Native.Nat.{_<_};
 ghost use Rattle.rules.specs.Refusals.{delivered, refused, stageOutcome, writerOutcome, readerOutcome};
-ghost use Rattle.hca_answers.specs.Outcomes.{Small, Told};
+ghost use Rattle.hca_answers.specs.Outcomes.{Small, AnswerStored};
 use refusals::read_refusal;
 use refusals::stage_refusal;
 use refusals::write_refusal;
@@ -14,7 +14,7 @@ use rules::WriteAnswer;
 
 pub fn refuse(number: usize, beside: usize, answer: &mut [u32]) -> u32
     requires { ⌜ (number < 4294967296) × (beside < 4294967296) ⌝ }
-    ensures { λ r. ⌜ Told (refused number beside) r (now (answer .entry)) (now (answer .exit)) ⌝ }
+    ensures { λ r. ⌜ AnswerStored (refused number beside) r (now (answer .entry)) (now (answer .exit)) ⌝ }
 {
     let result = number as u32;
     if answer.len() < 4 {
@@ -26,7 +26,7 @@ pub fn refuse(number: usize, beside: usize, answer: &mut [u32]) -> u32
 
 fn deliver_three(a: usize, b: usize, c: usize, answer: &mut [u32]) -> u32
     requires { ⌜ (a < 4294967296) × (b < 4294967296) × (c < 4294967296) ⌝ }
-    ensures { λ r. ⌜ Told (delivered (a ∷ b ∷ c ∷ [])) r (now (answer .entry)) (now (answer .exit)) ⌝ }
+    ensures { λ r. ⌜ AnswerStored (delivered (a ∷ b ∷ c ∷ [])) r (now (answer .entry)) (now (answer .exit)) ⌝ }
 {
     if answer.len() < 4 {
         return 0;
@@ -39,7 +39,7 @@ fn deliver_three(a: usize, b: usize, c: usize, answer: &mut [u32]) -> u32
 
 fn deliver_four(a: usize, b: usize, c: usize, d: usize, answer: &mut [u32]) -> u32
     requires { ⌜ (a < 4294967296) × (b < 4294967296) × (c < 4294967296) × (d < 4294967296) ⌝ }
-    ensures { λ r. ⌜ Told (delivered (a ∷ b ∷ c ∷ d ∷ [])) r (now (answer .entry)) (now (answer .exit)) ⌝ }
+    ensures { λ r. ⌜ AnswerStored (delivered (a ∷ b ∷ c ∷ d ∷ [])) r (now (answer .entry)) (now (answer .exit)) ⌝ }
 {
     if answer.len() < 4 {
         return 0;
@@ -51,9 +51,9 @@ fn deliver_four(a: usize, b: usize, c: usize, d: usize, answer: &mut [u32]) -> u
     0
 }
 
-pub fn tell_stage(a: StageAnswer, answer: &mut [u32]) -> u32
+pub fn store_stage(a: StageAnswer, answer: &mut [u32]) -> u32
     requires { ⌜ Small (stageOutcome a) ⌝ }
-    ensures { λ r. ⌜ Told (stageOutcome a) r (now (answer .entry)) (now (answer .exit)) ⌝ }
+    ensures { λ r. ⌜ AnswerStored (stageOutcome a) r (now (answer .entry)) (now (answer .exit)) ⌝ }
 {
     let StageAnswer::Delivered(level, boundary, pairs, bits) = a else {
         let r = stage_refusal(a);
@@ -62,9 +62,9 @@ pub fn tell_stage(a: StageAnswer, answer: &mut [u32]) -> u32
     deliver_four(level, boundary, pairs, bits, answer)
 }
 
-pub fn tell_write(a: WriteAnswer, answer: &mut [u32]) -> u32
+pub fn store_write(a: WriteAnswer, answer: &mut [u32]) -> u32
     requires { ⌜ Small (writerOutcome a) ⌝ }
-    ensures { λ r. ⌜ Told (writerOutcome a) r (now (answer .entry)) (now (answer .exit)) ⌝ }
+    ensures { λ r. ⌜ AnswerStored (writerOutcome a) r (now (answer .entry)) (now (answer .exit)) ⌝ }
 {
     let WriteAnswer::Delivered(level, boundary, bits) = a else {
         let r = write_refusal(a);
@@ -73,9 +73,9 @@ pub fn tell_write(a: WriteAnswer, answer: &mut [u32]) -> u32
     deliver_three(level, boundary, bits, answer)
 }
 
-pub fn tell_read(a: ReadAnswer, answer: &mut [u32]) -> u32
+pub fn store_read(a: ReadAnswer, answer: &mut [u32]) -> u32
     requires { ⌜ Small (readerOutcome a) ⌝ }
-    ensures { λ r. ⌜ Told (readerOutcome a) r (now (answer .entry)) (now (answer .exit)) ⌝ }
+    ensures { λ r. ⌜ AnswerStored (readerOutcome a) r (now (answer .entry)) (now (answer .exit)) ⌝ }
 {
     let ReadAnswer::Delivered(level, boundary, bits) = a else {
         let r = read_refusal(a);

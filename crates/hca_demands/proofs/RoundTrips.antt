@@ -14,18 +14,18 @@ use Rattle.rules.specs.Layout.{legalLayout, frameSize, spectrumLength, factorLe
 use Rattle.rules.specs.Fields.{fields}
 use Rattle.rules.specs.Refusals.{Outcome, delivered, refused}
 use Rattle.rules.specs.Reading.{Scanned, accepted, faulty, strict}
-use Rattle.rules.specs.Lent.{laid}
-use Rattle.rules.specs.Writer.{WriterLent, WriterLeft, writerLent, writerRoom, lentRecord, written}
-use Rattle.rules.specs.Reader.{ReaderLent, ReaderLeft, readerRoom, scannedLeft, read}
+use Rattle.rules.specs.Lent.{overwrite}
+use Rattle.rules.specs.Writer.{WriterLent, WriterLeft, writerLent, writerHasRoom, lentRecord, writeRecord}
+use Rattle.rules.specs.Reader.{ReaderLent, ReaderLeft, readerHasRoom, scannedLeft, readFrame}
 use Rattle.rules.specs.declared.Layout.{Layout}
 use Rattle.rules_demands.proofs.Deliveries.{writes, writes-this}
 use Rattle.rules_demands.proofs.Calls.{read-after-write, write-after-read}
 use Rattle.rules_demands.proofs.WriterExactly.{write-number}
 use Rattle.rules_demands.proofs.ReaderExactly.{read-number}
-use Rattle.hca_layout.specs.Layouts.{layoutOf, named}
-use Rattle.hca_answers.specs.Outcomes.{resultOf, numbersOf, toldIn}
-use Rattle.hca_records.specs.Wrote.{Wrote, wroteAs, wroteTold, wrote}
-use Rattle.hca_records.specs.Returned.{Returned, returnedAs, returnedTold, returned}
+use Rattle.hca_layout.specs.Layouts.{layoutOf, isLayout}
+use Rattle.hca_answers.specs.Outcomes.{resultOf, numbersOf, answerAfter}
+use Rattle.hca_records.specs.WriteRecord.{CWriterLeft, cWriterLeft, cWriterFrom, cWriteRecord}
+use Rattle.hca_records.specs.ReadFrame.{CReaderLeft, cReaderLeft, cReaderFrom, cReadFrame}
 
 -- a refusal's number is not 0, so that result 0 is a delivery
 delivery : (o : Outcome) → ((n k : ℕ) → o ≡ refused n k → 0 < n) → resultOf o ≡ 0 → (ns : List ℕ) × (o ≡ delivered ns)
@@ -33,9 +33,10 @@ unfolding resultOf
 delivery (delivered ns) h e = (ns, refl)
 delivery (refused n k) h e = absurd (omega (arith, h n k refl))
 
-told : (o : Outcome) (answer : List ℕ) (a b c : ℕ) → o ≡ delivered (a ∷ b ∷ c ∷ []) → 4 ≤ length answer → toldIn o answer ≡ laid (a ∷ b ∷ c ∷ []) answer
-unfolding toldIn numbersOf
-told o answer a b c e h = rw (e, le-ltb (length answer) 4 h)
+stored : (o : Outcome) (answer : List ℕ) (a b c : ℕ) → o ≡ delivered (a ∷ b ∷ c ∷ []) → 4 ≤ length answer → answerAfter o answer
+    ≡ overwrite (a ∷ b ∷ c ∷ []) answer
+unfolding answerAfter numbersOf
+stored o answer a b c e h = rw (e, le-ltb (length answer) 4 h)
 
 -- the two numbers of a head
 head-is : (head : List ℕ) (a b : ℕ) → take 2 head ≡ a ∷ b ∷ [] → (2 ≤ length head) × (getD head 0 0 ≡ a) × (getD head 1 0 ≡ b)
@@ -54,58 +55,61 @@ module _ (numbers kinds : List ℕ) where
     lent = writerLent (getD head 0 0) (getD head 1 0) factors side codes frame
 
     record Passed : Type 0 where
-      named-is : named numbers kinds ≡ true
+      named-is : isLayout numbers kinds ≡ true
       long : 4 ≤ length answer
       heads : 2 ≤ length head
       numbers-are : List ℕ
-      delivers : written its lent .outcome ≡ delivered numbers-are
+      delivers : writeRecord its lent .outcome ≡ delivered numbers-are
 
-    passed : wrote numbers kinds head factors side codes frame answer .result ≡ 0 → Passed
-    unfolding wrote wroteTold resultOf
+    passed : cWriteRecord numbers kinds head factors side codes frame answer .result ≡ 0 → Passed
+    unfolding cWriteRecord cWriterFrom resultOf
     passed =
-        let P : Wrote → Type 0 = λ x. x .result ≡ 0 → Passed in
-        cond-both P (not (named numbers kinds)) (λ _ e. absurd (omega arith))
+        let P : CWriterLeft → Type 0 = λ x. x .result ≡ 0 → Passed in
+        cond-both P (not (isLayout numbers kinds)) (λ _ e. absurd (omega arith))
         (λ a. cond-both P (ltb (length answer) 4) (λ _ e. absurd (omega arith))
         (λ b. cond-both P (ltb (length head) 2) (λ _ e. absurd (omega arith))
-        (λ c e. let (ns, d) = delivery (written its lent .outcome) (write-number its lent) e in
+        (λ c e. let (ns, d) = delivery (writeRecord its lent .outcome) (write-number its lent) e in
         record { named-is = not-false _ a; long = ltb-false _ _ b; heads = ltb-false _ _ c; numbers-are = ns; delivers = d })))
 
-    wrote-is : named numbers kinds ≡ true → 4 ≤ length answer → 2 ≤ length head → wrote numbers kinds head factors side codes frame answer ≡ wroteTold (written its lent) answer
-    unfolding wrote
-    wrote-is a b c = rw (a, le-ltb _ _ b, le-ltb _ _ c)
+    record-is : isLayout numbers kinds ≡ true → 4 ≤ length answer → 2 ≤ length head → cWriteRecord numbers kinds head factors side codes frame answer
+        ≡ cWriterFrom (writeRecord its lent) answer
+    unfolding cWriteRecord
+    record-is a b c = rw (a, le-ltb _ _ b, le-ltb _ _ c)
 
     -- its numbers are level and boundary as lent, and the sum of the field lengths
-    abbrev told-numbers : List ℕ
-    told-numbers = getD head 0 0 ∷ getD head 1 0 ∷ length (fields its (lentRecord its lent)) ∷ []
+    abbrev stored-numbers : List ℕ
+    stored-numbers = getD head 0 0 ∷ getD head 1 0 ∷ length (fields its (lentRecord its lent)) ∷ []
 
-    module _ (ok : wrote numbers kinds head factors side codes frame answer .result ≡ 0) where
-      written-numbers : written its lent .outcome ≡ delivered told-numbers
+    module _ (ok : cWriteRecord numbers kinds head factors side codes frame answer .result ≡ 0) where
+      written-numbers : writeRecord its lent .outcome ≡ delivered stored-numbers
       written-numbers = ap (λ (x : WriterLeft). x .outcome) (writes-this its lent (writes its lent (passed ok .numbers-are) (passed ok .delivers)))
 
-      wrote-answer : wrote numbers kinds head factors side codes frame answer .answer ≡ laid told-numbers answer
-      unfolding wroteTold
-      wrote-answer = rw (wrote-is (passed ok .named-is) (passed ok .long) (passed ok .heads)) (told _ answer _ _ _ written-numbers (passed ok .long))
+      record-answer : cWriteRecord numbers kinds head factors side codes frame answer .answer ≡ overwrite stored-numbers answer
+      unfolding cWriterFrom
+      record-answer = rw (record-is (passed ok .named-is) (passed ok .long) (passed ok .heads)) (stored _ answer _ _ _ written-numbers (passed ok .long))
 
-      wrote-frame : wrote numbers kinds head factors side codes frame answer .frame ≡ written its lent .frame
-      unfolding wroteTold
-      wrote-frame = rw (wrote-is (passed ok .named-is) (passed ok .long) (passed ok .heads))
+      record-frame : cWriteRecord numbers kinds head factors side codes frame answer .frame ≡ writeRecord its lent .frame
+      unfolding cWriterFrom
+      record-frame = rw (record-is (passed ok .named-is) (passed ok .long) (passed ok .heads))
 
       -- The answer tells the level and the boundary that were lent.
-      pub wrote-head : take 2 (wrote numbers kinds head factors side codes frame answer .answer) ≡ getD head 0 0 ∷ getD head 1 0 ∷ []
-      wrote-head = rw wrote-answer
+      pub record-head : take 2 (cWriteRecord numbers kinds head factors side codes frame answer .answer) ≡ getD head 0 0 ∷ getD head 1 0 ∷ []
+      record-head = rw record-answer
 
       -- WRITTEN, THEN READ, into any buffers with room: the same three numbers, and the same buffers over their stated lengths.
-      pub c-read-after-write : (u : ReaderLent) (told-in : List ℕ) → readerRoom its u ≡ true → 4 ≤ length told-in
-          → take (frameSize its) (u .frame) ≡ take (frameSize its) (wrote numbers kinds head factors side codes frame answer .frame)
-          → returned numbers kinds u told-in
-          ≡ returnedAs 0 (laid (take 3 (wrote numbers kinds head factors side codes frame answer .answer)) told-in)
-          (laid (take (factorLength its) factors) (u .factors)) (laid (take (sideLength its) side) (u .side)) (laid (take (spectrumLength its) codes) (u .codes))
-      unfolding returned returnedTold resultOf
-      c-read-after-write u told-in m h q =
-          let r = read-after-write its lent u told-numbers written-numbers m (q ∙ ap (take (frameSize its)) wrote-frame) in
-          rw (wrote-answer, passed ok .named-is, le-ltb _ _ h, r)
-          (ap (λ xs. returnedAs 0 xs (laid (take (factorLength its) factors) (u .factors)) (laid (take (sideLength its) side) (u .side)) (laid (take (spectrumLength its) codes) (u .codes)))
-          (told (delivered told-numbers) told-in _ _ _ refl h))
+      pub c-read-after-write : (u : ReaderLent) (stored-in : List ℕ) → readerHasRoom its u ≡ true → 4 ≤ length stored-in
+          → take (frameSize its) (u .frame) ≡ take (frameSize its) (cWriteRecord numbers kinds head factors side codes frame answer .frame)
+          → cReadFrame numbers kinds u stored-in
+          ≡ cReaderLeft 0 (overwrite (take 3 (cWriteRecord numbers kinds head factors side codes frame answer .answer)) stored-in)
+          (overwrite (take (factorLength its) factors) (u .factors)) (overwrite (take (sideLength its) side) (u .side))
+          (overwrite (take (spectrumLength its) codes) (u .codes))
+      unfolding cReadFrame cReaderFrom resultOf
+      c-read-after-write u stored-in m h q =
+          let r = read-after-write its lent u stored-numbers written-numbers m (q ∙ ap (take (frameSize its)) record-frame) in
+          rw (record-answer, passed ok .named-is, le-ltb _ _ h, r)
+          (ap (λ xs. cReaderLeft 0 xs (overwrite (take (factorLength its) factors) (u .factors)) (overwrite (take (sideLength its) side) (u .side))
+          (overwrite (take (spectrumLength its) codes) (u .codes)))
+          (stored (delivered stored-numbers) stored-in _ _ _ refl h))
 
   -- ---- a call of the reader that returned 0
 
@@ -122,49 +126,52 @@ module _ (numbers kinds : List ℕ) where
     three-of (accepted r n) ns e = record { level = r .level; boundary = r .boundary; bits = n; is = refl }
     three-of (faulty k p) ns e = let z : _≡_ {A = ℕ} 0 1 = cc in absurd (omega arith)
 
-    three : (ns : List ℕ) → read its u .outcome ≡ delivered ns → Three (read its u .outcome)
-    unfolding read
+    three : (ns : List ℕ) → readFrame its u .outcome ≡ delivered ns → Three (readFrame its u .outcome)
+    unfolding readFrame
     three ns =
         let P : ReaderLeft → Type 0 = λ x. x .outcome ≡ delivered ns → Three (x .outcome) in
         cond-both P (not (legalLayout its)) (λ _ e. let z : _≡_ {A = ℕ} 0 1 = cc in absurd (omega arith))
-        (λ _. cond-both P (not (readerRoom its u)) (λ _ e. let z : _≡_ {A = ℕ} 0 1 = cc in absurd (omega arith))
+        (λ _. cond-both P (not (readerHasRoom its u)) (λ _ e. let z : _≡_ {A = ℕ} 0 1 = cc in absurd (omega arith))
         (λ _. three-of (strict its (take (frameSize its) (u .frame))) ns))
 
     record Accepted : Type 0 where
-      named-is : named numbers kinds ≡ true
+      named-is : isLayout numbers kinds ≡ true
       long : 4 ≤ length answer
-      tells : Three (read its u .outcome)
+      stores : Three (readFrame its u .outcome)
 
-    accepts : returned numbers kinds u answer .result ≡ 0 → Accepted
-    unfolding returned returnedTold resultOf
+    accepts : cReadFrame numbers kinds u answer .result ≡ 0 → Accepted
+    unfolding cReadFrame cReaderFrom resultOf
     accepts =
-        let P : Returned → Type 0 = λ x. x .result ≡ 0 → Accepted in
-        cond-both P (not (named numbers kinds)) (λ _ e. absurd (omega arith))
+        let P : CReaderLeft → Type 0 = λ x. x .result ≡ 0 → Accepted in
+        cond-both P (not (isLayout numbers kinds)) (λ _ e. absurd (omega arith))
         (λ a. cond-both P (ltb (length answer) 4) (λ _ e. absurd (omega arith))
-        (λ b e. let (ns, d) = delivery (read its u .outcome) (read-number its u) e in record { named-is = not-false _ a; long = ltb-false _ _ b; tells = three ns d }))
+        (λ b e. let (ns, d) = delivery (readFrame its u .outcome) (read-number its u) e in
+        record { named-is = not-false _ a; long = ltb-false _ _ b; stores = three ns d }))
 
-    returned-is : named numbers kinds ≡ true → 4 ≤ length answer → returned numbers kinds u answer ≡ returnedTold (read its u) answer
-    unfolding returned
+    returned-is : isLayout numbers kinds ≡ true → 4 ≤ length answer → cReadFrame numbers kinds u answer ≡ cReaderFrom (readFrame its u) answer
+    unfolding cReadFrame
     returned-is a b = rw (a, le-ltb _ _ b)
 
     -- READ, THEN WRITTEN, from any buffers that hold what was read and into any frame with room: the same three numbers, and the same F bytes.
-    pub c-write-after-read : returned numbers kinds u answer .result ≡ 0 → Bytes (u .frame)
-        → (head factors side : List ℕ) (codes : List ℤ) (frame told-in : List ℕ) → 4 ≤ length told-in
-        → writerRoom its (writerLent (getD head 0 0) (getD head 1 0) factors side codes frame) ≡ true
-        → take 2 head ≡ take 2 (returned numbers kinds u answer .answer)
-        → take (factorLength its) factors ≡ take (factorLength its) (returned numbers kinds u answer .factors)
-        → take (sideLength its) side ≡ take (sideLength its) (returned numbers kinds u answer .side)
-        → take (spectrumLength its) codes ≡ take (spectrumLength its) (returned numbers kinds u answer .codes)
-        → wrote numbers kinds head factors side codes frame told-in
-        ≡ wroteAs 0 (laid (take 3 (returned numbers kinds u answer .answer)) told-in) (laid (take (frameSize its) (u .frame)) frame)
-    unfolding returnedTold wroteTold resultOf
-    c-write-after-read ok b head factors side codes frame told-in h m e f s c =
+    pub c-write-after-read : cReadFrame numbers kinds u answer .result ≡ 0 → Bytes (u .frame)
+        → (head factors side : List ℕ) (codes : List ℤ) (frame stored-in : List ℕ) → 4 ≤ length stored-in
+        → writerHasRoom its (writerLent (getD head 0 0) (getD head 1 0) factors side codes frame) ≡ true
+        → take 2 head ≡ take 2 (cReadFrame numbers kinds u answer .answer)
+        → take (factorLength its) factors ≡ take (factorLength its) (cReadFrame numbers kinds u answer .factors)
+        → take (sideLength its) side ≡ take (sideLength its) (cReadFrame numbers kinds u answer .side)
+        → take (spectrumLength its) codes ≡ take (spectrumLength its) (cReadFrame numbers kinds u answer .codes)
+        → cWriteRecord numbers kinds head factors side codes frame stored-in
+        ≡ cWriterLeft 0 (overwrite (take 3 (cReadFrame numbers kinds u answer .answer)) stored-in) (overwrite (take (frameSize its) (u .frame)) frame)
+    unfolding cReaderFrom cWriterFrom resultOf
+    c-write-after-read ok b head factors side codes frame stored-in h m e f s c =
         let k = accepts ok in
-        let x = k .tells in
-        let r : returned numbers kinds u answer ≡ returnedTold (read its u) answer = returned-is (k .named-is) (k .long) in
-        let n : returned numbers kinds u answer .answer ≡ laid (x .level ∷ x .boundary ∷ x .bits ∷ []) answer = rw r (told _ answer _ _ _ (x .is) (k .long)) in
+        let x = k .stores in
+        let r : cReadFrame numbers kinds u answer ≡ cReaderFrom (readFrame its u) answer = returned-is (k .named-is) (k .long) in
+        let n : cReadFrame numbers kinds u answer .answer ≡ overwrite (x .level ∷ x .boundary ∷ x .bits ∷ []) answer =
+        rw r (stored _ answer _ _ _ (x .is) (k .long)) in
         let (two, first, second) = head-is head (x .level) (x .boundary) (e ∙ ap (take 2) n) in
         let w = write-after-read its u (writerLent (getD head 0 0) (getD head 1 0) factors side codes frame) (x .level) (x .boundary) (x .bits) b (x .is) m
         (record { levels = first; boundaries = second; factors = f ∙ rw r; side = s ∙ rw r; codes = c ∙ rw r }) in
-        rw (n, wrote-is head factors side codes frame told-in (k .named-is) h two, w)
-        (ap (λ xs. wroteAs 0 xs (laid (take (frameSize its) (u .frame)) frame)) (told (delivered (x .level ∷ x .boundary ∷ x .bits ∷ [])) told-in _ _ _ refl h))
+        rw (n, record-is head factors side codes frame stored-in (k .named-is) h two, w)
+        (ap (λ xs. cWriterLeft 0 xs (overwrite (take (frameSize its) (u .frame)) frame))
+        (stored (delivered (x .level ∷ x .boundary ∷ x .bits ∷ [])) stored-in _ _ _ refl h))

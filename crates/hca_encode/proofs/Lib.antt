@@ -1,10 +1,10 @@
 -- frame
-pub mod FrameTellings
+pub mod FrameStores
 pub mod FrameBounds
 -- stereo_frame
-pub mod StereoTellings
+pub mod StereoStores
 pub mod StereoBounds
 -- line
 pub mod LineBounds
 pub mod LinePlaces
-pub mod LineTellings
+pub mod LineStores

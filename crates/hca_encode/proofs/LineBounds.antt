@@ -9,12 +9,13 @@ use Rattle.rules.specs.Refusals.{Outcome, delivered, refused}
 use Rattle.rules.specs.Stage.{StageLent}
 use Rattle.rules.specs.declared.Layout.{Layout}
 use Rattle.rules_demands.proofs.StageAnswers.{StageBounded, answers-bounded, beside-bounded, stage-bounds}
-use Rattle.rules_line.specs.Line.{LineLent, LineLeft, lineLengths, frameLent, stageAt, turnOutcome, turnIndex, lineTurn, lineGate, turnLent, onward, lineAfter, lineGated, line}
+use Rattle.rules_line.specs.Line.{LineLent, LineLeft, lineRoom, frameLent, stageAt, turnOutcome, turnIndex, lineTurn, lineGate, turnLent, onward, lineAfter}
+use Rattle.rules_line.specs.Line.{lineBehindGate, encodeLine}
 use Rattle.rules_line.proofs.Gates.{gate-open, gate-case}
 use Rattle.rules_line.proofs.Turns.{turnAfter}
 use Rattle.hca_answers.specs.Outcomes.{numbersOf, Small}
 use Rattle.hca_answers.proofs.Fitting.{small-refused}
-use Rattle.hca_encode.specs.Lined.{IndexFits, LineSmall}
+use Rattle.hca_encode.specs.EncodeLine.{IndexFits, LineSmall}
 
 small-none : Small (delivered [])
 unfolding Small numbersOf
@@ -52,7 +53,12 @@ fitting-on n (some k) x y f g = record { numbers = f .numbers; index = λ j e. (
 
 after-fits : (l : Layout) (t : LineLent) (n : ℕ) → Fitting n (lineAfter l t n)
 unfolding lineAfter lineTurn
-after-fits l t zero = record { numbers = small-none; index = λ k e. (let z : _≡_ {A = ℕ} 0 1 = cc e in absurd (omega arith)); refuses = λ k ns e f. (let z : _≡_ {A = ℕ} 0 1 = cc e in omega arith) }
+after-fits l t zero = record {
+  numbers = small-none;
+  index = λ k e. (let z : _≡_ {A = ℕ} 0 1 = cc e in absurd (omega arith));
+  refuses =
+      λ k ns e f. (let z : _≡_ {A = ℕ} 0 1 = cc e in omega arith);
+}
 after-fits l t (suc n) =
     let x = lineAfter l t n in
     let o = stageAt l n (turnLent t x) .outcome in
@@ -63,23 +69,24 @@ module _ (l : Layout) (count : ℕ) (t : LineLent) where
   abbrev Tells : LineLeft → Type 0
   Tells x = LineSmall (x .outcome) (x .index)
 
-  kept-tells : (number : ℕ) (x : LineLeft) → Tells (lineGated (refused number 0) t x)
-  unfolding lineGated IndexFits
-  kept-tells number x = record {
+  kept-stores : (number : ℕ) (x : LineLeft) → Tells (lineBehindGate (refused number 0) t x)
+  unfolding lineBehindGate IndexFits
+  kept-stores number x = record {
     numbers = small-refused number 0 (omega arith);
     index = λ k e. (let z : _≡_ {A = ℕ} 0 1 = cc e in absurd (omega arith));
     refuses = λ k ns e f. (let z : _≡_ {A = ℕ} 0 1 = cc e in omega arith);
   }
 
-  open-tells : lineGate l count (lineLengths t) (length (t .answers)) (t .tally) ≡ delivered [] → Tells (lineGated (delivered []) t (lineAfter l t count))
-  unfolding lineGated IndexFits
-  open-tells a =
-      let few = gate-open l count (lineLengths t) (length (t .answers)) (t .tally) a .batch .few in
+  open-stores : lineGate l count (lineRoom t) (length (t .answers)) (t .tally) ≡ delivered [] → Tells (lineBehindGate (delivered []) t (lineAfter l t count))
+  unfolding lineBehindGate IndexFits
+  open-stores a =
+      let few = gate-open l count (lineRoom t) (length (t .answers)) (t .tally) a .batch .few in
       let f = after-fits l t count in
       record { numbers = f .numbers; index = λ k e. (let h = f .index k e in omega arith); refuses = f .refuses }
 
-  pub line-tells : Tells (line l count t)
-  unfolding line
-  line-tells =
+  pub line-stores : Tells (encodeLine l count t)
+  unfolding encodeLine
+  line-stores =
       let x = lineAfter l t count in
-      gate-case l count (lineLengths t) (length (t .answers)) (t .tally) (λ o. Tells (lineGated o t x)) (kept-tells 1 x) (kept-tells 18 x) (kept-tells 2 x) open-tells
+      gate-case l count (lineRoom t) (length (t .answers)) (t .tally) (λ o. Tells (lineBehindGate o t x)) (kept-stores 1 x) (kept-stores 18 x) (kept-stores 2 x)
+      open-stores

@@ -9,7 +9,7 @@ use denote.Enum.Declared.{tagOf}
 use lib.Dec.{ltb}
 use lib.ListN.{length, set}
 use Rattle.buffers.proofs.Tests.{cond-both}
-use Rattle.rules.specs.Lent.{laid}
+use Rattle.rules.specs.Lent.{overwrite}
 use Rattle.rules.specs.Refusals.{Outcome, delivered, refused, stageOutcome}
 use Rattle.rules.specs.declared.StageAnswer.{StageAnswer}
 use Rattle.rules.specs.declared.StageAnswer.the-variants as stage
@@ -19,20 +19,20 @@ use Rattle.rules_line.specs.declared.LineAnswer.the-variants as line
 use Rattle.rules_line.proofs.LineAnswer as Line
 use Rattle.refusals.specs.Refusals.{refusalOf}
 use Rattle.refusals.specs.declared.Refusal.{Refusal}
-use Rattle.hca_answers.specs.Outcomes.{resultOf, numbersOf, toldIn, Small, Told}
+use Rattle.hca_answers.specs.Outcomes.{resultOf, numbersOf, answerAfter, Small, AnswerStored}
 use Rattle.hca_answers.proofs.Fitting.{of-refused}
-use Rattle.hca_encode.specs.Lined.{indexIn, LineSmall}
+use Rattle.hca_encode.specs.EncodeLine.{indexIn, LineSmall}
 
-pub three-stored : (xs : List ℕ) (a b c : ℕ) → 3 ≤ length xs → set (set (set xs 0 a) 1 b) 2 c ≡ laid (a ∷ b ∷ c ∷ []) xs
+pub three-stored : (xs : List ℕ) (a b c : ℕ) → 3 ≤ length xs → set (set (set xs 0 a) 1 b) 2 c ≡ overwrite (a ∷ b ∷ c ∷ []) xs
 three-stored [] a b c h = absurd (omega arith)
 three-stored (x ∷ []) a b c h = absurd (omega arith)
 three-stored (x ∷ y ∷ []) a b c h = absurd (omega arith)
 three-stored (x ∷ y ∷ z ∷ xs) a b c h = refl
 
 -- a delivery of no numbers
-pub told-none : (answer : List ℕ) → answer ≡ toldIn (delivered []) answer
-unfolding toldIn numbersOf
-told-none answer = cond-both (λ (ys : List ℕ). answer ≡ ys) (ltb (length answer) 4) (λ _. refl) (λ _. refl)
+pub stored-none : (answer : List ℕ) → answer ≡ answerAfter (delivered []) answer
+unfolding answerAfter numbersOf
+stored-none answer = cond-both (λ (ys : List ℕ). answer ≡ ys) (ltb (length answer) 4) (λ _. refl) (λ _. refl)
 
 -- no frame is named
 pub unnamed-in : (a : LineAnswer) (answer : List ℕ) → OneOf (0 ∷ 1 ∷ 2 ∷ 3 ∷ []) (tagOf Line.the-type a) → answer ≡ indexIn (lineIndex a) answer
@@ -72,18 +72,22 @@ unfolding refusalOf
 refusing-fits o r (refusing number beside k) e h =
     subst (λ (x : Refusal). (x .number < 4294967296) × (x .beside < 4294967296)) (sym e) (omega arith, h number beside refl)
 
-refusing-told : (o : Outcome) (r : Refusal) (result : ℕ) (before after : List ℕ) → Refusing o → r ≡ refusalOf o → Told (refused (r .number) (r .beside)) result before after → Told o result before after
+refusing-stored : (o : Outcome) (r : Refusal) (result : ℕ) (before after : List ℕ) → Refusing o → r ≡ refusalOf o
+    → AnswerStored (refused (r .number) (r .beside)) result before after → AnswerStored o result before after
 unfolding refusalOf
-refusing-told o r result before after (refusing number beside k) e h = subst (λ (x : Refusal). Told (refused (x .number) (x .beside)) result before after) e h
+refusing-stored o r result before after (refusing number beside k) e h =
+    subst (λ (x : Refusal). AnswerStored (refused (x .number) (x .beside)) result before after) e h
 
-module _ (a : LineAnswer) (r : Refusal) (h : OneOf (1 ∷ 2 ∷ 3 ∷ 4 ∷ []) (tagOf Line.the-type a)) (s : LineSmall (lineOutcome a) (lineIndex a)) (e : r ≡ refusalOf (lineOutcome a)) where
+module _ (a : LineAnswer) (r : Refusal) (h : OneOf (1 ∷ 2 ∷ 3 ∷ 4 ∷ []) (tagOf Line.the-type a)) (s : LineSmall (lineOutcome a) (lineIndex a))
+    (e : r ≡ refusalOf (lineOutcome a)) where
   pub line-fits : (r .number < 4294967296) × (r .beside < 4294967296)
   line-fits =
       refusing-fits (lineOutcome a) r (line-refusing a h s) e
       (λ number beside q. of-refused number beside (subst Small q (s .numbers)))
 
-  pub line-told : (result : ℕ) (before named after : List ℕ) → named ≡ indexIn (lineIndex a) before → Told (refused (r .number) (r .beside)) result named after
-      → (result ≡ resultOf (lineOutcome a)) × (after ≡ toldIn (lineOutcome a) (indexIn (lineIndex a) before))
-  line-told result before named after q t =
-      let u = refusing-told (lineOutcome a) r result named after (line-refusing a h s) e t in
-      (u .answered, u .shown ∙ ap (toldIn (lineOutcome a)) q)
+  pub line-stored : (result : ℕ) (before named after : List ℕ) → named ≡ indexIn (lineIndex a) before
+      → AnswerStored (refused (r .number) (r .beside)) result named after
+      → (result ≡ resultOf (lineOutcome a)) × (after ≡ answerAfter (lineOutcome a) (indexIn (lineIndex a) before))
+  line-stored result before named after q t =
+      let u = refusing-stored (lineOutcome a) r result named after (line-refusing a h s) e t in
+      (u .answered, u .shown ∙ ap (answerAfter (lineOutcome a)) q)

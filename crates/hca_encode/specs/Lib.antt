@@ -1,6 +1,6 @@
 -- frame
-pub mod Encoded
+pub mod EncodeFrame
 -- stereo_frame
-pub mod StereoEncoded
+pub mod EncodeStereoFrame
 -- line
-pub mod Lined
+pub mod EncodeLine

@@ -2,12 +2,12 @@
 ghost use mathlib.Core.Path.{_≡_};
 ghost use Prim.Native.Nat.{_≤_};
 ghost use lib.ListN.{length, getD};
-ghost use Rattle.rules.specs.Lent.{laid};
-ghost use Rattle.rules_line.specs.Line.{lineOutcome, lineIndex, lineLent, line};
+ghost use Rattle.rules.specs.Lent.{overwrite};
+ghost use Rattle.rules_line.specs.Line.{lineOutcome, lineIndex, lineLent, encodeLine};
 ghost use Rattle.hca_answers.specs.Outcomes.{resultOf};
-ghost use Rattle.hca_encode.specs.Lined.{linedAs, tallyIn, countsOf, indexIn, lineIn, linedTold, lined, IndexFits, LineSmall};
+ghost use Rattle.hca_encode.specs.EncodeLine.{cLineLeft, tallyIn, countsOf, indexIn, lineAnswerAfter, cLineFrom, cEncodeLine, IndexFits, LineSmall};
 use hca_answers::refuse;
-use hca_layout::is_named;
+use hca_layout::is_layout;
 use hca_layout::layout_of;
 use line_gate::batch_fits;
 use refusals::line::line_refusal;
@@ -40,7 +40,7 @@ fn tally_in(counts: &[u64]) -> Tally
 
 fn store_tally(tally: Tally, counts: &mut [u64])
     requires { ⌜ 3 ≤ length (now counts) ⌝ }
-    ensures { λ _. ⌜ now (counts .exit) ≡ laid (countsOf tally) (now (counts .entry)) ⌝ }
+    ensures { λ _. ⌜ now (counts .exit) ≡ overwrite (countsOf tally) (now (counts .entry)) ⌝ }
 {
     counts[0] = tally.frames;
     counts[1] = tally.bits;
@@ -62,10 +62,10 @@ fn name_frame(a: LineAnswer, answer: &mut [u32])
 }
 
 // A delivery leaves the answer untouched.
-fn tell_line(a: LineAnswer, answer: &mut [u32]) -> u32
+fn store_line(a: LineAnswer, answer: &mut [u32]) -> u32
     requires { ⌜ LineSmall (lineOutcome a) (lineIndex a) ⌝ }
     ensures answered { λ r. ⌜ r ≡ resultOf (lineOutcome a) ⌝ }
-    ensures shown { λ _. ⌜ now (answer .exit) ≡ lineIn (lineOutcome a) (lineIndex a) (now (answer .entry)) ⌝ }
+    ensures shown { λ _. ⌜ now (answer .exit) ≡ lineAnswerAfter (lineOutcome a) (lineIndex a) (now (answer .entry)) ⌝ }
 {
     let LineAnswer::Delivered = a else {
         name_frame(a, answer);
@@ -76,7 +76,7 @@ fn tell_line(a: LineAnswer, answer: &mut [u32]) -> u32
 }
 
 // The line of a layout that is named, its counts stored and its answer told.
-fn line_told(
+fn line_and_store(
     layout: Layout,
     count: usize,
     spectra: &[f32],
@@ -92,10 +92,10 @@ fn line_told(
     answer: &mut [u32],
 ) -> u32
     requires { ⌜ 3 ≤ length (now tally) ⌝ }
-    ensures { λ r. ⌜ linedAs r (now (answer .exit)) (now (scaled .exit)) (now (codes .exit)) (now (factors .exit)) (now (side .exit))
-        (now (frames .exit)) (now (answers .exit)) (now (tally .exit)) ≡ linedTold (line layout count (lineLent (now (spectra .entry))
+    ensures { λ r. ⌜ cLineLeft r (now (answer .exit)) (now (scaled .exit)) (now (codes .exit)) (now (factors .exit)) (now (side .exit))
+        (now (frames .exit)) (now (answers .exit)) (now (tally .exit)) ≡ cLineFrom (encodeLine layout count (lineLent (now (spectra .entry))
         (now (intensities .entry)) (now (scaled .entry)) (now (codes .entry)) (now (factors .entry)) (now (side .entry)) (now (frames .entry))
-        (now (answers .entry)) before)) (countsOf (line layout count (lineLent (now (spectra .entry)) (now (intensities .entry))
+        (now (answers .entry)) before)) (countsOf (encodeLine layout count (lineLent (now (spectra .entry)) (now (intensities .entry))
         (now (scaled .entry)) (now (codes .entry)) (now (factors .entry)) (now (side .entry)) (now (frames .entry)) (now (answers .entry))
         before) .tally)) (now (tally .entry)) (now (answer .entry)) ⌝ }
 {
@@ -115,7 +115,7 @@ fn line_told(
     let after = end.tally;
     store_tally(after, tally);
     let a = end.answer;
-    tell_line(a, answer)
+    store_line(a, answer)
 }
 
 // A line of frames. tally: frames, bits, pairs; answer: at a refusal the number beside it and, from 3 on, the frame's index.
@@ -134,12 +134,12 @@ pub fn encode_line(
     tally: &mut [u64],
     answer: &mut [u32],
 ) -> u32
-    ensures { λ r. ⌜ linedAs r (now (answer .exit)) (now (scaled .exit)) (now (codes .exit)) (now (factors .exit)) (now (side .exit))
-        (now (frames .exit)) (now (answers .exit)) (now (tally .exit)) ≡ lined (now (layout .entry)) (now (kinds .entry)) count
+    ensures { λ r. ⌜ cLineLeft r (now (answer .exit)) (now (scaled .exit)) (now (codes .exit)) (now (factors .exit)) (now (side .exit))
+        (now (frames .exit)) (now (answers .exit)) (now (tally .exit)) ≡ cEncodeLine (now (layout .entry)) (now (kinds .entry)) count
         (lineLent (now (spectra .entry)) (now (intensities .entry)) (now (scaled .entry)) (now (codes .entry)) (now (factors .entry))
         (now (side .entry)) (now (frames .entry)) (now (answers .entry))) (now (tally .entry)) (now (answer .entry)) ⌝ }
 {
-    if !is_named(layout, kinds) {
+    if !is_layout(layout, kinds) {
         return refuse(1, 0, answer);
     }
     let before = tally_in(tally);
@@ -153,7 +153,7 @@ pub fn encode_line(
         return 2;
     }
     let l = layout_of(layout, kinds);
-    line_told(
+    line_and_store(
         l,
         count,
         spectra,

@@ -1,16 +1,16 @@
 // The stereo stage by numbers and slices only, no `requires`.
 ghost use mathlib.Core.Path.{_≡_};
 ghost use Rattle.rules.specs.Stage.{stageLent};
-ghost use Rattle.rules_stereo.specs.Stereo.{stereo};
-ghost use Rattle.hca_encode.specs.StereoEncoded.{stereoEncodedAs, stereoTold, stereoEncoded};
+ghost use Rattle.rules_stereo.specs.Stereo.{encodeStereoFrame};
+ghost use Rattle.hca_encode.specs.EncodeStereoFrame.{cStereoLeft, cStereoFrom, cEncodeStereoFrame};
 use hca_answers::refuse;
-use hca_answers::stereo::tell_stereo;
-use hca_layout::is_named;
+use hca_answers::stereo::store_stereo;
+use hca_layout::is_layout;
 use hca_layout::layout_of;
 use rules::Layout;
 
 // The stereo stage of a layout that is named, and its answer told.
-fn stereo_told(
+fn stereo_and_store(
     layout: Layout,
     spectra: &mut [f32],
     intensities: &mut [u8],
@@ -21,9 +21,9 @@ fn stereo_told(
     frame: &mut [u8],
     answer: &mut [u32],
 ) -> u32
-    ensures { λ r. ⌜ stereoEncodedAs r (now (answer .exit)) (now (spectra .exit)) (now (intensities .exit)) (now (scaled .exit)) (now (codes .exit))
+    ensures { λ r. ⌜ cStereoLeft r (now (answer .exit)) (now (spectra .exit)) (now (intensities .exit)) (now (scaled .exit)) (now (codes .exit))
         (now (factors .exit)) (now (side .exit)) (now (frame .exit))
-        ≡ stereoTold (stereo layout (stageLent (now (spectra .entry)) (now (intensities .entry)) (now (scaled .entry)) (now (codes .entry))
+        ≡ cStereoFrom (encodeStereoFrame layout (stageLent (now (spectra .entry)) (now (intensities .entry)) (now (scaled .entry)) (now (codes .entry))
         (now (factors .entry)) (now (side .entry)) (now (frame .entry)))) (now (answer .entry)) ⌝ }
 {
     let a = stereo::encode_stereo_frame(
@@ -36,7 +36,7 @@ fn stereo_told(
         side,
         frame,
     );
-    tell_stereo(a, answer)
+    store_stereo(a, answer)
 }
 
 // The stereo stage. answer: level, boundary, pairs, bits.
@@ -52,20 +52,20 @@ pub fn encode_stereo_frame(
     frame: &mut [u8],
     answer: &mut [u32],
 ) -> u32
-    ensures { λ r. ⌜ stereoEncodedAs r (now (answer .exit)) (now (spectra .exit)) (now (intensities .exit)) (now (scaled .exit)) (now (codes .exit))
+    ensures { λ r. ⌜ cStereoLeft r (now (answer .exit)) (now (spectra .exit)) (now (intensities .exit)) (now (scaled .exit)) (now (codes .exit))
         (now (factors .exit)) (now (side .exit)) (now (frame .exit))
-        ≡ stereoEncoded (now (layout .entry)) (now (kinds .entry))
+        ≡ cEncodeStereoFrame (now (layout .entry)) (now (kinds .entry))
         (stageLent (now (spectra .entry)) (now (intensities .entry)) (now (scaled .entry)) (now (codes .entry)) (now (factors .entry))
         (now (side .entry)) (now (frame .entry))) (now (answer .entry)) ⌝ }
 {
-    if !is_named(layout, kinds) {
+    if !is_layout(layout, kinds) {
         return refuse(1, 0, answer);
     }
     if answer.len() < 4 {
         return 2;
     }
     let l = layout_of(layout, kinds);
-    stereo_told(
+    stereo_and_store(
         l,
         spectra,
         intensities,

@@ -1,9 +1,9 @@
 -- header
-mod HeaderTellings
+mod HeaderStores
 -- lists
 mod ListRefusing
 mod ListStoring
 mod ListBounds
-mod ListTellings
+mod ListStores
 -- wavs
-mod WavTellings
+mod WavStores

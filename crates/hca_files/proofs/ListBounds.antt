@@ -8,7 +8,7 @@ use lib.ListN.{length, getD}
 use Rattle.bits.proofs.Parts.{bytes-all}
 use Rattle.buffers.proofs.Tests.{cond-both}
 use Rattle.rules.specs.Refusals.{Outcome, delivered}
-use Rattle.rules_files.specs.List.{judgedList, EntriesLeft, readAs, listRead}
+use Rattle.rules_files.specs.List.{judgedList, EntriesLeft, readListAs, readList}
 use Rattle.rules_files.specs.declared.list.Judgement.{Judgement}
 use Rattle.rules_files.specs.declared.list.Judgement.the-variants as found
 use Rattle.rules_files.proofs.Lists.{good-accepted, frames-small}
@@ -20,8 +20,8 @@ unfolding Small numbersOf
 small-frames n h = small-refused 0 n h
 
 module _ (list entries : List ℕ) where
-  by-judgement : (j : Judgement) → ((n : ℕ) → j ≡ found.Good n → n < 4294967296) → Small (readAs j list entries .outcome)
-  unfolding readAs
+  by-judgement : (j : Judgement) → ((n : ℕ) → j ≡ found.Good n → n < 4294967296) → Small (readListAs j list entries .outcome)
+  unfolding readListAs
   by-judgement found.BadMark few = small-refused 19 0 (omega arith)
   by-judgement found.BadLength few = small-refused 20 0 (omega arith)
   by-judgement (found.BadEntry n) few =
@@ -30,6 +30,6 @@ module _ (list entries : List ℕ) where
       cond-both (λ (x : EntriesLeft). Small (x .outcome)) (ltb (length entries) (n * 4)) (λ _. small-refused 2 0 (omega arith))
       (λ _. small-frames n (few n refl))
 
-  pub read-small : ((k : ℕ) → getD list k 0 < 256) → Small (listRead list entries .outcome)
-  unfolding listRead
+  pub read-small : ((k : ℕ) → getD list k 0 < 256) → Small (readList list entries .outcome)
+  unfolding readList
   read-small bytes = by-judgement (judgedList list) (λ n good. rw (good-accepted list n good .frames) at (frames-small list (bytes-all list bytes)))

@@ -20,8 +20,8 @@ use Rattle.rules_files.proofs.list.EntryAnswer as Look
 use Rattle.rules_files.proofs.list.SummaryAnswer as Sum
 use Rattle.refusals.specs.Refusals.{refusalOf}
 use Rattle.refusals.specs.declared.Refusal.{Refusal}
-use Rattle.hca_answers.specs.Outcomes.{resultOf, Told}
-use Rattle.hca_files.specs.Listed.{SummaryTold}
+use Rattle.hca_answers.specs.Outcomes.{resultOf, AnswerStored}
+use Rattle.hca_files.specs.Lists.{SummaryStored}
 
 -- a refusal with 0 beside it
 pub data Refuses : Outcome → Type 0 where
@@ -59,22 +59,22 @@ unfolding refusalOf
 refusal-fits o r (refuses number k) e =
     subst (λ (x : Refusal). (x .number < 4294967296) × (x .beside < 4294967296)) (sym e) (omega arith, omega arith)
 
-pub refusal-told : (o : Outcome) (r : Refusal) {result : ℕ} {before after : List ℕ} → Refuses o → r ≡ refusalOf o
-    → Told (refused (r .number) (r .beside)) result before after → Told o result before after
+pub refusal-stored : (o : Outcome) (r : Refusal) {result : ℕ} {before after : List ℕ} → Refuses o → r ≡ refusalOf o
+    → AnswerStored (refused (r .number) (r .beside)) result before after → AnswerStored o result before after
 unfolding refusalOf
-refusal-told o r {result} {before} {after} (refuses number k) e h =
-    subst (λ (x : Refusal). Told (refused (x .number) (x .beside)) result before after) e h
+refusal-stored o r {result} {before} {after} (refuses number k) e h =
+    subst (λ (x : Refusal). AnswerStored (refused (x .number) (x .beside)) result before after) e h
 
-pub summary-refusal-told : (o : Outcome) (r : Refusal) {result : ℕ} {before after : List ℕ} → Refuses o → r ≡ refusalOf o
-    → SummaryTold (refused (r .number) 0) result before after → SummaryTold o result before after
+pub summary-refusal-stored : (o : Outcome) (r : Refusal) {result : ℕ} {before after : List ℕ} → Refuses o → r ≡ refusalOf o
+    → SummaryStored (refused (r .number) 0) result before after → SummaryStored o result before after
 unfolding refusalOf
-summary-refusal-told o r {result} {before} {after} (refuses number k) e h =
-    subst (λ (x : Refusal). SummaryTold (refused (x .number) 0) result before after) e h
+summary-refusal-stored o r {result} {before} {after} (refuses number k) e h =
+    subst (λ (x : Refusal). SummaryStored (refused (x .number) 0) result before after) e h
 
 -- by its variant
-pub summary-told-by : {a b : SummaryAnswer} {result : ℕ} {before after : List ℕ} → a ≡ b → SummaryTold (summaryOutcome b) result before after
-    → SummaryTold (summaryOutcome a) result before after
-summary-told-by {a} {b} {result} {before} {after} e h = subst (λ (x : SummaryAnswer). SummaryTold (summaryOutcome x) result before after) (sym e) h
+pub summary-stored-by : {a b : SummaryAnswer} {result : ℕ} {before after : List ℕ} → a ≡ b → SummaryStored (summaryOutcome b) result before after
+    → SummaryStored (summaryOutcome a) result before after
+summary-stored-by {a} {b} {result} {before} {after} e h = subst (λ (x : SummaryAnswer). SummaryStored (summaryOutcome x) result before after) (sym e) h
 
 -- ---- the writer's, which has no answer but its number
 

@@ -1,6 +1,6 @@
 -- header
-pub mod HeaderWrote
+pub mod WriteHeader
 -- lists
-pub mod Listed
+pub mod Lists
 -- wavs
-pub mod Takes
+pub mod ReadWav

@@ -2,9 +2,9 @@
 ghost use mathlib.Core.Path.{_≡_};
 ghost use Prim.Native.Nat.{_≤_};
 ghost use lib.ListN.{length};
-ghost use Rattle.rules_files.specs.FileHeader.{headerWritten};
-ghost use Rattle.hca_files.specs.HeaderWrote.{pointsOf, streamOf, headerAs, headerTold, headerWrote};
-use hca_layout::is_named;
+ghost use Rattle.rules_files.specs.FileHeader.{writeHeader};
+ghost use Rattle.hca_files.specs.WriteHeader.{pointsOf, streamOf, cHeaderLeft, cHeaderFrom, cWriteHeader};
+use hca_layout::is_layout;
 use hca_layout::layout_of;
 use refusals::header::header_refusal;
 use rules::Layout;
@@ -39,8 +39,8 @@ fn stream_of(stream: &[u64], points: &[u64]) -> Stream
 }
 
 // The header of a layout and a stream, and its refusal told.
-fn write_told(layout: Layout, stream: Stream, header: &mut [u8]) -> u32
-    ensures { λ r. ⌜ headerAs r (now (header .exit)) ≡ headerTold (headerWritten layout stream (now (header .entry))) ⌝ }
+fn write_and_store(layout: Layout, stream: Stream, header: &mut [u8]) -> u32
+    ensures { λ r. ⌜ cHeaderLeft r (now (header .exit)) ≡ cHeaderFrom (writeHeader layout stream (now (header .entry))) ⌝ }
 {
     let a = file_header::write_header(layout, stream, header);
     let r = header_refusal(a);
@@ -55,10 +55,10 @@ pub fn write_header(
     points: &[u64],
     header: &mut [u8],
 ) -> u32
-    ensures { λ r. ⌜ headerAs r (now (header .exit)) ≡ headerWrote (now (layout .entry)) (now (kinds .entry)) (now (stream .entry))
+    ensures { λ r. ⌜ cHeaderLeft r (now (header .exit)) ≡ cWriteHeader (now (layout .entry)) (now (kinds .entry)) (now (stream .entry))
         (now (points .entry)) (now (header .entry)) ⌝ }
 {
-    if !is_named(layout, kinds) {
+    if !is_layout(layout, kinds) {
         return 1;
     }
     if stream.len() < 3 {
@@ -69,5 +69,5 @@ pub fn write_header(
     }
     let l = layout_of(layout, kinds);
     let s = stream_of(stream, points);
-    write_told(l, s, header)
+    write_and_store(l, s, header)
 }

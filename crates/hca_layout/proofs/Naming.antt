@@ -9,27 +9,37 @@ use lib.ListN.{length, getD}
 use Rattle.buffers.specs.Walk.{first}
 use Rattle.buffers.proofs.Tests.{and-fst}
 use Rattle.rules.specs.Layout.{legalLayout}
-use Rattle.hca_layout.specs.Layouts.{layoutOf, badKind, named}
+use Rattle.hca_layout.specs.Layouts.{layoutOf, badKind, isLayout}
 
 module _ (numbers kinds : List ℕ) where
-  pub named-few : length numbers < 5 → false ≡ named numbers kinds
-  unfolding named
+  pub named-few : length numbers < 5 → false ≡ isLayout numbers kinds
+  unfolding isLayout
   named-few h = rw (lt-leb 5 _ h)
 
-  pub named-five : named numbers kinds ≡ true → 5 ≤ length numbers
-  unfolding named
+  pub named-five : isLayout numbers kinds ≡ true → 5 ≤ length numbers
+  unfolding isLayout
   named-five e = leb-true _ _ (and-fst (leb 5 (length numbers)) _ e)
 
   module _ (h : 5 ≤ length numbers) (n : ℕ) (e : n ≡ getD numbers 0 0) where
-    pub named-short : length kinds < n → false ≡ named numbers kinds
-    unfolding named
+    pub named-short : length kinds < n → false ≡ isLayout numbers kinds
+    unfolding isLayout
     named-short k = rw (le-leb 5 _ h, lt-leb (getD numbers 0 0) (length kinds) (rw e at k))
 
     module _ (m : ℕ) (k : n ≤ length kinds) (f : m ≡ first (badKind kinds) n) where
-      pub named-bad : m < n → false ≡ named numbers kinds
-      unfolding named
-      named-bad q = rw (le-leb 5 _ h, le-leb (getD numbers 0 0) (length kinds) (rw e at k), lt-leb (getD numbers 0 0) (first (badKind kinds) (getD numbers 0 0)) (rw (f, e) at q))
+      pub named-bad : m < n → false ≡ isLayout numbers kinds
+      unfolding isLayout
+      named-bad q = rw (
+        le-leb 5 _ h,
+        le-leb (getD numbers 0 0) (length kinds) (rw e at k),
+        lt-leb (getD numbers 0 0) (first (badKind kinds) (getD numbers 0 0))
+            (rw (f, e) at q),
+      )
 
-      pub named-legal : n ≤ m → legalLayout (layoutOf numbers kinds) ≡ named numbers kinds
-      unfolding named
-      named-legal q = rw (le-leb 5 _ h, le-leb (getD numbers 0 0) (length kinds) (rw e at k), le-leb (getD numbers 0 0) (first (badKind kinds) (getD numbers 0 0)) (rw (f, e) at q))
+      pub named-legal : n ≤ m → legalLayout (layoutOf numbers kinds) ≡ isLayout numbers kinds
+      unfolding isLayout
+      named-legal q = rw (
+        le-leb 5 _ h,
+        le-leb (getD numbers 0 0) (length kinds) (rw e at k),
+        le-leb (getD numbers 0 0)
+            (first (badKind kinds) (getD numbers 0 0)) (rw (f, e) at q),
+      )

@@ -16,7 +16,7 @@ channelOf k = record { kind = cond (eqb k 2) StereoSecondary (cond (eqb k 1) Ste
 
 -- kinds past the lent ones are Discrete
 abbrev pub channelAt : (kinds : List ℕ) (channel : ℕ) → Channel
-channelAt kinds c = channelOf (getD kinds c 0)
+channelAt kinds channel = channelOf (getD kinds channel 0)
 
 -- channels, base, stereo, total, frame size; later numbers are not looked at
 unfoldable pub layoutOf : (numbers kinds : List ℕ) → Layout
@@ -30,10 +30,10 @@ layoutOf numbers kinds = record {
 }
 
 unfoldable pub badKind : (kinds : List ℕ) (channel : ℕ) → Bool
-badKind kinds c = ltb 2 (getD kinds c 0)
+badKind kinds channel = ltb 2 (getD kinds channel 0)
 
 -- five numbers, a kind for each channel, none above 2, and a layout within the limits: else refusal 1
-unfoldable pub named : (numbers kinds : List ℕ) → Bool
-named numbers kinds =
+unfoldable pub isLayout : (numbers kinds : List ℕ) → Bool
+isLayout numbers kinds =
     leb 5 (length numbers) && (leb (getD numbers 0 0) (length kinds) && (leb (getD numbers 0 0) (first (badKind kinds) (getD numbers 0 0))
     && legalLayout (layoutOf numbers kinds)))

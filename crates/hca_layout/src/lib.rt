@@ -3,7 +3,7 @@ ghost use mathlib.Core.Path.{_≡_};
 ghost use Prim.Native.Nat.{_≤_};
 ghost use lib.ListN.{length};
 ghost use Rattle.buffers.specs.Walk.{first, build};
-ghost use Rattle.hca_layout.specs.Layouts.{channelOf, channelAt, layoutOf, badKind, named};
+ghost use Rattle.hca_layout.specs.Layouts.{channelOf, channelAt, layoutOf, badKind, isLayout};
 use rules::Channel;
 use rules::ChannelType;
 use rules::Layout;
@@ -74,8 +74,8 @@ pub fn wide(n: u32) -> usize
 }
 
 // Five numbers, a kind of 0 to 2 for each channel, and a layout within its limits?
-pub fn is_named(layout: &[u32], kinds: &[u8]) -> bool
-    ensures { λ r. ⌜ r ≡ named (now (layout .entry)) (now (kinds .entry)) ⌝ }
+pub fn is_layout(layout: &[u32], kinds: &[u8]) -> bool
+    ensures { λ r. ⌜ r ≡ isLayout (now (layout .entry)) (now (kinds .entry)) ⌝ }
 {
     if layout.len() < 5 {
         return false;

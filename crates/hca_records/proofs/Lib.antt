@@ -1,6 +1,6 @@
 -- write
-pub mod WriteTellings
+pub mod WriteStores
 pub mod WriteBounds
 -- read
-pub mod ReadTellings
+pub mod ReadStores
 pub mod ReadBounds

@@ -12,12 +12,12 @@ use Rattle.buffers.proofs.Tests.{cond-both}
 use Rattle.bits.specs.Bits.{bitsOf}
 use Rattle.bits.proofs.Numbers.{length-bits-of}
 use Rattle.crc.specs.Sealed.{body, isSealed}
-use Rattle.rules.specs.Layout.{Sizes, frameSize, legalLayout}
+use Rattle.rules.specs.Layout.{LegalLayout, frameSize, legalLayout}
 use Rattle.rules.specs.Record.{Rec}
 use Rattle.rules.specs.Frame.{fieldEnd}
 use Rattle.rules.specs.Format.{Read, ok, bad}
 use Rattle.rules.specs.Reading.{Scanned, accepted, faulty, firstOne, afterFill, afterFields, readFields, scan, strict}
-use Rattle.rules.specs.Reader.{ReaderLent, ReaderLeft, readerRoom, scannedLeft, read}
+use Rattle.rules.specs.Reader.{ReaderLent, ReaderLeft, readerHasRoom, scannedLeft, readFrame}
 use Rattle.rules.specs.declared.Layout.{Layout}
 use Rattle.rules.proofs.Layouts.{legal-sizes}
 use Rattle.rules_demands.proofs.Frames.{sound}
@@ -38,7 +38,7 @@ abbrev SmallScan : Scanned → Type 0
 SmallScan (accepted r n) = (r .level < 4294967296) × (r .boundary < 4294967296) × (n < 4294967296)
 SmallScan (faulty k p) = p < 4294967296
 
-module _ (l : Layout) (z : Sizes l) where
+module _ (l : Layout) (z : LegalLayout l) where
   scan-case : (s : List Bool) → length s ≡ fieldEnd l → (x : Scanned) → scan l s ≡ x → SmallScan x
   unfolding scan
   scan-case s h (accepted r n) e =
@@ -62,9 +62,9 @@ unfolding scannedLeft
 left-small l (accepted r n) h = small-three _ _ _ (h .0) (h .1) (h .2)
 left-small l (faulty k p) h = small-refused k p h
 
-pub read-small : (l : Layout) (t : ReaderLent) → Small (read l t .outcome)
-unfolding read
+pub read-small : (l : Layout) (t : ReaderLent) → Small (readFrame l t .outcome)
+unfolding readFrame
 read-small l t =
     cond-both SmallRecord (not (legalLayout l)) (λ _. small-refused 1 0 (omega arith))
-    (λ a. cond-both SmallRecord (not (readerRoom l t)) (λ _. small-refused 2 0 (omega arith))
+    (λ a. cond-both SmallRecord (not (readerHasRoom l t)) (λ _. small-refused 2 0 (omega arith))
     (λ b. left-small l _ (strict-small l (legal-sizes l (not-false _ a)) (take (frameSize l) (t .frame)) (front-length l t (not-false _ b)))))

@@ -5,7 +5,7 @@ use Prim.Native.Nat.{ℕ, _≤_}
 use native.Mathlib.Omega.{arith}
 use Rattle.buffers.proofs.Tests.{and-fst}
 use Rattle.rules.specs.Record.{LegalHead, legalHead, legalRecord}
-use Rattle.rules.specs.Writer.{WriterLent, lentRecord, written}
+use Rattle.rules.specs.Writer.{WriterLent, lentRecord, writeRecord}
 use Rattle.rules.specs.declared.Layout.{Layout}
 use Rattle.rules.proofs.Layouts.{legal-sizes}
 use Rattle.rules.proofs.Legality.{head-legal}
@@ -14,11 +14,12 @@ use Rattle.rules_demands.proofs.WriterAnswers.{write-case}
 use Rattle.hca_answers.specs.Outcomes.{Small}
 use Rattle.hca_answers.proofs.Fitting.{small-refused, small-three}
 
-record-head : (l : Layout) (t : WriterLent) → legalRecord l (t .level) (t .boundary) (t .factors) (t .side) (t .codes) ≡ true → LegalHead (t .level) (t .boundary)
+record-head : (l : Layout) (t : WriterLent) → legalRecord l (t .level) (t .boundary) (t .factors) (t .side) (t .codes) ≡ true
+    → LegalHead (t .level) (t .boundary)
 unfolding legalRecord
 record-head l t e = head-legal (t .level) (t .boundary) (and-fst (legalHead (t .level) (t .boundary)) _ e)
 
-pub written-small : (l : Layout) (t : WriterLent) → Small (written l t .outcome)
+pub written-small : (l : Layout) (t : WriterLent) → Small (writeRecord l t .outcome)
 unfolding lentRecord
 written-small l t =
     write-case l t Small (small-refused 1 0 (omega arith)) (small-refused 2 0 (omega arith)) (small-refused 15 0 (omega arith))

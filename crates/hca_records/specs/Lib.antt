@@ -1,4 +1,4 @@
 -- write
-pub mod Wrote
+pub mod WriteRecord
 -- read
-pub mod Returned
+pub mod ReadFrame

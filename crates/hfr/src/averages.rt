@@ -2,7 +2,7 @@
 ghost use mathlib.Core.Path.{_≡_};
 ghost use Prim.Native.Nat.{suc, _*_, _≤_, _<_, min};
 ghost use lib.ListN.{length};
-ghost use Rattle.rules.specs.Layout.{Sizes};
+ghost use Rattle.rules.specs.Layout.{LegalLayout};
 ghost use Rattle.rules.specs.Hfr.{spectrumAverage, sourceAverage, groupValue};
 use floats::Average;
 use rules::Layout;
@@ -23,7 +23,7 @@ fn group_end(group: usize, g: usize, limit: usize) -> usize
 
 // A group's bands from N on, up to band 128, of a channel's 1,024 spectra by subframe and band.
 pub fn hfr_spectra_average(layout: Layout, spectra: &[f32], group: usize) -> Average
-    requires { ⌜ Sizes layout ⌝ }
+    requires { ⌜ LegalLayout layout ⌝ }
     requires { ⌜ (length (now spectra) ≡ 1024) × (group < 8) ⌝ }
     ensures { λ r. ⌜ (r ≡ spectrumAverage layout (now (spectra .entry)) group) × (r .count ≤ 1024) ⌝ }
 {
@@ -41,7 +41,7 @@ pub fn hfr_spectra_average(layout: Layout, spectra: &[f32], group: usize) -> Ave
 
 // The same bands mirrored below N, of a channel's 1,024 scaled values by band and subframe.
 pub fn hfr_source_average(layout: Layout, scaled: &[f32], group: usize) -> Average
-    requires { ⌜ Sizes layout ⌝ }
+    requires { ⌜ LegalLayout layout ⌝ }
     requires { ⌜ (length (now scaled) ≡ 1024) × (group < 8) ⌝ }
     ensures { λ r. ⌜ (r ≡ sourceAverage layout (now (scaled .entry)) group) × (r .count ≤ 1024) ⌝ }
 {

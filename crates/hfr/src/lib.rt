@@ -6,8 +6,8 @@ pub mod averages;
 ghost use mathlib.Core.Path.{_≡_};
 ghost use Prim.Native.Nat.{_<_};
 ghost use lib.ListN.{length};
-ghost use Rattle.rules.specs.Layout.{Sizes, spectrumLength, sideLength};
-ghost use Rattle.rules.specs.Hfr.{hfrScale, allSide, intensitySide, scaleSide, sideAt};
+ghost use Rattle.rules.specs.Layout.{LegalLayout, spectrumLength, sideLength};
+ghost use Rattle.rules.specs.Hfr.{hfrScale, allSide, intensitySide, scaleSide, sideOf};
 ghost use Rattle.factors.specs.Scaling.{IsScaling};
 use crate::averages::group_value;
 use crate::averages::hfr_source_average;
@@ -21,7 +21,7 @@ fn calculate_hfr_scale(
     scaled: &[f32],
     group: usize,
 ) -> u8
-    requires { ⌜ Sizes layout ⌝ }
+    requires { ⌜ LegalLayout layout ⌝ }
     requires { ⌜ IsScaling (now table) ⌝ }
     requires { ⌜ (length (now spectra) ≡ 1024) × (length (now scaled) ≡ 1024) × (group < 8) ⌝ }
     ensures { λ r. ⌜ r ≡ hfrScale layout (now (spectra .entry)) (now (scaled .entry)) group ⌝ }
@@ -45,7 +45,7 @@ fn copy_intensities(intensities: &[u8], side: &mut [u8])
 
 // Any other channel's side values: the scales of its groups, and zeros.
 fn fill_scales(layout: Layout, table: &[f32; 64], spectra: &[f32], scaled: &[f32], side: &mut [u8])
-    requires { ⌜ Sizes layout ⌝ }
+    requires { ⌜ LegalLayout layout ⌝ }
     requires { ⌜ IsScaling (now table) ⌝ }
     requires { ⌜ (length (now spectra) ≡ 1024) × (length (now scaled) ≡ 1024) × (length (now side) ≡ 8) ⌝ }
     ensures { λ _. ⌜ now (side .exit) ≡ scaleSide layout (now (spectra .entry)) (now (scaled .entry)) ⌝ }
@@ -72,11 +72,11 @@ fn channel_side(
     intensities: &[u8],
     side: &mut [u8],
 )
-    requires { ⌜ Sizes layout ⌝ }
+    requires { ⌜ LegalLayout layout ⌝ }
     requires { ⌜ IsScaling (now table) ⌝ }
     requires { ⌜ (channel < layout .channels) × (length (now spectra) ≡ spectrumLength layout) × (length (now scaled) ≡ spectrumLength layout) ⌝ }
     requires { ⌜ (length (now intensities) ≡ sideLength layout) × (length (now side) ≡ 8) ⌝ }
-    ensures { λ _. ⌜ now (side .exit) ≡ sideAt layout (now (spectra .entry)) (now (scaled .entry)) (now (intensities .entry)) channel ⌝ }
+    ensures { λ _. ⌜ now (side .exit) ≡ sideOf layout (now (spectra .entry)) (now (scaled .entry)) (now (intensities .entry)) channel ⌝ }
 {
     if layouts::is_secondary(layout, channel) {
         let s = channel * 8;
@@ -101,7 +101,7 @@ pub fn fill_side(
     intensities: &[u8],
     side: &mut [u8],
 )
-    requires { ⌜ Sizes layout ⌝ }
+    requires { ⌜ LegalLayout layout ⌝ }
     requires { ⌜ IsScaling (now table) ⌝ }
     requires { ⌜ (length (now spectra) ≡ spectrumLength layout) × (length (now scaled) ≡ spectrumLength layout) ⌝ }
     requires { ⌜ (length (now intensities) ≡ sideLength layout) × (length (now side) ≡ sideLength layout) ⌝ }

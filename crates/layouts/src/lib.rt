@@ -2,7 +2,8 @@
 ghost use mathlib.Core.Path.{_≡_};
 ghost use mathlib.Core.Bool.{true, false};
 ghost use Prim.Native.Nat.{_+_, _-_, _≤_, _<_};
-ghost use Rattle.rules.specs.Layout.{legalLayout, Sizes, secondaryAt, codedAt, startBand, bandsPerGroup, groupCount, kindAt, sidesAt, sideWidth, hasRoom};
+ghost use Rattle.rules.specs.Layout.{legalLayout, LegalLayout, secondaryAt, codedCountAt, startBand, bandsPerGroup, groupCount, kindAt, sideCountAt, sideWidth};
+ghost use Rattle.rules.specs.Layout.{hasRoom};
 use rules::ChannelType;
 use rules::Layout;
 use rules::Room;
@@ -58,7 +59,7 @@ pub fn is_secondary(layout: Layout, channel: usize) -> bool
 
 // Is each buffer as long as document 01 asks?
 pub fn has_room(layout: Layout, room: Room) -> bool
-    requires { ⌜ Sizes layout ⌝ }
+    requires { ⌜ LegalLayout layout ⌝ }
     ensures { λ r. ⌜ r ≡ hasRoom layout room ⌝ }
 {
     if room.factors < layout.channels * 128 {
@@ -78,16 +79,16 @@ pub fn has_room(layout: Layout, room: Room) -> bool
 
 // Start N.
 pub fn start(layout: Layout) -> usize
-    requires { ⌜ Sizes layout ⌝ }
+    requires { ⌜ LegalLayout layout ⌝ }
     ensures { λ r. ⌜ (r ≡ startBand layout) × (r ≤ layout .total) ⌝ }
 {
     layout.base + layout.stereo
 }
 
 pub fn coded_count(layout: Layout, channel: usize) -> usize
-    requires { ⌜ Sizes layout ⌝ }
+    requires { ⌜ LegalLayout layout ⌝ }
     requires { ⌜ channel < 16 ⌝ }
-    ensures { λ r. ⌜ (r ≡ codedAt layout channel) × (r ≤ layout .total) ⌝ }
+    ensures { λ r. ⌜ (r ≡ codedCountAt layout channel) × (r ≤ layout .total) ⌝ }
 {
     if is_secondary(layout, channel) {
         layout.base
@@ -98,7 +99,7 @@ pub fn coded_count(layout: Layout, channel: usize) -> usize
 
 // g, 0 where there are no HFR bands.
 pub fn bands_per_group(layout: Layout) -> usize
-    requires { ⌜ Sizes layout ⌝ }
+    requires { ⌜ LegalLayout layout ⌝ }
     ensures { λ r. ⌜ (r ≡ bandsPerGroup layout) × (r ≤ 16) ⌝ }
 {
     (layout.total - start(layout) + 7) / 8
@@ -106,7 +107,7 @@ pub fn bands_per_group(layout: Layout) -> usize
 
 // G.
 pub fn groups(layout: Layout) -> usize
-    requires { ⌜ Sizes layout ⌝ }
+    requires { ⌜ LegalLayout layout ⌝ }
     ensures { λ r. ⌜ (r ≡ groupCount layout) × (r ≤ 8) ⌝ }
 {
     let g = bands_per_group(layout);
@@ -118,9 +119,9 @@ pub fn groups(layout: Layout) -> usize
 
 // How many side values a channel has.
 pub fn side_count(layout: Layout, channel: usize) -> usize
-    requires { ⌜ Sizes layout ⌝ }
+    requires { ⌜ LegalLayout layout ⌝ }
     requires { ⌜ channel < 16 ⌝ }
-    ensures { λ r. ⌜ (r ≡ sidesAt layout channel) × (r ≤ 8) ⌝ }
+    ensures { λ r. ⌜ (r ≡ sideCountAt layout channel) × (r ≤ 8) ⌝ }
 {
     if is_secondary(layout, channel) {
         8

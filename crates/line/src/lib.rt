@@ -1,6 +1,6 @@
 // Request A5: a whole line of frames of one layout in one call, in buffers that the caller lends.
 ghost use mathlib.Core.Path.{_≡_};
-ghost use Rattle.rules_line.specs.Line.{lineLent, lineLeft, line};
+ghost use Rattle.rules_line.specs.Line.{lineLent, lineLeft, encodeLine};
 use line_turns::encode_frames;
 use rules::Layout;
 use rules_line::LineAnswer;
@@ -21,7 +21,7 @@ pub fn encode_line(
     tally: &mut Tally,
 ) -> LineAnswer
     ensures { λ r. ⌜ lineLeft r (now (tally .exit)) (now (scaled .exit)) (now (codes .exit)) (now (factors .exit)) (now (side .exit))
-        (now (frames .exit)) (now (answers .exit)) ≡ line layout count (lineLent (now (spectra .entry)) (now (intensities .entry))
+        (now (frames .exit)) (now (answers .exit)) ≡ encodeLine layout count (lineLent (now (spectra .entry)) (now (intensities .entry))
         (now (scaled .entry)) (now (codes .entry)) (now (factors .entry)) (now (side .entry)) (now (frames .entry)) (now (answers .entry))
         (now (tally .entry))) ⌝ }
 {

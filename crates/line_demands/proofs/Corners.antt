@@ -9,11 +9,11 @@ use lib.Ieee.{Float}
 use lib.ListN.{replicate}
 use Rattle.rules.specs.Layout.{legalLayout, roomOf}
 use Rattle.rules.specs.Refusals.{Outcome, delivered, refused}
-use Rattle.rules.specs.Stage.{stageRoom}
+use Rattle.rules.specs.Stage.{stageRoomOf}
 use Rattle.rules.specs.declared.ChannelType.the-variants.{Discrete}
 use Rattle.rules.specs.declared.Layout.{Layout}
 use Rattle.rules.specs.declared.StageRoom.{StageRoom}
-use Rattle.rules_line.specs.Line.{lineOutcome, lineIndex, lineLent, lineLeft, batchFits, lineRoom, lineGate}
+use Rattle.rules_line.specs.Line.{lineOutcome, lineIndex, lineLent, lineLeft, batchFits, lineHasRoom, lineGate}
 use Rattle.rules_line.specs.declared.LineAnswer.{LineAnswer}
 use Rattle.rules_line.specs.declared.LineAnswer.the-variants.{Delivered, BadLayout, BadBatch, ShortBuffer}
 use Rattle.rules_line.specs.declared.Tally.{Tally}
@@ -37,17 +37,17 @@ abbrev two : (channels : ℕ) → Layout
 two channels = record { channels = channels; kinds = replicate 16 (record { kind = Discrete }); base = 1; stereo = 0; total = 1; «frame_size» = 10 }
 
 abbrev lengths : (spectra intensities scaled factors side codes frames : ℕ) → StageRoom
-lengths spectra intensities scaled factors side codes frames = stageRoom spectra intensities scaled (roomOf factors side codes frames)
+lengths spectra intensities scaled factors side codes frames = stageRoomOf spectra intensities scaled (roomOf factors side codes frames)
 
 -- three frames: spectra, intensities, frames and answers have three parts, the work buffers one; no length may be one less
 pub room-row :
-    lineRoom (two 2) 3 (lengths 6144 48 2048 256 16 2048 30) 12 ∷ lineRoom (two 2) 3 (lengths 6143 48 2048 256 16 2048 30) 12
-    ∷ lineRoom (two 2) 3 (lengths 6144 47 2048 256 16 2048 30) 12 ∷ lineRoom (two 2) 3 (lengths 6144 48 2047 256 16 2048 30) 12
-    ∷ lineRoom (two 2) 3 (lengths 6144 48 2048 255 16 2048 30) 12 ∷ lineRoom (two 2) 3 (lengths 6144 48 2048 256 15 2048 30) 12
-    ∷ lineRoom (two 2) 3 (lengths 6144 48 2048 256 16 2047 30) 12 ∷ lineRoom (two 2) 3 (lengths 6144 48 2048 256 16 2048 29) 12
-    ∷ lineRoom (two 2) 3 (lengths 6144 48 2048 256 16 2048 30) 11 ∷ []
+    lineHasRoom (two 2) 3 (lengths 6144 48 2048 256 16 2048 30) 12 ∷ lineHasRoom (two 2) 3 (lengths 6143 48 2048 256 16 2048 30) 12
+    ∷ lineHasRoom (two 2) 3 (lengths 6144 47 2048 256 16 2048 30) 12 ∷ lineHasRoom (two 2) 3 (lengths 6144 48 2047 256 16 2048 30) 12
+    ∷ lineHasRoom (two 2) 3 (lengths 6144 48 2048 255 16 2048 30) 12 ∷ lineHasRoom (two 2) 3 (lengths 6144 48 2048 256 15 2048 30) 12
+    ∷ lineHasRoom (two 2) 3 (lengths 6144 48 2048 256 16 2047 30) 12 ∷ lineHasRoom (two 2) 3 (lengths 6144 48 2048 256 16 2048 29) 12
+    ∷ lineHasRoom (two 2) 3 (lengths 6144 48 2048 256 16 2048 30) 11 ∷ []
     ≡ true ∷ replicate 8 false
-unfolding lineRoom
+unfolding lineHasRoom
 room-row = refl
 
 -- 1 before 18, 18 before 2
@@ -55,11 +55,12 @@ abbrev gate : (channels count : ℕ) (room : ℕ) → Outcome
 gate channels count room = lineGate (two channels) count (lengths room room room room room room room) room (tally 0 0 0)
 
 pub gate-row : gate 0 65536 0 ∷ gate 2 65536 0 ∷ gate 2 1 0 ∷ gate 2 1 2048 ∷ [] ≡ refused 1 0 ∷ refused 18 0 ∷ refused 2 0 ∷ delivered [] ∷ []
-unfolding lineGate batchFits lineRoom legalLayout
+unfolding lineGate batchFits lineHasRoom legalLayout
 gate-row = refl
 
 -- each buffer of a call is lent and left under its own name
-module _ (spectra : List Float) (intensities : List ℕ) (scaled : List Float) (codes : List ℤ) (factors side frames answers : List ℕ) (t : Tally) (a : LineAnswer) where
+module _ (spectra : List Float) (intensities : List ℕ) (scaled : List Float) (codes : List ℤ) (factors side frames answers : List ℕ) (t : Tally)
+    (a : LineAnswer) where
   pub lent-names :
       let x = lineLent spectra intensities scaled codes factors side frames answers t in
       (x .spectra ≡ spectra) × (x .intensities ≡ intensities) × (x .scaled ≡ scaled) × (x .codes ≡ codes) × (x .factors ≡ factors) × (x .side ≡ side)

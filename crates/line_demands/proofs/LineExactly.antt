@@ -18,7 +18,8 @@ use Rattle.rules.proofs.Answers.{Numbered, numbered, never}
 use Rattle.rules.proofs.Cuts.{by-order}
 use Rattle.rules_demands.proofs.FoundLevel.{not-both}
 use Rattle.rules_demands.proofs.Exactly.{besideOf, differ}
-use Rattle.rules_line.specs.Line.{LineLent, LineLeft, lineLengths, batchFits, lineRoom, lineGate, lineKept, lineAfter, lineGated, line, Batch, LineRoom}
+use Rattle.rules_line.specs.Line.{LineLent, LineLeft, lineRoom, batchFits, lineHasRoom, lineGate, lineKept, lineAfter, lineBehindGate, encodeLine, Batch}
+use Rattle.rules_line.specs.Line.{LineHasRoom}
 use Rattle.rules_line.specs.declared.Tally.{Tally}
 use Rattle.rules_line.proofs.Gates.{batch-true, batch-facts, room-true, room-facts}
 use Rattle.line_demands.proofs.Standing.{single, answersAt, Stands, ran, ended}
@@ -32,7 +33,7 @@ BatchOver count tally = (65535 < count) ⊎ ((2 ^ 63 < tally .frames) ⊎ ((2 ^ 
 
 -- every lent buffer is long enough
 abbrev pub AllRoom : (l : Layout) (count : ℕ) (t : LineLent) → Type 0
-AllRoom l count t = LineRoom l count (lineLengths t) (length (t .answers))
+AllRoom l count t = LineHasRoom l count (lineRoom t) (length (t .answers))
 
 -- the single call on each of the first k frames delivers
 abbrev pub AllDeliver : (l : Layout) (t : LineLent) (k : ℕ) → Type 0
@@ -62,43 +63,43 @@ module _ (l : Layout) (count : ℕ) (t : LineLent) where
   fits = batchFits count (t .tally)
 
   abbrev room : Bool
-  room = lineRoom l count (lineLengths t) (length (t .answers))
+  room = lineHasRoom l count (lineRoom t) (length (t .answers))
 
   -- what each end has, every end has
   pub line-case : (P : LineLeft → Type 0) → (legalLayout l ≡ false → P (lineKept t (refused 1 0)))
       → (legalLayout l ≡ true → fits ≡ false → P (lineKept t (refused 18 0)))
       → (legalLayout l ≡ true → fits ≡ true → room ≡ false → P (lineKept t (refused 2 0)))
-      → (Admits l count t → P (lineAfter l t count)) → P (line l count t)
-  unfolding line lineGate lineGated
+      → (Admits l count t → P (lineAfter l t count)) → P (encodeLine l count t)
+  unfolding encodeLine lineGate lineBehindGate
   line-case P one batch two rest =
-      let Q : Outcome → Type 0 = λ o. P (lineGated o t (lineAfter l t count)) in
+      let Q : Outcome → Type 0 = λ o. P (lineBehindGate o t (lineAfter l t count)) in
       cond-both Q (not (legalLayout l)) (λ a. one (not-true _ a))
       (λ a. cond-both Q (not fits) (λ b. batch (not-false _ a) (not-true _ b))
       (λ b. cond-both Q (not room) (λ c. two (not-false _ a) (not-false _ b) (not-true _ c)) (λ c. rest (rw (a, b, c)))))
 
   -- behind the gate a refusal is 3, 4, 5 or 7
   late : Admits l count t → Numbered (3 ∷ 4 ∷ 5 ∷ 7 ∷ []) (lineAfter l t count .outcome)
-  late a n k e = by-index (line l count t .index) refl
+  late a n k e = by-index (encodeLine l count t .index) refl
     where
-      told : line l count t .outcome ≡ refused n k
-      told = ap (λ (x : LineLeft). x .outcome) (line-after l count t a) ∙ e
+      said : encodeLine l count t .outcome ≡ refused n k
+      said = ap (λ (x : LineLeft). x .outcome) (line-after l count t a) ∙ e
 
-      by-index : (i : Option ℕ) → line l count t .index ≡ i → OneOf (3 ∷ 4 ∷ 5 ∷ 7 ∷ []) n
-      by-index none i = never (sym (line-delivers l count t a i .outcome) ∙ told)
+      by-index : (i : Option ℕ) → encodeLine l count t .index ≡ i → OneOf (3 ∷ 4 ∷ 5 ∷ 7 ∷ []) n
+      by-index none i = never (sym (line-delivers l count t a i .outcome) ∙ said)
       by-index (some j) i =
           let s = line-stops l count t a j i in
-          let q : s .number ≡ n = cc (sym (s .outcome) ∙ told) in
+          let q : s .number ≡ n = cc (sym (s .outcome) ∙ said) in
           subst (OneOf (3 ∷ 4 ∷ 5 ∷ 7 ∷ [])) q (s .late)
 
   -- Where a line refuses, the number is one of seven.
-  pub line-numbers : Numbered lineNumbers (line l count t .outcome)
+  pub line-numbers : Numbered lineNumbers (encodeLine l count t .outcome)
   line-numbers =
       line-case (λ x. Numbered lineNumbers (x .outcome)) (λ _. numbered lineNumbers 1 0 tt) (λ _ _. numbered lineNumbers 18 0 tt)
       (λ _ _ _. numbered lineNumbers 2 0 tt) (λ a n k e. inr (inr (inr (late a n k e))))
 
   -- Refusal 1: the layout is outside the limits.
-  pub line-one-exactly : (p : ℕ) → (line l count t .outcome ≡ refused 1 p) ↔ ((legalLayout l ≡ false) × (p ≡ 0))
-  unfolding line lineGate lineGated
+  pub line-one-exactly : (p : ℕ) → (encodeLine l count t .outcome ≡ refused 1 p) ↔ ((legalLayout l ≡ false) × (p ≡ 0))
+  unfolding encodeLine lineGate lineBehindGate
   line-one-exactly p = (
     line-case (λ x. x .outcome ≡ refused 1 p → (legalLayout l ≡ false) × (p ≡ 0)) (λ a e. (a, sym (ap besideOf e)))
         (λ _ _ e. differ e (λ z. omega arith)) (λ _ _ _ e. differ e (λ z. omega arith))
@@ -107,8 +108,8 @@ module _ (l : Layout) (count : ℕ) (t : LineLent) where
   )
 
   -- Refusal 18, between 1 and 2: a batch size above 65,535, or a tally count above 2^63, of a layout within the limits.
-  pub eighteen-exactly : (p : ℕ) → (line l count t .outcome ≡ refused 18 p) ↔ ((legalLayout l ≡ true) × BatchOver count (t .tally) × (p ≡ 0))
-  unfolding line lineGate lineGated
+  pub eighteen-exactly : (p : ℕ) → (encodeLine l count t .outcome ≡ refused 18 p) ↔ ((legalLayout l ≡ true) × BatchOver count (t .tally) × (p ≡ 0))
+  unfolding encodeLine lineGate lineBehindGate
   eighteen-exactly p = (
     line-case (λ x. x .outcome ≡ refused 18 p → (legalLayout l ≡ true) × BatchOver count (t .tally) × (p ≡ 0)) (λ _ e. differ e (λ z. omega arith))
         (λ a b e. (a, false-over count (t .tally) b, sym (ap besideOf e))) (λ _ _ _ e. differ e (λ z. omega arith))
@@ -118,32 +119,32 @@ module _ (l : Layout) (count : ℕ) (t : LineLent) where
 
   -- Refusal 2: a lent buffer is too short, of a layout, a batch and a tally within the limits.
   pub line-two-exactly : (p : ℕ)
-      → (line l count t .outcome ≡ refused 2 p) ↔ ((legalLayout l ≡ true) × Batch count (t .tally) × (AllRoom l count t → ⊥) × (p ≡ 0))
-  unfolding line lineGate lineGated
+      → (encodeLine l count t .outcome ≡ refused 2 p) ↔ ((legalLayout l ≡ true) × Batch count (t .tally) × (AllRoom l count t → ⊥) × (p ≡ 0))
+  unfolding encodeLine lineGate lineBehindGate
   line-two-exactly p = (
     line-case (λ x. x .outcome ≡ refused 2 p → (legalLayout l ≡ true) × Batch count (t .tally) × (AllRoom l count t → ⊥) × (p ≡ 0))
         (λ _ e. differ e (λ z. omega arith)) (λ _ _ e. differ e (λ z. omega arith))
-        (λ a b c e. (a, batch-facts count (t .tally) b, (λ r. not-both c (room-true l count (lineLengths t) (length (t .answers)) r)), sym (ap besideOf e)))
+        (λ a b c e. (a, batch-facts count (t .tally) b, (λ r. not-both c (room-true l count (lineRoom t) (length (t .answers)) r)), sym (ap besideOf e)))
         (λ a e. absurd (miss (3 ∷ 4 ∷ 5 ∷ 7 ∷ []) 2 tt (late a 2 p e))),
     (λ x. let (a, b, c, q) = x in
-        rw (a, batch-true count (t .tally) b, not-true-false room (λ r. c (room-facts l count (lineLengths t) (length (t .answers)) r)), q)),
+        rw (a, batch-true count (t .tally) b, not-true-false room (λ r. c (room-facts l count (lineRoom t) (length (t .answers)) r)), q)),
   )
 
   -- ---- from 3 on
 
   -- a line that names a frame was let in
-  named-admits : (k : ℕ) → line l count t .index ≡ some k → Admits l count t
+  named-admits : (k : ℕ) → encodeLine l count t .index ≡ some k → Admits l count t
   named-admits k =
       let other : none ≡ some k → Admits l count t = λ e. let z : _≡_ {A = ℕ} 0 1 = cc e in absurd (omega arith) in
       line-case (λ x. x .index ≡ some k → Admits l count t) (λ _. other) (λ _ _. other) (λ _ _ _. other) (λ a _. a)
 
-  before-by : (k : ℕ) → Stands l t count (line l count t) → line l count t .index ≡ some k → AllDeliver l t k
+  before-by : (k : ℕ) → Stands l t count (encodeLine l count t) → encodeLine l count t .index ≡ some k → AllDeliver l t k
   before-by k (ran i r) h = let z : _≡_ {A = ℕ} 0 1 = cc (sym i ∙ h) in absurd (omega arith)
   before-by k (ended m g i j e) h = let q : m ≡ k = cc (sym i ∙ h) in subst (AllDeliver l t) q (e .before .each)
 
   -- the frame that ended a line is the one that the single calls refuse first
-  stops-by : (k n b : ℕ) → k < count → AllDeliver l t k → single l t k .outcome ≡ refused n b → Stands l t count (line l count t)
-      → (line l count t .outcome ≡ refused n b) × (line l count t .index ≡ some k)
+  stops-by : (k n b : ℕ) → k < count → AllDeliver l t k → single l t k .outcome ≡ refused n b → Stands l t count (encodeLine l count t)
+      → (encodeLine l count t .outcome ≡ refused n b) × (encodeLine l count t .index ≡ some k)
   stops-by k n b h d e (ran i r) = never (sym (r .each k h) ∙ e)
   stops-by k n b h d e (ended m g i j w) =
       by-order m k (λ lt. never (sym (d m lt) ∙ w .refusal))
@@ -152,7 +153,7 @@ module _ (l : Layout) (count : ℕ) (t : LineLent) where
 
   -- From 3 on: a line is refused at frame k exactly where 1, 18 and 2 are passed, the single calls on the frames before it deliver and the single call on
   -- frame k is refused; the number and the number beside it are the single call's.
-  pub line-stops-at : (k n b : ℕ) → ((line l count t .outcome ≡ refused n b) × (line l count t .index ≡ some k))
+  pub line-stops-at : (k n b : ℕ) → ((encodeLine l count t .outcome ≡ refused n b) × (encodeLine l count t .index ≡ some k))
       ↔ (Admits l count t × (k < count) × AllDeliver l t k × (single l t k .outcome ≡ refused n b))
   line-stops-at k n b = (
     (λ x. let (o, i) = x in

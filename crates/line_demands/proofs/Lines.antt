@@ -1,4 +1,4 @@
--- Request A5's sentences about a line, as theorems about `line`: what each frame gives, where a line stops, what its buffers and the tally then hold.
+-- Request A5's sentences about a line, as theorems about `encodeLine`: what each frame gives, where a line stops, what its buffers and the tally then hold.
 -- Assumes nothing.
 use mathlib.Core.Path.{_≡_, refl, sym, _∙_, ap, ap₂, subst}
 use mathlib.Core.List.{List, [], _∷_, _++_, append-nil}
@@ -16,28 +16,30 @@ use lib.Seq.{drop-at}
 use Rattle.buffers.specs.Walk.{blocks}
 use Rattle.buffers.proofs.Blocks.{blocks-at, blocks-rest, length-blocks}
 use Rattle.rules.specs.Layout.{frameSize, spectrumLength, factorLength, sideLength, part}
-use Rattle.rules.specs.Lent.{laid, noFloats, noCodes, noFactors, noSide, noFrame}
+use Rattle.rules.specs.Lent.{overwrite, noFloats, noCodes, noFactors, noSide, noFrame}
 use Rattle.rules.specs.Refusals.{Outcome, delivered, refused, stageOutcome}
-use Rattle.rules.specs.Stage.{StageLent, StageLeft, stageLent, stage}
+use Rattle.rules.specs.Stage.{StageLent, StageLeft, stageLent, encodeFrame}
 use Rattle.rules.specs.declared.Layout.{Layout}
 use Rattle.rules.proofs.Answers.{never}
 use Rattle.rules.proofs.Cuts.{length-part}
 use Rattle.rules.proofs.Layouts.{legal-true}
 use Rattle.rules.proofs.Refused.{refused-leaves}
 use Rattle.rules_demands.proofs.Outcomes.{stage-numbers-differ}
-use Rattle.rules_line.specs.Line.{lineOutcome, lineIndex, LineLent, LineLeft, lineLengths, lineGate, frameLent, stageAt, lineTurn, lineKept, turnLent, lineAfter, lineGated, line}
+use Rattle.rules_line.specs.Line.{lineOutcome, lineIndex, LineLent, LineLeft, lineRoom, lineGate, frameLent, stageAt, lineTurn, lineKept, turnLent, lineAfter}
+use Rattle.rules_line.specs.Line.{lineBehindGate, encodeLine}
 use Rattle.rules_line.specs.declared.LineAnswer.{LineAnswer}
 use Rattle.rules_line.specs.declared.LineAnswer.the-variants.{Delivered, BadLayout, BadBatch, ShortBuffer, Refused}
 use Rattle.rules_line.proofs.Gates.{Admitted, gate-open, gate-grants, gate-case}
 use Rattle.rules_line.proofs.Turns.{turnAfter, after-next, after-stays}
 use Rattle.line_demands.proofs.Singles.{Roomy, SameFrame, granted-numbers}
-use Rattle.line_demands.proofs.Standing.{allLent, single, bytesAt, answersAt, tallyOver, Ran, Ended, Stands, ran, ended, stands, bytes-long, answers-long, frame-granted, lent-roomy, with-work, now-single}
+use Rattle.line_demands.proofs.Standing.{allLent, single, bytesAt, answersAt, tallyOver, Ran, Ended, Stands, ran, ended, stands, bytes-long}
+use Rattle.line_demands.proofs.Standing.{answers-long, frame-granted, lent-roomy, with-work, now-single}
 
 -- ---- what the statements name
 
 -- refusals 1, 18 and 2 are passed
 abbrev pub Admits : (l : Layout) (count : ℕ) (t : LineLent) → Type 0
-Admits l count t = lineGate l count (lineLengths t) (length (t .answers)) (t .tally) ≡ delivered []
+Admits l count t = lineGate l count (lineRoom t) (length (t .answers)) (t .tally) ≡ delivered []
 
 -- how many of count frames were delivered, and how many were tried, by the index of the one that was refused
 abbrev pub doneOf : (index : Option ℕ) (count : ℕ) → ℕ
@@ -49,7 +51,7 @@ triedOf none count = count
 triedOf (some k) count = k + 1
 
 abbrev pub framesDone : (l : Layout) (count : ℕ) (t : LineLent) → ℕ
-framesDone l count t = doneOf (line l count t .index) count
+framesDone l count t = doneOf (encodeLine l count t .index) count
 
 -- frame k's own parts, with other work buffers
 abbrev pub frameWith : (l : Layout) (t : LineLent) (k : ℕ) (scaled : List Float) (codes : List ℤ) (factors side : List ℕ) → StageLent
@@ -72,22 +74,22 @@ pub record Works (x : LineLeft) (sc : List Float) (co : List ℤ) (fa si : List 
 
 -- ---- behind the gate
 
-pub line-after : (l : Layout) (count : ℕ) (t : LineLent) → Admits l count t → line l count t ≡ lineAfter l t count
-unfolding line lineGated
-line-after l count t a = ap (λ o. lineGated o t (lineAfter l t count)) a
+pub line-after : (l : Layout) (count : ℕ) (t : LineLent) → Admits l count t → encodeLine l count t ≡ lineAfter l t count
+unfolding encodeLine lineBehindGate
+line-after l count t a = ap (λ o. lineBehindGate o t (lineAfter l t count)) a
 
 module _ (l : Layout) (count : ℕ) (t : LineLent) (a : Admits l count t) where
-  pub granted : Admitted l count (lineLengths t) (length (t .answers)) (t .tally)
-  granted = gate-open l count (lineLengths t) (length (t .answers)) (t .tally) a
+  pub granted : Admitted l count (lineRoom t) (length (t .answers)) (t .tally)
+  granted = gate-open l count (lineRoom t) (length (t .answers)) (t .tally) a
 
-  pub standing : Stands l t count (line l count t)
+  pub standing : Stands l t count (encodeLine l count t)
   standing = subst (Stands l t count) (sym (line-after l count t a)) (stands l t count granted count (omega arith))
 
   -- a shorter line is let in too
   pub shorter : (k : ℕ) → k ≤ count → Admits l k t
   shorter k h =
       let g = granted in
-      gate-grants l k (lineLengths t) (length (t .answers)) (t .tally) (record {
+      gate-grants l k (lineRoom t) (length (t .answers)) (t .tally) (record {
         layout = g .layout;
         batch = record { few = omega (arith, g .batch .few); frames = g .batch .frames; bits = g .batch .bits; pairs = g .batch .pairs };
         room = record {
@@ -115,7 +117,8 @@ module _ (l : Layout) (count : ℕ) (t : LineLent) (a : Admits l count t) where
       ap (λ ys. part 4 ys k) (e ∙ r .answers)
       ∙ blocks-at (answersAt l t) 4 n (λ j g. answers-long l t count granted j (r .each j g)) n k (drop (n * 4) (t .answers)) (omega arith) h
 
-  bytes-at : (n k : ℕ) (x : LineLeft) → n ≤ count → x .frames ≡ blocks (bytesAt l t) n ++ drop (n * frameSize l) (t .frames) → k < n → part (frameSize l) (x .frames) k ≡ bytesAt l t k
+  bytes-at : (n k : ℕ) (x : LineLeft) → n ≤ count → x .frames ≡ blocks (bytesAt l t) n ++ drop (n * frameSize l) (t .frames) → k < n
+      → part (frameSize l) (x .frames) k ≡ bytesAt l t k
   bytes-at n k x g e h =
       ap (λ ys. part (frameSize l) ys k) e
       ∙ blocks-at (bytesAt l t) (frameSize l) count (bytes-long l t count granted) n k (drop (n * frameSize l) (t .frames)) g h
@@ -135,10 +138,10 @@ module _ (l : Layout) (count : ℕ) (t : LineLent) (a : Admits l count t) where
 
   -- A delivered frame's bytes and answers are those of the single call on that frame, with any work buffers that are long enough.
   pub line-frame : (k : ℕ) → k < framesDone l count t → (scaled : List Float) (codes : List ℤ) (factors side : List ℕ) → WorkRoom l scaled codes factors side
-      → (stage l (frameWith l t k scaled codes factors side) .outcome ≡ delivered (part 4 (line l count t .answers) k))
-      × (stage l (frameWith l t k scaled codes factors side) .frame ≡ part (frameSize l) (line l count t .frames) k)
+      → (encodeFrame l (frameWith l t k scaled codes factors side) .outcome ≡ delivered (part 4 (encodeLine l count t .answers) k))
+      × (encodeFrame l (frameWith l t k scaled codes factors side) .frame ≡ part (frameSize l) (encodeLine l count t .frames) k)
   line-frame k h sc co fa si w =
-      let g = given (line l count t) standing k h in
+      let g = given (encodeLine l count t) standing k h in
       let r : Roomy l (frameWith l t k sc co fa si) = record {
         scaled = w .scaled;
         codes = w .codes;
@@ -156,30 +159,31 @@ module _ (l : Layout) (count : ℕ) (t : LineLent) (a : Admits l count t) where
   tally-by x (ended n g i j e) = rw i (e .tally ∙ e .before .tally)
 
   -- The tally gains the number of delivered frames, the sum of their bits and the sum of their pairs.
-  pub line-tally : line l count t .tally ≡ tallyOver l t (framesDone l count t)
-  line-tally = tally-by (line l count t) standing
+  pub line-tally : encodeLine l count t .tally ≡ tallyOver l t (framesDone l count t)
+  line-tally = tally-by (encodeLine l count t) standing
 
   -- ---- the end
 
-  behind : {A : Type 0} (g : ℕ → List A) (k n : ℕ) (xs ys : List A) → ((j : ℕ) → j < n → length (g j) ≡ k) → xs ≡ blocks g n ++ drop (n * k) ys → drop (n * k) xs ≡ drop (n * k) ys
+  behind : {A : Type 0} (g : ℕ → List A) (k n : ℕ) (xs ys : List A) → ((j : ℕ) → j < n → length (g j) ≡ k) → xs ≡ blocks g n ++ drop (n * k) ys
+      → drop (n * k) xs ≡ drop (n * k) ys
   behind g k n xs ys size e = ap (drop (n * k)) e ∙ blocks-rest g k n size n ys (omega arith)
 
   -- all frames were delivered
   pub record Whole : Type 0 where
-    pub outcome : line l count t .outcome ≡ delivered []
-    pub frames : drop (count * frameSize l) (line l count t .frames) ≡ drop (count * frameSize l) (t .frames)
-    pub answers : drop (count * 4) (line l count t .answers) ≡ drop (count * 4) (t .answers)
+    pub outcome : encodeLine l count t .outcome ≡ delivered []
+    pub frames : drop (count * frameSize l) (encodeLine l count t .frames) ≡ drop (count * frameSize l) (t .frames)
+    pub answers : drop (count * 4) (encodeLine l count t .answers) ≡ drop (count * 4) (t .answers)
 
-  whole-by : Stands l t count (line l count t) → line l count t .index ≡ none → Whole
+  whole-by : Stands l t count (encodeLine l count t) → encodeLine l count t .index ≡ none → Whole
   whole-by (ran i r) h = record {
     outcome = r .outcome;
-    frames = behind (bytesAt l t) (frameSize l) count (line l count t .frames) (t .frames) (bytes-long l t count granted) (r .frames);
-    answers = behind (answersAt l t) 4 count (line l count t .answers) (t .answers) (λ j g. answers-long l t count granted j (r .each j g)) (r .answers);
+    frames = behind (bytesAt l t) (frameSize l) count (encodeLine l count t .frames) (t .frames) (bytes-long l t count granted) (r .frames);
+    answers = behind (answersAt l t) 4 count (encodeLine l count t .answers) (t .answers) (λ j g. answers-long l t count granted j (r .each j g)) (r .answers);
   }
   whole-by (ended n g i j e) h = let z : _≡_ {A = ℕ} 0 1 = cc (sym i ∙ h) in absurd (omega arith)
 
   -- Where no frame is named the line was delivered, and the rest of frames and answers is as lent.
-  pub line-delivers : line l count t .index ≡ none → Whole
+  pub line-delivers : encodeLine l count t .index ≡ none → Whole
   line-delivers h = whole-by standing h
 
   -- frame k was refused: by the single call, with 3, 4, 5 or 7
@@ -189,35 +193,35 @@ module _ (l : Layout) (count : ℕ) (t : LineLent) (a : Admits l count t) where
     pub beside : ℕ
     pub late : OneOf (3 ∷ 4 ∷ 5 ∷ 7 ∷ []) number
     pub refusal : single l t k .outcome ≡ refused number beside
-    pub outcome : line l count t .outcome ≡ refused number beside
+    pub outcome : encodeLine l count t .outcome ≡ refused number beside
     -- its area: as lent after 3 and 4, zero after 5 and 7
-    pub area : part (frameSize l) (line l count t .frames) k ≡ single l t k .frame
-    pub kept : number ≤ 4 → part (frameSize l) (line l count t .frames) k ≡ part (frameSize l) (t .frames) k
-    pub cleared : 5 ≤ number → part (frameSize l) (line l count t .frames) k ≡ noFrame l
+    pub area : part (frameSize l) (encodeLine l count t .frames) k ≡ single l t k .frame
+    pub kept : number ≤ 4 → part (frameSize l) (encodeLine l count t .frames) k ≡ part (frameSize l) (t .frames) k
+    pub cleared : 5 ≤ number → part (frameSize l) (encodeLine l count t .frames) k ≡ noFrame l
     -- what is behind it
-    pub later : drop ((k + 1) * frameSize l) (line l count t .frames) ≡ drop ((k + 1) * frameSize l) (t .frames)
-    pub answers : drop (k * 4) (line l count t .answers) ≡ drop (k * 4) (t .answers)
+    pub later : drop ((k + 1) * frameSize l) (encodeLine l count t .frames) ≡ drop ((k + 1) * frameSize l) (t .frames)
+    pub answers : drop (k * 4) (encodeLine l count t .answers) ≡ drop (k * 4) (t .answers)
 
   single-late : (k : ℕ) → k < count → (n b : ℕ) → single l t k .outcome ≡ refused n b → OneOf (3 ∷ 4 ∷ 5 ∷ 7 ∷ []) n
   single-late k h n b e =
       granted-numbers l (frameLent l k (allLent t)) (legal-true l (granted .layout))
       (frame-granted l t count granted (frameLent l k (allLent t)) k h refl refl (lent-roomy l t count granted k h)) n b e
 
-  zeros : (k : ℕ) → k < count → laid (noFrame l) (part (frameSize l) (t .frames) k) ≡ noFrame l
+  zeros : (k : ℕ) → k < count → overwrite (noFrame l) (part (frameSize l) (t .frames) k) ≡ noFrame l
   zeros k h =
       let e = length-part (frameSize l) count k (t .frames) (granted .room .frames) h in
       let n = length-replicate {A = ℕ} (frameSize l) 0 in
       ap (λ ys. noFrame l ++ ys) (drop-of-length-le (part (frameSize l) (t .frames) k) {i = length (noFrame l)} (omega (arith, e, n))) ∙ append-nil (noFrame l)
 
-  stopped-by : (k : ℕ) → Stands l t count (line l count t) → line l count t .index ≡ some k → Stopped k
+  stopped-by : (k : ℕ) → Stands l t count (encodeLine l count t) → encodeLine l count t .index ≡ some k → Stopped k
   stopped-by k (ran i r) h = let z : _≡_ {A = ℕ} 0 1 = cc (sym i ∙ h) in absurd (omega arith)
   stopped-by k (ended n g i j e) h =
       let q : n ≡ k = cc (sym i ∙ h) in
       subst Stopped q (stop n g e)
     where
-      stop : (n : ℕ) → n < count → Ended l t n (line l count t) → Stopped n
+      stop : (n : ℕ) → n < count → Ended l t n (encodeLine l count t) → Stopped n
       stop n g e =
-          let w = bytes-at (n + 1) n (line l count t) (omega arith) (e .frames) (omega arith) in
+          let w = bytes-at (n + 1) n (encodeLine l count t) (omega arith) (e .frames) (omega arith) in
           let (keep, clear) = refused-leaves l (frameLent l n (allLent t)) (e .number) (e .beside) (e .refusal) in
           record {
             below = g;
@@ -229,26 +233,28 @@ module _ (l : Layout) (count : ℕ) (t : LineLent) (a : Admits l count t) where
             area = w;
             kept = λ s. w ∙ keep s .4;
             cleared = λ s. w ∙ clear s .4 ∙ zeros n g;
-            later = behind (bytesAt l t) (frameSize l) (n + 1) (line l count t .frames) (t .frames) (λ m s. bytes-long l t count granted m (omega arith)) (e .frames);
-            answers = behind (answersAt l t) 4 n (line l count t .answers) (t .answers) (λ m s. answers-long l t count granted m (e .before .each m s)) (e .answers ∙ e .before .answers);
+            later = behind (bytesAt l t) (frameSize l) (n + 1) (encodeLine l count t .frames) (t .frames) (λ m s. bytes-long l t count granted m (omega arith))
+                (e .frames);
+            answers = behind (answersAt l t) 4 n (encodeLine l count t .answers) (t .answers) (λ m s. answers-long l t count granted m (e .before .each m s))
+                (e .answers ∙ e .before .answers);
           }
 
   -- Where a frame is named, the single call refused it, with that number and the number beside it; the frames before it stand (line-frame), the later
   -- areas and all answers from there on are as lent.
-  pub line-stops : (k : ℕ) → line l count t .index ≡ some k → Stopped k
+  pub line-stops : (k : ℕ) → encodeLine l count t .index ≡ some k → Stopped k
   line-stops k h = stopped-by k standing h
 
   -- ---- the work buffers
 
   -- the single call on frame k with the work buffers as the k frames before it left them
   abbrev pub lastTurn : (k : ℕ) → StageLeft
-  lastTurn k = stage l (frameLent l k (turnLent t (line l k t)))
+  lastTurn k = encodeFrame l (frameLent l k (turnLent t (encodeLine l k t)))
 
   turn-works : (k : ℕ) → k ≤ count → (x : LineLeft) → x ≡ turnAfter l t k (lineAfter l t k)
       → Works x (lastTurn k .scaled) (lastTurn k .codes) (lastTurn k .factors) (lastTurn k .side)
   unfolding lineTurn stageAt
   turn-works k h x e =
-      let y : turnAfter l t k (lineAfter l t k) ≡ turnAfter l t k (line l k t) = ap (turnAfter l t k) (sym (line-after l k t (shorter k h))) in
+      let y : turnAfter l t k (lineAfter l t k) ≡ turnAfter l t k (encodeLine l k t) = ap (turnAfter l t k) (sym (line-after l k t (shorter k h))) in
       record {
         scaled = ap (λ (z : LineLeft). z .scaled) (e ∙ y);
         codes = ap (λ (z : LineLeft). z .codes) (e ∙ y);
@@ -257,44 +263,45 @@ module _ (l : Layout) (count : ℕ) (t : LineLent) (a : Admits l count t) where
       }
 
   -- the frames before one that was tried were delivered
-  open-before : (k : ℕ) → Stands l t k (lineAfter l t k) → k < count → line l count t .index ≡ none → lineAfter l t k .index ≡ none
+  open-before : (k : ℕ) → Stands l t k (lineAfter l t k) → k < count → encodeLine l count t .index ≡ none → lineAfter l t k .index ≡ none
   open-before k (ran i r) h n = i
   open-before k (ended m g i j e) h n =
       let z : lineAfter l t count .index ≡ some m = ap (λ (x : LineLeft). x .index) (after-stays l t k m i count (omega arith)) ∙ i in
       let w : _≡_ {A = ℕ} 0 1 = cc (sym z ∙ ap (λ (x : LineLeft). x .index) (sym (line-after l count t a)) ∙ n) in
       absurd (omega arith)
 
-  works-by : (k : ℕ) → Stands l t count (line l count t) → triedOf (line l count t .index) count ≡ k + 1
-      → Works (line l count t) (lastTurn k .scaled) (lastTurn k .codes) (lastTurn k .factors) (lastTurn k .side)
+  works-by : (k : ℕ) → Stands l t count (encodeLine l count t) → triedOf (encodeLine l count t .index) count ≡ k + 1
+      → Works (encodeLine l count t) (lastTurn k .scaled) (lastTurn k .codes) (lastTurn k .factors) (lastTurn k .side)
   works-by k (ran i r) h =
       let q : count ≡ suc k = (rw i at h) ∙ add-one k in
       let o = open-before k (stands l t count granted k (omega arith)) (omega arith) i in
-      turn-works k (omega arith) (line l count t) (line-after l count t a ∙ ap (lineAfter l t) q ∙ after-next l t k (lineAfter l t k) refl o)
+      turn-works k (omega arith) (encodeLine l count t) (line-after l count t a ∙ ap (lineAfter l t) q ∙ after-next l t k (lineAfter l t k) refl o)
   works-by k (ended n g i j e) h =
       let z : n + 1 ≡ k + 1 = rw i at h in
       let q : n ≡ k = omega arith in
-      turn-works k (omega arith) (line l count t) (subst (λ m. line l count t ≡ turnAfter l t m (lineAfter l t m)) q (e .turn))
+      turn-works k (omega arith) (encodeLine l count t) (subst (λ m. encodeLine l count t ≡ turnAfter l t m (lineAfter l t m)) q (e .turn))
 
   -- The work buffers are those of the last frame tried.
-  pub line-work : (k : ℕ) → triedOf (line l count t .index) count ≡ k + 1 → Works (line l count t) (lastTurn k .scaled) (lastTurn k .codes) (lastTurn k .factors) (lastTurn k .side)
+  pub line-work : (k : ℕ) → triedOf (encodeLine l count t .index) count ≡ k + 1
+      → Works (encodeLine l count t) (lastTurn k .scaled) (lastTurn k .codes) (lastTurn k .factors) (lastTurn k .side)
   line-work k h = works-by k standing h
 
-  last-refused : (k : ℕ) → Stands l t count (line l count t) → line l count t .index ≡ some k → lastTurn k .outcome ≡ line l count t .outcome
+  last-refused : (k : ℕ) → Stands l t count (encodeLine l count t) → encodeLine l count t .index ≡ some k → lastTurn k .outcome ≡ encodeLine l count t .outcome
   last-refused k (ran i r) h = let z : _≡_ {A = ℕ} 0 1 = cc (sym i ∙ h) in absurd (omega arith)
   last-refused k (ended n g i j e) h =
       let q : n ≡ k = cc (sym i ∙ h) in
-      subst (λ m. lastTurn m .outcome ≡ line l count t .outcome) q
-      (ap (λ x. stage l (frameLent l n (turnLent t x)) .outcome) (line-after l n t (shorter n (omega arith)))
+      subst (λ m. lastTurn m .outcome ≡ encodeLine l count t .outcome) q
+      (ap (λ x. encodeFrame l (frameLent l n (turnLent t x)) .outcome) (line-after l n t (shorter n (omega arith)))
       ∙ now-single l t count granted n g (lineAfter l t n) (e .before) .outcome ∙ e .refusal ∙ sym (e .outcome))
 
   -- After 3 and 4 at frame k they are as after frame k - 1, after 5 and 7 they are zero over one frame's length.
-  pub line-work-refused : (k number beside : ℕ) → line l count t .index ≡ some k → line l count t .outcome ≡ refused number beside
-      → (number ≤ 4 → Works (line l count t) (line l k t .scaled) (line l k t .codes) (line l k t .factors) (line l k t .side))
-      × (5 ≤ number → Works (line l count t) (laid (noFloats l) (line l k t .scaled)) (laid (noCodes l) (line l k t .codes))
-      (laid (noFactors l) (line l k t .factors)) (laid (noSide l) (line l k t .side)))
+  pub line-work-refused : (k number beside : ℕ) → encodeLine l count t .index ≡ some k → encodeLine l count t .outcome ≡ refused number beside
+      → (number ≤ 4 → Works (encodeLine l count t) (encodeLine l k t .scaled) (encodeLine l k t .codes) (encodeLine l k t .factors) (encodeLine l k t .side))
+      × (5 ≤ number → Works (encodeLine l count t) (overwrite (noFloats l) (encodeLine l k t .scaled)) (overwrite (noCodes l) (encodeLine l k t .codes))
+      (overwrite (noFactors l) (encodeLine l k t .factors)) (overwrite (noSide l) (encodeLine l k t .side)))
   line-work-refused k number beside i o =
       let w = line-work k (rw i refl) in
-      let (keep, clear) = refused-leaves l (frameLent l k (turnLent t (line l k t))) number beside (last-refused k standing i ∙ o) in (
+      let (keep, clear) = refused-leaves l (frameLent l k (turnLent t (encodeLine l k t))) number beside (last-refused k standing i ∙ o) in (
         λ h. record { scaled = w .scaled ∙ keep h .0; codes = w .codes ∙ keep h .1; factors = w .factors ∙ keep h .2; side = w .side ∙ keep h .3 },
         λ h. record { scaled = w .scaled ∙ clear h .0; codes = w .codes ∙ clear h .1; factors = w .factors ∙ clear h .2; side = w .side ∙ clear h .3 },
       )
@@ -302,7 +309,7 @@ module _ (l : Layout) (count : ℕ) (t : LineLent) (a : Admits l count t) where
 -- ---- calls that change nothing
 
 -- No frames: nothing changes, and the call succeeds.
-pub line-none : (l : Layout) (t : LineLent) → Admits l 0 t → line l 0 t ≡ lineKept t (delivered [])
+pub line-none : (l : Layout) (t : LineLent) → Admits l 0 t → encodeLine l 0 t ≡ lineKept t (delivered [])
 unfolding lineAfter
 line-none l t a = line-after l 0 t a
 
@@ -321,14 +328,14 @@ module _ (l : Layout) (count : ℕ) (t : LineLent) (number beside : ℕ) (early 
   abbrev Keeps : LineLeft → Type 0
   Keeps x = x .outcome ≡ refused number beside → x ≡ lineKept t (refused number 0)
 
-  shut-keeps : (n : ℕ) (x : LineLeft) → Keeps (lineGated (refused n 0) t x)
-  unfolding lineGated
+  shut-keeps : (n : ℕ) (x : LineLeft) → Keeps (lineBehindGate (refused n 0) t x)
+  unfolding lineBehindGate
   shut-keeps n x e = let q : n ≡ number = cc e in ap (λ m. lineKept t (refused m 0)) q
 
   open-keeps : (a : Admits l count t) → Keeps (lineAfter l t count)
   open-keeps a e = by-standing (lineAfter l t count) (line-after l count t a) e
     where
-      by-index : (i : Option ℕ) → line l count t .index ≡ i → line l count t .outcome ≡ refused number beside → ⊥
+      by-index : (i : Option ℕ) → encodeLine l count t .index ≡ i → encodeLine l count t .outcome ≡ refused number beside → ⊥
       by-index none i e = never (sym (line-delivers l count t a i .outcome) ∙ e)
       by-index (some k) i e =
           let s = line-stops l count t a k i in
@@ -336,19 +343,20 @@ module _ (l : Layout) (count : ℕ) (t : LineLent) (number beside : ℕ) (early 
           let (h, g) = late-high (s .number) (s .late) in
           early-apart number early (omega arith) (omega arith)
 
-      by-standing : (x : LineLeft) → line l count t ≡ x → x .outcome ≡ refused number beside → x ≡ lineKept t (refused number 0)
-      by-standing x q e = absurd (by-index (line l count t .index) refl (ap (λ (y : LineLeft). y .outcome) q ∙ e))
+      by-standing : (x : LineLeft) → encodeLine l count t ≡ x → x .outcome ≡ refused number beside → x ≡ lineKept t (refused number 0)
+      by-standing x q e = absurd (by-index (encodeLine l count t .index) refl (ap (λ (y : LineLeft). y .outcome) q ∙ e))
 
-  open-gate : Admits l count t → Keeps (lineGated (delivered []) t (lineAfter l t count))
-  unfolding lineGated
+  open-gate : Admits l count t → Keeps (lineBehindGate (delivered []) t (lineAfter l t count))
+  unfolding lineBehindGate
   open-gate a = open-keeps a
 
   -- 1, 18 and 2 change nothing, the tally included; beside them stands 0, and no frame is named.
-  pub line-keeps : line l count t .outcome ≡ refused number beside → line l count t ≡ lineKept t (refused number 0)
-  unfolding line
+  pub line-keeps : encodeLine l count t .outcome ≡ refused number beside → encodeLine l count t ≡ lineKept t (refused number 0)
+  unfolding encodeLine
   line-keeps =
       let x = lineAfter l t count in
-      gate-case l count (lineLengths t) (length (t .answers)) (t .tally) (λ o. Keeps (lineGated o t x)) (shut-keeps 1 x) (shut-keeps 18 x) (shut-keeps 2 x) open-gate
+      gate-case l count (lineRoom t) (length (t .answers)) (t .tally) (λ o. Keeps (lineBehindGate o t x)) (shut-keeps 1 x) (shut-keeps 18 x) (shut-keeps 2 x)
+      open-gate
 
 -- ---- one outcome
 
@@ -360,21 +368,21 @@ unnamed (refused (suc zero) b) = BadLayout
 unnamed (refused (suc (suc zero)) b) = ShortBuffer
 unnamed (refused (suc (suc (suc n))) b) = BadBatch
 
-unnamed-told : (a : LineAnswer) → none ≡ lineIndex a → unnamed (lineOutcome a) ≡ a
+unnamed-said : (a : LineAnswer) → none ≡ lineIndex a → unnamed (lineOutcome a) ≡ a
 unfolding lineIndex lineOutcome unnamed
-unnamed-told Delivered e = refl
-unnamed-told BadLayout e = refl
-unnamed-told BadBatch e = refl
-unnamed-told ShortBuffer e = refl
-unnamed-told (Refused k a) e = let z : _≡_ {A = ℕ} 0 1 = cc e in absurd (omega arith)
+unnamed-said Delivered e = refl
+unnamed-said BadLayout e = refl
+unnamed-said BadBatch e = refl
+unnamed-said ShortBuffer e = refl
+unnamed-said (Refused k a) e = let z : _≡_ {A = ℕ} 0 1 = cc e in absurd (omega arith)
 
 -- different answers have different numbers or name different frames
 pub line-answers-differ : (a b : LineAnswer) → lineOutcome a ≡ lineOutcome b → lineIndex a ≡ lineIndex b → a ≡ b
 unfolding lineIndex lineOutcome unnamed
-line-answers-differ Delivered b e i = ap unnamed e ∙ unnamed-told b i
-line-answers-differ BadLayout b e i = ap unnamed e ∙ unnamed-told b i
-line-answers-differ BadBatch b e i = ap unnamed e ∙ unnamed-told b i
-line-answers-differ ShortBuffer b e i = ap unnamed e ∙ unnamed-told b i
+line-answers-differ Delivered b e i = ap unnamed e ∙ unnamed-said b i
+line-answers-differ BadLayout b e i = ap unnamed e ∙ unnamed-said b i
+line-answers-differ BadBatch b e i = ap unnamed e ∙ unnamed-said b i
+line-answers-differ ShortBuffer b e i = ap unnamed e ∙ unnamed-said b i
 line-answers-differ (Refused j a) (Refused k b) e i = let q : j ≡ k = cc i in ap₂ Refused q (stage-numbers-differ a b e)
 line-answers-differ (Refused j a) Delivered e i = let z : _≡_ {A = ℕ} 0 1 = cc i in absurd (omega arith)
 line-answers-differ (Refused j a) BadLayout e i = let z : _≡_ {A = ℕ} 0 1 = cc i in absurd (omega arith)
@@ -382,7 +390,7 @@ line-answers-differ (Refused j a) BadBatch e i = let z : _≡_ {A = ℕ} 0 1 = c
 line-answers-differ (Refused j a) ShortBuffer e i = let z : _≡_ {A = ℕ} 0 1 = cc i in absurd (omega arith)
 
 -- Two outcomes that the contract allows coincide: what is left is one, and so is the answer.
-pub line-once : (l : Layout) (count : ℕ) (t : LineLent) (x y : LineLeft) (a b : LineAnswer) → x ≡ line l count t → y ≡ line l count t
+pub line-once : (l : Layout) (count : ℕ) (t : LineLent) (x y : LineLeft) (a b : LineAnswer) → x ≡ encodeLine l count t → y ≡ encodeLine l count t
     → lineOutcome a ≡ x .outcome → lineIndex a ≡ x .index → lineOutcome b ≡ y .outcome → lineIndex b ≡ y .index → (x ≡ y) × (a ≡ b)
 line-once l count t x y a b p q e i f j =
     let z : x ≡ y = p ∙ sym q in

@@ -11,31 +11,33 @@ use lib.ListN.{length, drop, take, length-append, length-drop, length-replicate}
 use Rattle.buffers.specs.Walk.{first}
 use Rattle.buffers.proofs.Tests.{cond-both}
 use Rattle.buffers.proofs.Blocks.{length-blocks}
-use Rattle.rules.specs.Layout.{Sizes, legalLayout, codedAt, frameSize, spectrumLength, factorLength, sideLength, hasRoom, part}
+use Rattle.rules.specs.Layout.{LegalLayout, legalLayout, codedCountAt, frameSize, spectrumLength, factorLength, sideLength, hasRoom, part}
 use Rattle.rules.specs.Factor.{allFactors}
 use Rattle.rules.specs.Scaling.{channelScaled, allScaled}
 use Rattle.rules.specs.Frame.{fieldEnd, frameOf}
-use Rattle.rules.specs.Lent.{laid, noFloats, noCodes, noFactors, noSide, noFrame}
+use Rattle.rules.specs.Lent.{overwrite, noFloats, noCodes, noFactors, noSide, noFrame}
 use Rattle.rules.specs.Refusals.{Outcome}
-use Rattle.rules.specs.Stage.{StageLent, StageLeft, kept, cleared, stageLaid, gated, lentRoom, stageHasRoom, gate, made, madeFrom, madeRecord, finished, packed, settled, stage}
+use Rattle.rules.specs.Stage.{StageLent, StageLeft, stageKept, cleared, stageOverwrite, behindGate, stageRoom, stageHasRoom, gate, analysis, analysisFrom}
+use Rattle.rules.specs.Stage.{stageRecord, delivery, afterPacking, afterLevel, encodeFrame}
 use Rattle.rules.specs.declared.Layout.{Layout}
 use Rattle.rules.specs.declared.StageRoom.{StageRoom}
 use Rattle.rules.proofs.Answers.{Numbered, numbered, unnumbered}
 use Rattle.rules.proofs.Made.{scaled-size}
 use Rattle.rules_demands.proofs.MadeRecord.{made-factors, made-side, made-codes}
 use Rattle.rules_demands.proofs.Demand3.{frame-length}
-use Rattle.rules_demands.proofs.StageAnswers.{intensityBy, spectrumBy, madeBy, levelBy, bitsBy}
+use Rattle.rules_demands.proofs.StageAnswers.{intensityBy, spectrumBy, analysisBy, levelBy, bitsBy}
 
 -- ---- what each end of a call has, every end has
 
-pub stage-ends : (l : Layout) (t : StageLent) (P : StageLeft → Type 0) → ((o : Outcome) → P (kept t o)) → ((o : Outcome) → P (stageLaid t (cleared l o)))
-    → P (stageLaid t (finished l (madeBy l t))) → P (stage l t)
-unfolding stage gate gated settled packed
+pub stage-ends : (l : Layout) (t : StageLent) (P : StageLeft → Type 0) → ((o : Outcome) → P (stageKept t o))
+    → ((o : Outcome) → P (stageOverwrite t (cleared l o)))
+    → P (stageOverwrite t (delivery l (analysisBy l t))) → P (encodeFrame l t)
+unfolding encodeFrame gate behindGate afterLevel afterPacking
 stage-ends l t P keep clear done =
-    let Q : Option Outcome → Type 0 = λ g. P (gated g t (settled l (madeBy l t))) in
-    let R : StageLeft → Type 0 = λ x. P (stageLaid t x) in
+    let Q : Option Outcome → Type 0 = λ g. P (behindGate g t (afterLevel l (analysisBy l t))) in
+    let R : StageLeft → Type 0 = λ x. P (stageOverwrite t x) in
     cond-both Q (not (legalLayout l)) (λ _. keep _)
-    (λ _. cond-both Q (not (stageHasRoom l (lentRoom t))) (λ _. keep _)
+    (λ _. cond-both Q (not (stageHasRoom l (stageRoom t))) (λ _. keep _)
     (λ _. cond-both Q (ltb (intensityBy l t) (sideLength l)) (λ _. keep _)
     (λ _. cond-both Q (ltb (spectrumBy l t) (spectrumLength l)) (λ _. keep _)
     (λ _. cond-both R (ltb 254 (levelBy l t)) (λ _. clear _)
@@ -59,17 +61,18 @@ pub record AsLong (t : StageLent) (x : StageLeft) : Type 0 where
   pub side : length (x .side) ≡ length (t .side)
   pub frame : length (x .frame) ≡ length (t .frame)
 
-laid-long : {A : Type 0} (n : ℕ) (new old : List A) → length new ≡ n → n ≤ length old → length (laid new old) ≡ length old
+laid-long : {A : Type 0} (n : ℕ) (new old : List A) → length new ≡ n → n ≤ length old → length (overwrite new old) ≡ length old
 laid-long n new old e h = omega (arith, length-append new (drop (length new) old), length-drop (length new) old)
 
-module _ (l : Layout) (z : Sizes l) (t : StageLent) (r : Roomy l t) where
-  scaled-long : length (madeBy l t .scaled) ≡ spectrumLength l
-  unfolding made madeFrom allScaled
+module _ (l : Layout) (z : LegalLayout l) (t : StageLent) (r : Roomy l t) where
+  scaled-long : length (analysisBy l t .scaled) ≡ spectrumLength l
+  unfolding analysis analysisFrom allScaled
   scaled-long =
       let xs = take (spectrumLength l) (t .spectra) in
-      length-blocks (λ c. channelScaled (part 1024 xs c) (part 128 (allFactors l xs) c) (codedAt l c)) 1024 (l .channels) (λ c _. scaled-size _ _ _) (l .channels) (omega arith)
+      length-blocks (λ c. channelScaled (part 1024 xs c) (part 128 (allFactors l xs) c) (codedCountAt l c)) 1024 (l .channels) (λ c _. scaled-size _ _ _)
+      (l .channels) (omega arith)
 
-  cleared-long : (o : Outcome) → AsLong t (stageLaid t (cleared l o))
+  cleared-long : (o : Outcome) → AsLong t (stageOverwrite t (cleared l o))
   cleared-long o = record {
     scaled = laid-long (spectrumLength l) (noFloats l) (t .scaled) (length-replicate (spectrumLength l) _) (r .scaled);
     codes = laid-long (spectrumLength l) (noCodes l) (t .codes) (length-replicate (spectrumLength l) _) (r .codes);
@@ -78,26 +81,27 @@ module _ (l : Layout) (z : Sizes l) (t : StageLent) (r : Roomy l t) where
     frame = laid-long (frameSize l) (noFrame l) (t .frame) (length-replicate (frameSize l) 0) (r .frame);
   }
 
-  finished-long : AsLong t (stageLaid t (finished l (madeBy l t)))
-  unfolding finished
+  finished-long : AsLong t (stageOverwrite t (delivery l (analysisBy l t)))
+  unfolding delivery
   finished-long =
       let xs = take (spectrumLength l) (t .spectra) in
       let is = take (sideLength l) (t .intensities) in
       record {
-        scaled = laid-long (spectrumLength l) (madeBy l t .scaled) (t .scaled) scaled-long (r .scaled);
-        codes = laid-long (spectrumLength l) (madeBy l t .codes) (t .codes) (made-codes l xs is) (r .codes);
-        factors = laid-long (factorLength l) (madeBy l t .found .factors) (t .factors) (made-factors l xs is) (r .factors);
-        side = laid-long (sideLength l) (madeBy l t .side) (t .side) (made-side l xs is) (r .side);
-        frame = laid-long (frameSize l) (frameOf l (madeRecord l (madeBy l t))) (t .frame) (frame-length l z (madeRecord l (madeBy l t))) (r .frame);
+        scaled = laid-long (spectrumLength l) (analysisBy l t .scaled) (t .scaled) scaled-long (r .scaled);
+        codes = laid-long (spectrumLength l) (analysisBy l t .codes) (t .codes) (made-codes l xs is) (r .codes);
+        factors = laid-long (factorLength l) (analysisBy l t .found .factors) (t .factors) (made-factors l xs is) (r .factors);
+        side = laid-long (sideLength l) (analysisBy l t .side) (t .side) (made-side l xs is) (r .side);
+        frame = laid-long (frameSize l) (frameOf l (stageRecord l (analysisBy l t))) (t .frame) (frame-length l z (stageRecord l (analysisBy l t))) (r .frame);
       }
 
-  pub stage-long : AsLong t (stage l t)
+  pub stage-long : AsLong t (encodeFrame l t)
   stage-long = stage-ends l t (AsLong t) (λ o. record { scaled = refl; codes = refl; factors = refl; side = refl; frame = refl }) cleared-long finished-long
 
 -- ---- any work buffers
 
 -- all lengths are granted
-pub room-granted : (l : Layout) (t : StageLent) → spectrumLength l ≤ length (t .spectra) → sideLength l ≤ length (t .intensities) → Roomy l t → stageHasRoom l (lentRoom t) ≡ true
+pub room-granted : (l : Layout) (t : StageLent) → spectrumLength l ≤ length (t .spectra) → sideLength l ≤ length (t .intensities) → Roomy l t
+    → stageHasRoom l (stageRoom t) ≡ true
 unfolding stageHasRoom hasRoom
 room-granted l t a b r =
     rw (le-leb _ _ a, le-leb _ _ b, le-leb _ _ (r .scaled), le-leb _ _ (r .factors), le-leb _ _ (r .side), le-leb _ _ (r .codes), le-leb _ _ (r .frame))
@@ -107,10 +111,10 @@ pub record SameFrame (x y : StageLeft) : Type 0 where
   pub outcome : x .outcome ≡ y .outcome
   pub frame : x .frame ≡ y .frame
 
-gated-same : (g : Option Outcome) (t u : StageLent) (x : StageLeft) → t .frame ≡ u .frame → SameFrame (gated g t x) (gated g u x)
-unfolding gated
+gated-same : (g : Option Outcome) (t u : StageLent) (x : StageLeft) → t .frame ≡ u .frame → SameFrame (behindGate g t x) (behindGate g u x)
+unfolding behindGate
 gated-same (some o) t u x e = record { outcome = refl; frame = e }
-gated-same none t u x e = record { outcome = refl; frame = ap (λ ys. laid (x .frame) ys) e }
+gated-same none t u x e = record { outcome = refl; frame = ap (λ ys. overwrite (x .frame) ys) e }
 
 gate-same : (l : Layout) (r s : StageRoom) (t u : StageLent) → t .spectra ≡ u .spectra → t .intensities ≡ u .intensities → stageHasRoom l r ≡ stageHasRoom l s
     → gate l r (t .spectra) (t .intensities) ≡ gate l s (u .spectra) (u .intensities)
@@ -119,25 +123,27 @@ gate-same l r s t u a b h = rw (a, b, h)
 
 -- Answer and frame depend on spectra, intensities and the frame's area, and on the work buffers only by whether there is room.
 pub any-work : (l : Layout) (t u : StageLent) → t .spectra ≡ u .spectra → t .intensities ≡ u .intensities → t .frame ≡ u .frame
-    → stageHasRoom l (lentRoom t) ≡ stageHasRoom l (lentRoom u) → SameFrame (stage l t) (stage l u)
-unfolding stage
+    → stageHasRoom l (stageRoom t) ≡ stageHasRoom l (stageRoom u) → SameFrame (encodeFrame l t) (encodeFrame l u)
+unfolding encodeFrame
 any-work l t u a b c h =
-    let g = gate-same l (lentRoom t) (lentRoom u) t u a b h in
-    let m : settled l (madeBy l t) ≡ settled l (madeBy l u) = ap₂ (λ xs is. settled l (made l (take (spectrumLength l) xs) (take (sideLength l) is))) a b in
-    let x = gated-same (gate l (lentRoom u) (u .spectra) (u .intensities)) t u (settled l (madeBy l u)) c in
+    let g = gate-same l (stageRoom t) (stageRoom u) t u a b h in
+    let m : afterLevel l (analysisBy l t) ≡ afterLevel l (analysisBy l u) =
+    ap₂ (λ xs is. afterLevel l (analysis l (take (spectrumLength l) xs) (take (sideLength l) is))) a b in
+    let x = gated-same (gate l (stageRoom u) (u .spectra) (u .intensities)) t u (afterLevel l (analysisBy l u)) c in
     record {
-      outcome = ap₂ (λ o y. gated o t y .outcome) g m ∙ x .outcome;
-      frame = ap₂ (λ o y. gated o t y .frame) g m ∙ x .frame;
+      outcome = ap₂ (λ o y. behindGate o t y .outcome) g m ∙ x .outcome;
+      frame = ap₂ (λ o y. behindGate o t y .frame) g m ∙ x .frame;
     }
 
 -- ---- a frame's numbers
 
 -- Behind the line's gate a frame is refused with 3, 4, 5 or 7 only.
-pub granted-numbers : (l : Layout) (t : StageLent) → legalLayout l ≡ true → stageHasRoom l (lentRoom t) ≡ true → Numbered (3 ∷ 4 ∷ 5 ∷ 7 ∷ []) (stage l t .outcome)
-unfolding stage gate gated settled packed finished
+pub granted-numbers : (l : Layout) (t : StageLent) → legalLayout l ≡ true → stageHasRoom l (stageRoom t) ≡ true
+    → Numbered (3 ∷ 4 ∷ 5 ∷ 7 ∷ []) (encodeFrame l t .outcome)
+unfolding encodeFrame gate behindGate afterLevel afterPacking delivery
 granted-numbers l t a b =
     let late : List ℕ = 3 ∷ 4 ∷ 5 ∷ 7 ∷ [] in
-    let Q : Option Outcome → Type 0 = λ g. Numbered late (gated g t (settled l (madeBy l t)) .outcome) in
+    let Q : Option Outcome → Type 0 = λ g. Numbered late (behindGate g t (afterLevel l (analysisBy l t)) .outcome) in
     let R : StageLeft → Type 0 = λ x. Numbered late (x .outcome) in
     rw (a, b)
     (cond-both Q (ltb (intensityBy l t) (sideLength l)) (λ _. numbered late 3 _ tt)

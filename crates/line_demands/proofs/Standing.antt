@@ -12,13 +12,14 @@ use lib.Ieee.{Float}
 use lib.ListN.{length, getD, take, drop, take-append-drop}
 use Rattle.buffers.specs.Walk.{sumTo, blocks}
 use Rattle.buffers.proofs.Blocks.{blocks-start, blocks-rest, blocks-back}
-use Rattle.rules.specs.Layout.{Sizes, frameSize, spectrumLength, factorLength, sideLength, part}
+use Rattle.rules.specs.Layout.{LegalLayout, frameSize, spectrumLength, factorLength, sideLength, part}
 use Rattle.rules.specs.Refusals.{Outcome, delivered, refused}
-use Rattle.rules.specs.Stage.{StageLent, StageLeft, stageLent, lentRoom, stageHasRoom, stage}
+use Rattle.rules.specs.Stage.{StageLent, StageLeft, stageLent, stageRoom, stageHasRoom, encodeFrame}
 use Rattle.rules.specs.declared.Layout.{Layout}
 use Rattle.rules.proofs.Cuts.{by-order, length-part}
 use Rattle.rules_demands.proofs.StageAnswers.{StageBounded, answers-bounded, beside-bounded, stage-bounds}
-use Rattle.rules_line.specs.Line.{LineLent, LineLeft, lineLengths, partLaid, frameLent, stageAt, answersOf, gained, tallyAfter, turnOutcome, turnIndex, lineTurn, turnLent, lineAfter}
+use Rattle.rules_line.specs.Line.{LineLent, LineLeft, lineRoom, partOverwrite, frameLent, stageAt, answersOf, gained, tallyAfter, turnOutcome, turnIndex}
+use Rattle.rules_line.specs.Line.{lineTurn, turnLent, lineAfter}
 use Rattle.rules_line.specs.declared.Tally.{Tally}
 use Rattle.rules_line.proofs.Gates.{Admitted}
 use Rattle.rules_line.proofs.Turns.{turnAfter, after-next, after-ended}
@@ -32,7 +33,7 @@ allLent t = stageLent (t .spectra) (t .intensities) (t .scaled) (t .codes) (t .f
 
 -- the single call on frame k's parts as lent: what it leaves, its bytes and its answers
 abbrev pub single : (l : Layout) (t : LineLent) (k : ℕ) → StageLeft
-single l t k = stage l (frameLent l k (allLent t))
+single l t k = encodeFrame l (frameLent l k (allLent t))
 
 abbrev pub bytesAt : (l : Layout) (t : LineLent) (k : ℕ) → List ℕ
 bytesAt l t k = single l t k .frame
@@ -84,11 +85,12 @@ bounded-four o (answers-bounded level boundary pairs bits a b c d) ns e = refl
 bounded-four o (beside-bounded number beside h) ns e = let z : _≡_ {A = ℕ} 0 1 = cc e in absurd (omega arith)
 
 -- nothing laid over a part
-none-laid : (k : ℕ) (xs : List ℕ) → partLaid 4 [] xs k ≡ xs
+none-laid : (k : ℕ) (xs : List ℕ) → partOverwrite 4 [] xs k ≡ xs
 none-laid k xs = take-append-drop (k * 4) xs
 
 -- none counted, and one more
-tally-same : (f f′ b b′ p p′ : ℕ) → f ≡ f′ → b ≡ b′ → p ≡ p′ → _≡_ {A = Tally} (record { frames = f; bits = b; pairs = p }) (record { frames = f′; bits = b′; pairs = p′ })
+tally-same : (f f′ b b′ p p′ : ℕ) → f ≡ f′ → b ≡ b′ → p ≡ p′
+    → _≡_ {A = Tally} (record { frames = f; bits = b; pairs = p }) (record { frames = f′; bits = b′; pairs = p′ })
 tally-same f f′ b b′ p p′ q r s = rw (q, r, s)
 
 over-none : (l : Layout) (t : LineLent) → t .tally ≡ tallyOver l t 0
@@ -103,7 +105,7 @@ over-more l t k =
     (add-assoc (t .tally .bits) (sumTo (λ j. getD (answersAt l t j) 3 0) k) (getD (answersAt l t k) 3 0))
     (add-assoc (t .tally .pairs) (sumTo (λ j. getD (answersAt l t j) 2 0) k) (getD (answersAt l t k) 2 0)))
 
-module _ (l : Layout) (t : LineLent) (count : ℕ) (a : Admitted l count (lineLengths t) (length (t .answers)) (t .tally)) where
+module _ (l : Layout) (t : LineLent) (count : ℕ) (a : Admitted l count (lineRoom t) (length (t .answers)) (t .tally)) where
   part-long : (k : ℕ) → k < count → length (part (frameSize l) (t .frames) k) ≡ frameSize l
   part-long k h = length-part (frameSize l) count k (t .frames) (a .room .frames) h
 
@@ -117,8 +119,9 @@ module _ (l : Layout) (t : LineLent) (count : ℕ) (a : Admitted l count (lineLe
   }
 
   -- what is granted to a frame with work buffers that are long enough
-  pub frame-granted : (u : StageLent) (k : ℕ) → k < count → u .spectra ≡ part (spectrumLength l) (t .spectra) k → u .intensities ≡ part (sideLength l) (t .intensities) k → Roomy l u
-      → stageHasRoom l (lentRoom u) ≡ true
+  pub frame-granted : (u : StageLent) (k : ℕ) → k < count → u .spectra ≡ part (spectrumLength l) (t .spectra) k → u .intensities
+      ≡ part (sideLength l) (t .intensities) k → Roomy l u
+      → stageHasRoom l (stageRoom u) ≡ true
   frame-granted u k h p q r =
       room-granted l u (omega (arith, ap length p, length-part (spectrumLength l) count k (t .spectra) (a .room .spectra) h))
       (omega (arith, ap length q, length-part (sideLength l) count k (t .intensities) (a .room .intensities) h)) r
@@ -130,8 +133,9 @@ module _ (l : Layout) (t : LineLent) (count : ℕ) (a : Admitted l count (lineLe
   answers-long k e = bounded-four (single l t k .outcome) (stage-bounds l (frameLent l k (allLent t))) (answersAt l t k) e
 
   -- the single call with other work buffers, long enough
-  pub with-work : (u : StageLent) (k : ℕ) → k < count → u .spectra ≡ part (spectrumLength l) (t .spectra) k → u .intensities ≡ part (sideLength l) (t .intensities) k
-      → u .frame ≡ part (frameSize l) (t .frames) k → Roomy l u → SameFrame (stage l u) (single l t k)
+  pub with-work : (u : StageLent) (k : ℕ) → k < count → u .spectra ≡ part (spectrumLength l) (t .spectra) k → u .intensities
+      ≡ part (sideLength l) (t .intensities) k
+      → u .frame ≡ part (frameSize l) (t .frames) k → Roomy l u → SameFrame (encodeFrame l u) (single l t k)
   with-work u k h p q e r =
       any-work l u (frameLent l k (allLent t)) p q e
       (frame-granted u k h p q r ∙ sym (frame-granted (frameLent l k (allLent t)) k h refl refl (lent-roomy k h)))
@@ -153,10 +157,11 @@ module _ (l : Layout) (t : LineLent) (count : ℕ) (a : Admitted l count (lineLe
       frame = omega (arith, ap length area, part-long k h);
     }
 
-    pub now-single : SameFrame (stage l now) (single l t k)
+    pub now-single : SameFrame (encodeFrame l now) (single l t k)
     now-single = with-work now k h refl refl area now-roomy
 
-    frames-next : partLaid (frameSize l) (stage l now .frame) (x .frames) k ≡ blocks (bytesAt l t) (k + 1) ++ drop ((k + 1) * frameSize l) (t .frames)
+    frames-next : partOverwrite (frameSize l) (encodeFrame l now .frame) (x .frames) k ≡ blocks (bytesAt l t) (k + 1)
+        ++ drop ((k + 1) * frameSize l) (t .frames)
     frames-next =
         rw (now-single .frame, bytes-long k h, r .frames)
         (blocks-back (bytesAt l t) (frameSize l) count bytes-long k (t .frames) (omega arith))
@@ -166,7 +171,7 @@ module _ (l : Layout) (t : LineLent) (count : ℕ) (a : Admitted l count (lineLe
       each-next : (j : ℕ) → j < k + 1 → single l t j .outcome ≡ delivered (answersAt l t j)
       each-next j g = by-order j k (λ lt. r .each j lt) (λ ge. let q : j ≡ k = omega arith in rw q e)
 
-      answers-next : partLaid 4 (answersAt l t k) (x .answers) k ≡ blocks (answersAt l t) (k + 1) ++ drop ((k + 1) * 4) (t .answers)
+      answers-next : partOverwrite 4 (answersAt l t k) (x .answers) k ≡ blocks (answersAt l t) (k + 1) ++ drop ((k + 1) * 4) (t .answers)
       answers-next =
           rw (answers-long k e, r .answers)
           (blocks-back (answersAt l t) 4 (k + 1) (λ j g. answers-long j (each-next j g)) k (t .answers) (omega arith))
@@ -174,7 +179,7 @@ module _ (l : Layout) (t : LineLent) (count : ℕ) (a : Admitted l count (lineLe
       tally-next : gained (x .tally) (getD (answersAt l t k) 3 0) (getD (answersAt l t k) 2 0) ≡ tallyOver l t (k + 1)
       tally-next = ap (λ (u : Tally). gained u (getD (answersAt l t k) 3 0) (getD (answersAt l t k) 2 0)) (r .tally) ∙ over-more l t k
 
-      now-delivered : stage l now .outcome ≡ delivered (answersAt l t k)
+      now-delivered : encodeFrame l now .outcome ≡ delivered (answersAt l t k)
       now-delivered = now-single .outcome ∙ e
 
       pub ran-more : Ran l t (k + 1) (turnAfter l t k x) × (turnAfter l t k x .index ≡ none)
@@ -197,7 +202,7 @@ module _ (l : Layout) (t : LineLent) (count : ℕ) (a : Admitted l count (lineLe
 
     -- frame k refused
     module _ (number beside : ℕ) (e : single l t k .outcome ≡ refused number beside) where
-      now-refused : stage l now .outcome ≡ refused number beside
+      now-refused : encodeFrame l now .outcome ≡ refused number beside
       now-refused = now-single .outcome ∙ e
 
       pub ended-here : x ≡ lineAfter l t k → Ended l t k (turnAfter l t k x) × (turnAfter l t k x .index ≡ some k)

@@ -16,35 +16,35 @@ use Rattle.rules.specs.Fields.{fields}
 use Rattle.rules.specs.Frame.{fieldEnd, frameOf}
 use Rattle.rules.specs.Refusals.{delivered}
 use Rattle.rules.specs.Lent.{noSide}
-use Rattle.rules.specs.Stage.{StageLent, StageLeft, lentRoom, stageHasRoom, madeRecord, settled, stageLaid, stage}
+use Rattle.rules.specs.Stage.{StageLent, StageLeft, stageRoom, stageHasRoom, stageRecord, afterLevel, stageOverwrite, encodeFrame}
 use Rattle.rules.specs.declared.Layout.{Layout}
 use Rattle.rules.proofs.Cuts.{getD-copies}
 use Rattle.rules_worked.proofs.Runs.{Example, Right, stage-made, done, settled-done, run-made}
 use Rattle.rules_worked.proofs.Inputs.{loud, later, right, frames, loudBytes, laterBytes}
-use Rattle.rules_line.specs.Line.{LineLent, LineLeft, lineLent, batchFits, lineRoom, lineGate, frameLent, framePlaced, stageAt, answersOf, tallyAfter}
-use Rattle.rules_line.specs.Line.{turnOutcome, turnIndex, lineTurn, lineKept, turnLent, lineAfter, line}
+use Rattle.rules_line.specs.Line.{LineLent, LineLeft, lineLent, batchFits, lineHasRoom, lineGate, frameLent, framePlaced, stageAt, answersOf, tallyAfter}
+use Rattle.rules_line.specs.Line.{turnOutcome, turnIndex, lineTurn, lineKept, turnLent, lineAfter, encodeLine}
 use Rattle.rules_line.proofs.Turns.{turnAfter, after-next}
 use Rattle.line_demands.proofs.Lines.{Admits, line-after}
 
 -- ---- the stage on an example's spectra, in any buffers
 
-module _ (e : Example) (r : Right e) (bytes : List ℕ) (f : frameOf (e .layout) (madeRecord (e .layout) (e .made)) ≡ bytes)
-    (h : e .made .found .level ≤ 254) (n : e .bits ≤ fieldEnd (e .layout)) where
-  in-buffers : (u : StageLent) → u .spectra ≡ e .spectra → u .intensities ≡ noSide (e .layout) → stageHasRoom (e .layout) (lentRoom u) ≡ true
-      → stage (e .layout) u ≡ stageLaid u (done (e .made) (e .bits) bytes)
+module _ (e : Example) (r : Right e) (bytes : List ℕ) (f : frameOf (e .layout) (stageRecord (e .layout) (e .analysis)) ≡ bytes)
+    (h : e .analysis .found .level ≤ 254) (n : e .bits ≤ fieldEnd (e .layout)) where
+  in-buffers : (u : StageLent) → u .spectra ≡ e .spectra → u .intensities ≡ noSide (e .layout) → stageHasRoom (e .layout) (stageRoom u) ≡ true
+      → encodeFrame (e .layout) u ≡ stageOverwrite u (done (e .analysis) (e .bits) bytes)
   in-buffers u s i room =
       let l = e .layout in
       let exact : length (u .spectra) ≡ spectrumLength l = ap length s ∙ ap (λ w. w .size) r in
-      let counted : length (fields l (madeRecord l (e .made))) ≡ e .bits = ap (λ w. w .bits) r in
+      let counted : length (fields l (stageRecord l (e .analysis))) ≡ e .bits = ap (λ w. w .bits) r in
       stage-made l u (ap (λ w. w .legal) r) room exact (rw s (ap (λ w. w .whole) r)) (λ j. rw i (omega (arith, getD-copies {A = ℕ} 0 (sideLength l) j)))
-      ∙ ap (λ m. stageLaid u (settled l m))
+      ∙ ap (λ m. stageOverwrite u (afterLevel l m))
       (rw (
         take-all (spectrumLength l) (u .spectra) (omega arith),
         s,
         i,
         take-all (sideLength l) (noSide l) (omega (arith, length-replicate {A = ℕ} (sideLength l) 0)),
       ) (run-made e r))
-      ∙ ap (stageLaid u) (settled-done l (e .made) (e .bits) bytes h counted n f)
+      ∙ ap (stageOverwrite u) (settled-done l (e .analysis) (e .bits) bytes h counted n f)
 
 -- ---- the line
 
@@ -62,10 +62,10 @@ abbrev one : LineLeft
 one = record {
   outcome = delivered [];
   index = none;
-  scaled = loud .made .scaled ++ (oneF ∷ []);
-  codes = loud .made .codes ++ (pos 1 ∷ []);
-  factors = loud .made .found .factors ++ (1 ∷ []);
-  side = loud .made .side ++ (1 ∷ []);
+  scaled = loud .analysis .scaled ++ (oneF ∷ []);
+  codes = loud .analysis .codes ++ (pos 1 ∷ []);
+  factors = loud .analysis .found .factors ++ (1 ∷ []);
+  side = loud .analysis .side ++ (1 ∷ []);
   frames = loudBytes ++ replicate 18 0xEE;
   answers = 173 ∷ 1 ∷ 0 ∷ 116 ∷ replicate 5 9;
   tally = record { frames = 6; bits = 1116; pairs = 7 };
@@ -76,17 +76,17 @@ abbrev pub both : LineLeft
 both = record {
   outcome = delivered [];
   index = none;
-  scaled = later .made .scaled ++ (oneF ∷ []);
-  codes = later .made .codes ++ (pos 1 ∷ []);
-  factors = later .made .found .factors ++ (1 ∷ []);
-  side = later .made .side ++ (1 ∷ []);
+  scaled = later .analysis .scaled ++ (oneF ∷ []);
+  codes = later .analysis .codes ++ (pos 1 ∷ []);
+  factors = later .analysis .found .factors ++ (1 ∷ []);
+  side = later .analysis .side ++ (1 ∷ []);
   frames = loudBytes ++ (laterBytes ++ (0xEE ∷ []));
   answers = 173 ∷ 1 ∷ 0 ∷ 116 ∷ 173 ∷ 1 ∷ 0 ∷ 120 ∷ 9 ∷ [];
   tally = record { frames = 7; bits = 1236; pairs = 7 };
 }
 
 admitted : Admits its 2 lent
-unfolding lineGate legalLayout batchFits lineRoom blocks
+unfolding lineGate legalLayout batchFits lineHasRoom blocks
 admitted = refl
 
 first-turn : turnAfter its lent 0 (lineKept lent (delivered [])) ≡ one
@@ -105,7 +105,7 @@ second-turn =
 
 -- Two frames are delivered: their bytes and their answers stand one after the other, the work buffers are those of the second, the tally has gained two
 -- frames, 236 bits and no pairs, and what is longer keeps its rest.
-pub two-frames : line its 2 lent ≡ both
+pub two-frames : encodeLine its 2 lent ≡ both
 unfolding lineAfter
 two-frames =
     let a : lineAfter its lent 1 ≡ one = after-next its lent 0 (lineKept lent (delivered [])) refl refl ∙ first-turn in

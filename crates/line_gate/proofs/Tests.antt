@@ -7,15 +7,15 @@ use native.Mathlib.Omega.{arith}
 use Rattle.buffers.proofs.Tests.{not-true-false}
 use Rattle.rules.specs.declared.Layout.{Layout}
 use Rattle.rules.specs.declared.StageRoom.{StageRoom}
-use Rattle.rules_line.specs.Line.{batchFits, lineRoom, Batch, LineRoom}
+use Rattle.rules_line.specs.Line.{batchFits, lineHasRoom, Batch, LineHasRoom}
 use Rattle.rules_line.specs.declared.Tally.{Tally}
 use Rattle.rules_line.proofs.Gates.{batch-facts, room-facts}
 
 pub batch-false : (count : ℕ) (t : Tally) → (Batch count t → ⊥) → batchFits count t ≡ false
 batch-false count t h = not-true-false (batchFits count t) (λ e. h (batch-facts count t e))
 
-pub room-false : (l : Layout) (count : ℕ) (r : StageRoom) (answers : ℕ) → (LineRoom l count r answers → ⊥) → lineRoom l count r answers ≡ false
-room-false l count r answers h = not-true-false (lineRoom l count r answers) (λ e. h (room-facts l count r answers e))
+pub room-false : (l : Layout) (count : ℕ) (r : StageRoom) (answers : ℕ) → (LineHasRoom l count r answers → ⊥) → lineHasRoom l count r answers ≡ false
+room-false l count r answers h = not-true-false (lineHasRoom l count r answers) (λ e. h (room-facts l count r answers e))
 
 -- a product of two numbers that are at most 65,535
 pub product-fits : (a b : ℕ) → a ≤ 65535 → b ≤ 65535 → a * b ≤ 2 ^ 32

@@ -2,8 +2,8 @@
 ghost use mathlib.Core.Path.{_≡_};
 ghost use mathlib.Core.Option.{none};
 ghost use Prim.Native.Nat.{_+_, _*_, _^_, _≤_};
-ghost use Rattle.rules.specs.Layout.{Sizes};
-ghost use Rattle.rules_line.specs.Line.{lineOutcome, lineIndex, batchFits, lineRoom, lineGate};
+ghost use Rattle.rules.specs.Layout.{LegalLayout};
+ghost use Rattle.rules_line.specs.Line.{lineOutcome, lineIndex, batchFits, lineHasRoom, lineGate};
 use rules::Layout;
 use rules::StageRoom;
 use rules_line::LineAnswer;
@@ -38,9 +38,9 @@ pub fn part_start(k: usize, length: usize) -> usize
 
 // Is there room for `count` frames? The work buffers have one frame's length.
 pub fn line_room(layout: Layout, count: usize, room: StageRoom, answers: usize) -> bool
-    requires { ⌜ Sizes layout ⌝ }
+    requires { ⌜ LegalLayout layout ⌝ }
     requires { ⌜ count ≤ 65535 ⌝ }
-    ensures { λ r. ⌜ r ≡ lineRoom layout count room answers ⌝ }
+    ensures { λ r. ⌜ r ≡ lineHasRoom layout count room answers ⌝ }
 {
     let stored = room.stored;
     let n = layout.channels * 1024;

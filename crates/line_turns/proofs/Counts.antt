@@ -4,10 +4,11 @@ use mathlib.Core.Option.{Option, none, some}
 use Prim.Native.Nat.{ℕ, zero, suc, _+_, _*_, _^_, _≤_, _<_}
 use native.Mathlib.Omega.{arith}
 use Rattle.rules.specs.Refusals.{Outcome}
-use Rattle.rules.specs.Stage.{StageLent, stage}
+use Rattle.rules.specs.Stage.{StageLent, encodeFrame}
 use Rattle.rules.specs.declared.Layout.{Layout}
 use Rattle.rules_demands.proofs.StageAnswers.{StageBounded, answers-bounded, beside-bounded, stage-bounds}
-use Rattle.rules_line.specs.Line.{LineLent, LineLeft, frameLent, stageAt, answersOf, tallyAfter, lineTurn, turnLent, onward, lineAfter, Batch, OnTheWay, AnswersFit}
+use Rattle.rules_line.specs.Line.{LineLent, LineLeft, frameLent, stageAt, answersOf, tallyAfter, lineTurn, turnLent, onward, lineAfter, Batch, OnTheWay}
+use Rattle.rules_line.specs.Line.{AnswersFit}
 use Rattle.rules_line.specs.declared.Tally.{Tally}
 use Rattle.rules_line.proofs.Turns.{turnAfter}
 
@@ -36,7 +37,8 @@ unfolding tallyAfter
 counted-more t u k o (answers-bounded level boundary pairs bits a b c d) h = record { frames = omega arith; bits = omega arith; pairs = omega arith }
 counted-more t u k o (beside-bounded number beside g) h = record { frames = omega arith; bits = omega arith; pairs = omega arith }
 
-counted-on : (t : Tally) (k : ℕ) (i : Option ℕ) (x y : LineLeft) → Counted t (x .tally) k → Counted t (y .tally) (suc k) → Counted t (onward i x y .tally) (suc k)
+counted-on : (t : Tally) (k : ℕ) (i : Option ℕ) (x y : LineLeft) → Counted t (x .tally) k → Counted t (y .tally) (suc k)
+    → Counted t (onward i x y .tally) (suc k)
 unfolding onward
 counted-on t k none x y h g = g
 counted-on t k (some j) x y h g = record { frames = omega arith; bits = omega arith; pairs = omega arith }

@@ -11,12 +11,13 @@ use denote.Enum.Declared.{tagOf}
 use lib.IntN.{ℤ}
 use lib.Ieee.{Float}
 use lib.ListN.{length}
-use Rattle.rules.specs.Layout.{Sizes, frameSize, spectrumLength, sideLength}
+use Rattle.rules.specs.Layout.{LegalLayout, frameSize, spectrumLength, sideLength}
 use Rattle.rules.specs.Refusals.{Outcome, delivered, refused}
 use Rattle.rules.specs.Stage.{StageLeft, stageLent}
 use Rattle.rules.specs.declared.Layout.{Layout}
 use Rattle.rules.proofs.Cuts.{row-end}
-use Rattle.rules_line.specs.Line.{lineOutcome, lineIndex, LineLent, LineLeft, lineLeft, lineLengths, stageAt, turnOutcome, turnIndex, lineTurn, turnLent, lineAfter, Batch, LineRoom, OnTheWay}
+use Rattle.rules_line.specs.Line.{lineOutcome, lineIndex, LineLent, LineLeft, lineLeft, lineRoom, stageAt, turnOutcome, turnIndex, lineTurn, turnLent}
+use Rattle.rules_line.specs.Line.{lineAfter, Batch, LineHasRoom, OnTheWay}
 use Rattle.rules_line.specs.declared.LineAnswer.{LineAnswer}
 use Rattle.rules_line.specs.declared.LineAnswer.the-variants.{Delivered, BadLayout, BadBatch, ShortBuffer, Refused}
 use Rattle.rules_line.specs.declared.Tally.{Tally}
@@ -29,7 +30,8 @@ apart : {A : Type 0} {number beside : ℕ} {ns : List ℕ} → refused number be
 apart e = let z : _≡_ {A = ℕ} 0 1 = cc e in absurd (omega arith)
 
 -- an answer that is no delivery is that of frame k
-stopped : (a : LineAnswer) (o : Outcome) (k : ℕ) → OneOf (1 ∷ 2 ∷ 3 ∷ 4 ∷ []) (tagOf Answer.the-type a) → lineOutcome a ≡ turnOutcome o → lineIndex a ≡ turnIndex k o
+stopped : (a : LineAnswer) (o : Outcome) (k : ℕ) → OneOf (1 ∷ 2 ∷ 3 ∷ 4 ∷ []) (tagOf Answer.the-type a) → lineOutcome a ≡ turnOutcome o → lineIndex a
+    ≡ turnIndex k o
     → lineIndex a ≡ some k
 unfolding lineOutcome lineIndex turnOutcome turnIndex
 stopped Delivered o k h e i = absurd (miss (1 ∷ 2 ∷ 3 ∷ 4 ∷ []) 0 tt h)
@@ -57,7 +59,8 @@ unfolding lineAfter lineOutcome lineIndex
 going-none l t = record { so-far = refl; scaled = refl; codes = refl; factors = refl; side = refl; frames = refl; answers = refl }
 
 -- frame k's parts are there
-pub turn-there : (l : Layout) (t : LineLent) (count k : ℕ) (fr : List ℕ) → k < count → count ≤ 65535 → LineRoom l count (lineLengths t) (length (t .answers)) → length fr ≡ length (t .frames)
+pub turn-there : (l : Layout) (t : LineLent) (count k : ℕ) (fr : List ℕ) → k < count → count ≤ 65535 → LineHasRoom l count (lineRoom t) (length (t .answers))
+    → length fr ≡ length (t .frames)
     → Turn l k (length (t .spectra)) (length (t .intensities)) (length fr)
 turn-there l t count k fr h few room e = record {
   below = omega arith;
@@ -66,7 +69,8 @@ turn-there l t count k fr h few room e = record {
   frames = omega (arith, row-end (frameSize l) count k h, room .frames);
 }
 
-pub answers-there : (l : Layout) (t : LineLent) (count k : ℕ) (an : List ℕ) → k < count → LineRoom l count (lineLengths t) (length (t .answers)) → length an ≡ length (t .answers)
+pub answers-there : (l : Layout) (t : LineLent) (count k : ℕ) (an : List ℕ) → k < count → LineHasRoom l count (lineRoom t) (length (t .answers)) → length an
+    ≡ length (t .answers)
     → k * 4 + 4 ≤ length an
 answers-there l t count k an h room e = omega (arith, room .answers)
 
@@ -82,7 +86,8 @@ module _ (l : Layout) (t : LineLent) (k : ℕ) (sum : Tally) (sc : List Float) (
     unfolding lineIndex
     went = after-next l t k (lineLeft Delivered sum sc co fa si fr an) (g .so-far) refl ∙ sym e
 
-    pub going-more : end ≡ Delivered → length sc′ ≡ length sc → length co′ ≡ length co → length fa′ ≡ length fa → length si′ ≡ length si → length fr′ ≡ length fr → length an′ ≡ length an
+    pub going-more : end ≡ Delivered → length sc′ ≡ length sc → length co′ ≡ length co → length fa′ ≡ length fa → length si′ ≡ length si → length fr′
+        ≡ length fr → length an′ ≡ length an
         → Going l t (k + 1) next sc′ co′ fa′ si′ fr′ an′
     going-more d a b c f h i = record {
       so-far = ap (lineAfter l t) (add-one k) ∙ went ∙ ap (λ (z : LineAnswer). lineLeft z next sc′ co′ fa′ si′ fr′ an′) d;
@@ -94,11 +99,13 @@ module _ (l : Layout) (t : LineLent) (k : ℕ) (sum : Tally) (sc : List Float) (
       answers = i ∙ g .answers;
     }
 
-    pub going-stop : (count : ℕ) → k < count → OneOf (1 ∷ 2 ∷ 3 ∷ 4 ∷ []) (tagOf Answer.the-type end) → lineLeft end next sc′ co′ fa′ si′ fr′ an′ ≡ lineAfter l t count
+    pub going-stop : (count : ℕ) → k < count → OneOf (1 ∷ 2 ∷ 3 ∷ 4 ∷ []) (tagOf Answer.the-type end) → lineLeft end next sc′ co′ fa′ si′ fr′ an′
+        ≡ lineAfter l t count
     unfolding lineTurn
     going-stop count h d =
         let x = stageAt l k (stageLent (t .spectra) (t .intensities) sc co fa si fr) in
-        let i : lineAfter l t (suc k) .index ≡ some k = ap (λ (y : LineLeft). y .index) went ∙ stopped end (x .outcome) k d (ap (λ (y : LineLeft). y .outcome) e) (ap (λ (y : LineLeft). y .index) e) in
+        let i : lineAfter l t (suc k) .index ≡ some k = ap (λ (y : LineLeft). y .index) went
+        ∙ stopped end (x .outcome) k d (ap (λ (y : LineLeft). y .outcome) e) (ap (λ (y : LineLeft). y .index) e) in
         sym went ∙ sym (after-stays l t (suc k) k i count (omega arith))
 
   -- every frame was delivered

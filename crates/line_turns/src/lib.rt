@@ -2,9 +2,9 @@
 ghost use mathlib.Core.Path.{_≡_};
 ghost use Prim.Native.Nat.{_+_, _*_, _≤_};
 ghost use lib.ListN.{length};
-ghost use Rattle.rules.specs.Layout.{Sizes, roomOf};
-ghost use Rattle.rules.specs.Stage.{stageLent, stageLeft, stageRoom};
-ghost use Rattle.rules_line.specs.Line.{lineLent, lineLeft, Batch, LineRoom, OnTheWay, stageAt, lineTurn, lineAfter, line};
+ghost use Rattle.rules.specs.Layout.{LegalLayout, roomOf};
+ghost use Rattle.rules.specs.Stage.{stageLent, stageLeft, stageRoomOf};
+ghost use Rattle.rules_line.specs.Line.{lineLent, lineLeft, Batch, LineHasRoom, OnTheWay, stageAt, lineTurn, lineAfter, encodeLine};
 ghost use Rattle.line_turns.specs.Turn.{Turn};
 use line_gate::line_gate;
 use line_gate::part_start;
@@ -31,7 +31,7 @@ fn encode_part(
     side: &mut [u8],
     frames: &mut [u8],
 ) -> StageAnswer
-    requires { ⌜ Sizes layout ⌝ }
+    requires { ⌜ LegalLayout layout ⌝ }
     requires { ⌜ Turn layout k (length (now spectra)) (length (now intensities)) (length (now frames)) ⌝ }
     ensures { λ r. ⌜ stageLeft r (now (scaled .exit)) (now (codes .exit)) (now (factors .exit)) (now (side .exit)) (now (frames .exit))
         ≡ stageAt layout k (stageLent (now (spectra .entry)) (now (intensities .entry)) (now (scaled .entry)) (now (codes .entry))
@@ -69,7 +69,7 @@ fn encode_turn(
     answers: &mut [u32],
     tally: Tally,
 ) -> LineEnd
-    requires { ⌜ Sizes layout ⌝ }
+    requires { ⌜ LegalLayout layout ⌝ }
     requires { ⌜ Turn layout k (length (now spectra)) (length (now intensities)) (length (now frames)) ⌝ }
     requires { ⌜ k * 4 + 4 ≤ length (now answers) ⌝ }
     requires { ⌜ OnTheWay tally ⌝ }
@@ -91,9 +91,9 @@ fn encode_turn(
     let n = part_start(k, 4);
     store_answers(answer, &mut answers[n..]);
     let next = tally.after(answer);
-    let told = line_answer(k, answer);
+    let answered = line_answer(k, answer);
     LineEnd {
-        answer: told,
+        answer: answered,
         tally: next,
     }
 }
@@ -112,9 +112,9 @@ fn encode_turns(
     answers: &mut [u32],
     tally: Tally,
 ) -> LineEnd
-    requires { ⌜ Sizes layout ⌝ }
+    requires { ⌜ LegalLayout layout ⌝ }
     requires { ⌜ Batch count tally ⌝ }
-    requires { ⌜ LineRoom layout count (stageRoom (length (now spectra)) (length (now intensities)) (length (now scaled))
+    requires { ⌜ LineHasRoom layout count (stageRoomOf (length (now spectra)) (length (now intensities)) (length (now scaled))
         (roomOf (length (now factors)) (length (now side)) (length (now codes)) (length (now frames)))) (length (now answers)) ⌝ }
     ensures { λ r. ⌜ lineLeft (r .answer) (r .tally) (now (scaled .exit)) (now (codes .exit)) (now (factors .exit)) (now (side .exit))
         (now (frames .exit)) (now (answers .exit)) ≡ lineAfter layout (lineLent (now (spectra .entry)) (now (intensities .entry))
@@ -164,7 +164,7 @@ pub fn encode_frames(
     tally: Tally,
 ) -> LineEnd
     ensures { λ r. ⌜ lineLeft (r .answer) (r .tally) (now (scaled .exit)) (now (codes .exit)) (now (factors .exit)) (now (side .exit))
-        (now (frames .exit)) (now (answers .exit)) ≡ line layout count (lineLent (now (spectra .entry)) (now (intensities .entry))
+        (now (frames .exit)) (now (answers .exit)) ≡ encodeLine layout count (lineLent (now (spectra .entry)) (now (intensities .entry))
         (now (scaled .entry)) (now (codes .entry)) (now (factors .entry)) (now (side .entry)) (now (frames .entry)) (now (answers .entry)) tally) ⌝ }
 {
     let stored = Room {

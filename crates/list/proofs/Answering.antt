@@ -5,27 +5,27 @@ use Prim.Native.Nat.{ℕ, _+_, _*_, _≤_, _<_}
 use native.Mathlib.Omega.{arith}
 use lib.ListN.{length, getD}
 use Rattle.bits.proofs.Parts.{bytes-all}
-use Rattle.rules_files.specs.List.{framesIn, judgedList, readAs, listRead, lookedAs, looked, summedAs, summed}
+use Rattle.rules_files.specs.List.{framesIn, judgedList, readListAs, readList, listEntryAs, listEntry, listSummaryAs, listSummary}
 use Rattle.rules_files.specs.declared.list.Judgement.{Judgement}
 use Rattle.rules_files.specs.declared.list.Judgement.the-variants as found
 use Rattle.rules_files.proofs.Lists.{good-accepted, bad-frames, frames-small}
 
 -- a judgement j that is known to be v
-module _ (list : List ℕ) (j v : Judgement) (e : j ≡ judgedList list) (told : j ≡ v) where
-  pub read-by : (entries : List ℕ) → readAs v list entries ≡ listRead list entries
-  unfolding listRead
-  read-by entries = ap (λ x. readAs x list entries) (sym told ∙ e)
+module _ (list : List ℕ) (j v : Judgement) (e : j ≡ judgedList list) (said : j ≡ v) where
+  pub read-by : (entries : List ℕ) → readListAs v list entries ≡ readList list entries
+  unfolding readList
+  read-by entries = ap (λ x. readListAs x list entries) (sym said ∙ e)
 
-  pub looked-by : (frame : ℕ) → lookedAs v list frame ≡ looked list frame
-  unfolding looked
-  looked-by frame = ap (λ x. lookedAs x list frame) (sym told ∙ e)
+  pub entry-by : (frame : ℕ) → listEntryAs v list frame ≡ listEntry list frame
+  unfolding listEntry
+  entry-by frame = ap (λ x. listEntryAs x list frame) (sym said ∙ e)
 
-  pub summed-by : summedAs v list ≡ summed list
-  unfolding summed
-  summed-by = ap (λ x. summedAs x list) (sym told ∙ e)
+  pub summed-by : listSummaryAs v list ≡ listSummary list
+  unfolding listSummary
+  summed-by = ap (λ x. listSummaryAs x list) (sym said ∙ e)
 
   pub judged-by : judgedList list ≡ v
-  judged-by = sym e ∙ told
+  judged-by = sym e ∙ said
 
 -- what the workers ask of a good list, whose numbers are bytes
 module _ (list : List ℕ) (n : ℕ) (good : judgedList list ≡ found.Good n) where

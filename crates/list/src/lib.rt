@@ -14,8 +14,8 @@ ghost use mathlib.Core.Bool.{cond};
 ghost use Prim.Native.Nat.{_*_, _<_};
 ghost use lib.Dec.{ltb};
 ghost use Rattle.rules.specs.Refusals.{refused};
-ghost use Rattle.rules_files.specs.List.{listLeft, listWritten, entriesLeft, listReadOutcome, listRead};
-ghost use Rattle.rules_files.specs.List.{entryOutcome, looked, summaryOutcome, summed, judgedList};
+ghost use Rattle.rules_files.specs.List.{listLeft, writeList, entriesLeft, listReadOutcome, readList};
+ghost use Rattle.rules_files.specs.List.{entryOutcome, listEntry, summaryOutcome, listSummary, judgedList};
 ghost use Rattle.rules_files.specs.declared.list.Judgement.the-variants.{Good};
 use crate::judging::entry_in;
 use crate::judging::judge_list;
@@ -31,7 +31,7 @@ use rules_files::list::SummaryAnswer;
 
 // The writer takes any arguments. Refusals 2 and 21, in this order.
 pub fn write_list(frames: u32, entries: &[u32], list: &mut [u8]) -> ListWritten
-    ensures { λ r. ⌜ listLeft r (now (list .exit)) ≡ listWritten frames (now (entries .entry)) (now (list .entry)) ⌝ }
+    ensures { λ r. ⌜ listLeft r (now (list .exit)) ≡ writeList frames (now (entries .entry)) (now (list .entry)) ⌝ }
 {
     let n = frames as usize;
     if entries.len() < n * 4 {
@@ -61,7 +61,7 @@ fn bad_entry(n: usize, places: usize) -> ListAnswer
 // A good list of n frames.
 fn read_good(list: &[u8], n: usize, entries: &mut [u32]) -> ListAnswer
     requires { ⌜ judgedList (now list) ≡ Good n ⌝ }
-    ensures { λ r. ⌜ entriesLeft r (now (entries .exit)) ≡ listRead (now (list .entry)) (now (entries .entry)) ⌝ }
+    ensures { λ r. ⌜ entriesLeft r (now (entries .exit)) ≡ readList (now (list .entry)) (now (entries .entry)) ⌝ }
 {
     if entries.len() < n * 4 {
         return ListAnswer::ShortBuffer;
@@ -72,7 +72,7 @@ fn read_good(list: &[u8], n: usize, entries: &mut [u32]) -> ListAnswer
 
 // The reader takes any arguments. Refusals 19, 20, 2 and 21, in this order: 2 stands where the count is known.
 pub fn read_list(list: &[u8], entries: &mut [u32]) -> ListAnswer
-    ensures { λ r. ⌜ entriesLeft r (now (entries .exit)) ≡ listRead (now (list .entry)) (now (entries .entry)) ⌝ }
+    ensures { λ r. ⌜ entriesLeft r (now (entries .exit)) ≡ readList (now (list .entry)) (now (entries .entry)) ⌝ }
 {
     let judgement = judge_list(list);
     match judgement {
@@ -86,7 +86,7 @@ pub fn read_list(list: &[u8], entries: &mut [u32]) -> ListAnswer
 // A good list of n frames.
 fn look_good(list: &[u8], n: usize, frame: usize) -> EntryAnswer
     requires { ⌜ judgedList (now list) ≡ Good n ⌝ }
-    ensures { λ r. ⌜ entryOutcome r ≡ looked (now (list .entry)) frame ⌝ }
+    ensures { λ r. ⌜ entryOutcome r ≡ listEntry (now (list .entry)) frame ⌝ }
 {
     if frame < n {
         let entry = entry_in(list, frame);
@@ -97,7 +97,7 @@ fn look_good(list: &[u8], n: usize, frame: usize) -> EntryAnswer
 
 // The lookup takes any arguments. Refusals 19, 20, 21 and 31, in this order.
 pub fn list_entry(list: &[u8], frame: u32) -> EntryAnswer
-    ensures { λ r. ⌜ entryOutcome r ≡ looked (now (list .entry)) frame ⌝ }
+    ensures { λ r. ⌜ entryOutcome r ≡ listEntry (now (list .entry)) frame ⌝ }
 {
     let judgement = judge_list(list);
     match judgement {
@@ -110,7 +110,7 @@ pub fn list_entry(list: &[u8], frame: u32) -> EntryAnswer
 
 // The summary takes any bytes. Refusals 19, 20 and 21, in this order.
 pub fn list_summary(list: &[u8]) -> SummaryAnswer
-    ensures { λ r. ⌜ summaryOutcome r ≡ summed (now (list .entry)) ⌝ }
+    ensures { λ r. ⌜ summaryOutcome r ≡ listSummary (now (list .entry)) ⌝ }
 {
     let judgement = judge_list(list);
     match judgement {

@@ -2,7 +2,7 @@
 ghost use mathlib.Core.Path.{_≡_};
 ghost use Prim.Native.Nat.{_+_, _*_, _≤_};
 ghost use lib.ListN.{length};
-ghost use Rattle.rules.specs.Lent.{laid};
+ghost use Rattle.rules.specs.Lent.{overwrite};
 ghost use Rattle.rules_files.specs.List.{entryNumbers, framesIn, entriesOf};
 use crate::judging::entry_in;
 use rules_files::list::Entry;
@@ -20,7 +20,7 @@ fn store_entry(entry: Entry, numbers: &mut [u32])
 
 pub(crate) fn store_entries(list: &[u8], n: usize, entries: &mut [u32])
     requires { ⌜ (n ≡ framesIn (now list)) × (9 + n * 8 ≤ length (now list)) × (n * 4 ≤ length (now entries)) ⌝ }
-    ensures { λ _. ⌜ now (entries .exit) ≡ laid (entriesOf (now (list .entry))) (now (entries .entry)) ⌝ }
+    ensures { λ _. ⌜ now (entries .exit) ≡ overwrite (entriesOf (now (list .entry))) (now (entries .entry)) ⌝ }
 {
     let mut i = 0;
     while i < n {

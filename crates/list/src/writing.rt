@@ -5,7 +5,7 @@ ghost use Prim.Native.Nat.{_+_, _*_, _≤_};
 ghost use lib.ListN.{length, drop};
 ghost use Rattle.buffers.specs.Walk.{blocks};
 ghost use Rattle.numbers.specs.Numbers.{highFirst, replaced};
-ghost use Rattle.rules.specs.Lent.{laid};
+ghost use Rattle.rules.specs.Lent.{overwrite};
 ghost use Rattle.rules_files.specs.List.{entryBytes, entryAt, legalEntries, listHead, listOf};
 use crate::judging::is_legal_entry;
 use numbers::high::put_high;
@@ -78,7 +78,7 @@ fn put_entries(entries: &[u32], n: usize, bytes: &mut [u8])
 // The mark, the version and the count over the first nine bytes.
 fn put_head(frames: u32, list: &mut [u8])
     requires { ⌜ 9 ≤ length (now list) ⌝ }
-    ensures { λ _. ⌜ now (list .exit) ≡ laid (listHead frames) (now (list .entry)) ⌝ }
+    ensures { λ _. ⌜ now (list .exit) ≡ overwrite (listHead frames) (now (list .entry)) ⌝ }
 {
     put_word(list, 0, 3, 0x564649);
     put_word(list, 3, 2, 1);
@@ -87,7 +87,7 @@ fn put_head(frames: u32, list: &mut [u8])
 
 pub(crate) fn put_list(frames: u32, entries: &[u32], list: &mut [u8])
     requires { ⌜ (frames * 4 ≤ length (now entries)) × (9 + frames * 8 ≤ length (now list)) ⌝ }
-    ensures { λ _. ⌜ now (list .exit) ≡ laid (listOf frames (now (entries .entry))) (now (list .entry)) ⌝ }
+    ensures { λ _. ⌜ now (list .exit) ≡ overwrite (listOf frames (now (entries .entry))) (now (list .entry)) ⌝ }
 {
     put_head(frames, list);
     put_entries(entries, frames as usize, &mut list[9..]);

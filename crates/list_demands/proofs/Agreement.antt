@@ -11,33 +11,33 @@ use Rattle.rules.specs.Record.{Rec, Legal, recOf, CodesInRange}
 use Rattle.rules.specs.Fields.{fields}
 use Rattle.rules.specs.Frame.{frameOf}
 use Rattle.rules.specs.Refusals.{delivered}
-use Rattle.rules.specs.Stage.{StageLent, stage}
-use Rattle.rules.specs.Reader.{ReaderLent, ReaderLeft, readerRoom, read}
+use Rattle.rules.specs.Stage.{StageLent, encodeFrame}
+use Rattle.rules.specs.Reader.{ReaderLent, ReaderLeft, readerHasRoom, readFrame}
 use Rattle.rules.specs.declared.Layout.{Layout}
 use Rattle.rules_demands.proofs.Stores.{record-front}
 use Rattle.rules_demands.proofs.Demand3.{Framed, frame-bytes, strict-sound}
 use Rattle.rules_demands.proofs.Deliveries.{Reads, reads, front-length, reads-record}
-use Rattle.rules_demands.proofs.Calls.{Packed}
+use Rattle.rules_demands.proofs.Calls.{FrameOf}
 use Rattle.rules_demands.proofs.StageCalls.{recordIn, stage-head, stage-packed, stage-read}
-use Rattle.rules_files.specs.List.{entryNumbers, entryAt, listWritten, looked}
+use Rattle.rules_files.specs.List.{entryNumbers, entryAt, writeList, listEntry}
 use Rattle.rules_files.proofs.ListCalls.{list-back}
 use Rattle.list_demands.proofs.SameHead.{same-level, same-boundary}
 
 -- the reader left the stage's factors, side and codes, over the stated lengths: the frame's own record
 pub record OwnRecord (l : Layout) (t : StageLent) (u : ReaderLent) : Type 0 where
-  pub factors : take (factorLength l) (read l u .factors) ≡ take (factorLength l) (stage l t .factors)
-  pub side : take (sideLength l) (read l u .side) ≡ take (sideLength l) (stage l t .side)
-  pub codes : take (spectrumLength l) (read l u .codes) ≡ take (spectrumLength l) (stage l t .codes)
+  pub factors : take (factorLength l) (readFrame l u .factors) ≡ take (factorLength l) (encodeFrame l t .factors)
+  pub side : take (sideLength l) (readFrame l u .side) ≡ take (sideLength l) (encodeFrame l t .side)
+  pub codes : take (spectrumLength l) (readFrame l u .codes) ≡ take (spectrumLength l) (encodeFrame l t .codes)
 
 -- ---- the stage's frame and the strict reader
 
-module _ (l : Layout) (t : StageLent) (level boundary pairs bits : ℕ) (e : stage l t .outcome ≡ delivered (level ∷ boundary ∷ pairs ∷ bits ∷ []))
-    (u : ReaderLent) (q : take (frameSize l) (u .frame) ≡ take (frameSize l) (stage l t .frame))
-    (level′ boundary′ bits′ : ℕ) (d : read l u .outcome ≡ delivered (level′ ∷ boundary′ ∷ bits′ ∷ [])) where
+module _ (l : Layout) (t : StageLent) (level boundary pairs bits : ℕ) (e : encodeFrame l t .outcome ≡ delivered (level ∷ boundary ∷ pairs ∷ bits ∷ []))
+    (u : ReaderLent) (q : take (frameSize l) (u .frame) ≡ take (frameSize l) (encodeFrame l t .frame))
+    (level′ boundary′ bits′ : ℕ) (d : readFrame l u .outcome ≡ delivered (level′ ∷ boundary′ ∷ bits′ ∷ [])) where
   abbrev its : Rec
-  its = recordIn l level boundary (stage l t)
+  its = recordIn l level boundary (encodeFrame l t)
 
-  packed : Packed l its bits (take (frameSize l) (stage l t .frame))
+  packed : FrameOf l its bits (take (frameSize l) (encodeFrame l t .frame))
   packed = stage-packed l t level boundary pairs bits e
 
   -- the record that was read has this frame
@@ -72,35 +72,36 @@ module _ (l : Layout) (t : StageLent) (level boundary pairs bits : ℕ) (e : sta
       own-record : OwnRecord l t u → (r : Rec) → (k : Reads l u r bits′) → r .level ≡ level → r .boundary ≡ boundary → Legal l r → r ≡ its
       own-record own r k v b h =
           sym (reads-record l u r bits′ k h)
-          ∙ sym (record-front l (r .level) (r .boundary) (read l u .factors) (read l u .side) (read l u .codes))
-          ∙ rw (own .factors, own .side, own .codes, v, b) (record-front l level boundary (stage l t .factors) (stage l t .side) (stage l t .codes))
+          ∙ sym (record-front l (r .level) (r .boundary) (readFrame l u .factors) (readFrame l u .side) (readFrame l u .codes))
+          ∙ rw (own .factors, own .side, own .codes, v, b) (record-front l level boundary (encodeFrame l t .factors) (encodeFrame l t .side)
+          (encodeFrame l t .codes))
 
 -- ---- LIST-AGREES
 
 -- entry k of a written list of n entries holds what the stage answered
-module _ (l : Layout) (t : StageLent) (level boundary pairs bits : ℕ) (e : stage l t .outcome ≡ delivered (level ∷ boundary ∷ pairs ∷ bits ∷ []))
-    (n : ℕ) (entries list : List ℕ) (few : n < 4294967296) (words : AtMost 4294967295 entries) (w : listWritten n entries list .outcome ≡ delivered [])
+module _ (l : Layout) (t : StageLent) (level boundary pairs bits : ℕ) (e : encodeFrame l t .outcome ≡ delivered (level ∷ boundary ∷ pairs ∷ bits ∷ []))
+    (n : ℕ) (entries list : List ℕ) (few : n < 4294967296) (words : AtMost 4294967295 entries) (w : writeList n entries list .outcome ≡ delivered [])
     (k : ℕ) (h : k < n) (holds : entryNumbers (entryAt entries k) ≡ level ∷ boundary ∷ pairs ∷ bits ∷ []) where
   -- the list's bytes
   abbrev written : List ℕ
-  written = take (9 + n * 8) (listWritten n entries list .list)
+  written = take (9 + n * 8) (writeList n entries list .list)
 
-  told : looked written k ≡ delivered (level ∷ boundary ∷ pairs ∷ bits ∷ [])
-  told = list-back n entries few words list w .entry k h ∙ ap delivered holds
+  said : listEntry written k ≡ delivered (level ∷ boundary ∷ pairs ∷ bits ∷ [])
+  said = list-back n entries few words list w .entry k h ∙ ap delivered holds
 
-  module _ (u : ReaderLent) (q : take (frameSize l) (u .frame) ≡ take (frameSize l) (stage l t .frame)) where
-    module _ (level′ boundary′ bits′ : ℕ) (d : read l u .outcome ≡ delivered (level′ ∷ boundary′ ∷ bits′ ∷ [])) where
+  module _ (u : ReaderLent) (q : take (frameSize l) (u .frame) ≡ take (frameSize l) (encodeFrame l t .frame)) where
+    module _ (level′ boundary′ bits′ : ℕ) (d : readFrame l u .outcome ≡ delivered (level′ ∷ boundary′ ∷ bits′ ∷ [])) where
       -- Wherever the strict reader delivers on that frame, lookup k has its level and its boundary;
-      pub head-agrees : looked written k ≡ delivered (level′ ∷ boundary′ ∷ pairs ∷ bits ∷ [])
-      head-agrees = let (v, b) = same-head l t level boundary pairs bits e u q level′ boundary′ bits′ d in told ∙ rw (v, b)
+      pub head-agrees : listEntry written k ≡ delivered (level′ ∷ boundary′ ∷ pairs ∷ bits ∷ [])
+      head-agrees = let (v, b) = same-head l t level boundary pairs bits e u q level′ boundary′ bits′ d in said ∙ rw (v, b)
 
       -- where it hands back the frame's own record, lookup k has its level, its boundary and its bits.
-      pub list-agrees : OwnRecord l t u → looked written k ≡ delivered (level′ ∷ boundary′ ∷ pairs ∷ bits′ ∷ [])
+      pub list-agrees : OwnRecord l t u → listEntry written k ≡ delivered (level′ ∷ boundary′ ∷ pairs ∷ bits′ ∷ [])
       list-agrees own =
           let (v, b) = same-head l t level boundary pairs bits e u q level′ boundary′ bits′ d in
-          told ∙ rw (v, b, same-bits l t level boundary pairs bits e u q level′ boundary′ bits′ d own)
+          said ∙ rw (v, b, same-bits l t level boundary pairs bits e u q level′ boundary′ bits′ d own)
 
     -- Whenever each code is in its range, the reader delivers, and lookup k has its level, its boundary and its bits.
-    pub list-agrees-in-range : CodesInRange l level boundary (stage l t .factors) (stage l t .codes) → readerRoom l u ≡ true
-        → (read l u .outcome ≡ delivered (level ∷ boundary ∷ bits ∷ [])) × (looked written k ≡ delivered (level ∷ boundary ∷ pairs ∷ bits ∷ []))
-    list-agrees-in-range range room = (ap (λ (x : ReaderLeft). x .outcome) (stage-read l t level boundary pairs bits e range u room q), told)
+    pub list-agrees-in-range : CodesInRange l level boundary (encodeFrame l t .factors) (encodeFrame l t .codes) → readerHasRoom l u ≡ true
+        → (readFrame l u .outcome ≡ delivered (level ∷ boundary ∷ bits ∷ [])) × (listEntry written k ≡ delivered (level ∷ boundary ∷ pairs ∷ bits ∷ []))
+    list-agrees-in-range range room = (ap (λ (x : ReaderLeft). x .outcome) (stage-read l t level boundary pairs bits e range u room q), said)

@@ -12,12 +12,12 @@ use Rattle.rules.specs.Layout.{frameSize, part}
 use Rattle.rules.specs.Record.{CodesInRange}
 use Rattle.rules.specs.Refusals.{delivered}
 use Rattle.rules.specs.Stage.{StageLent}
-use Rattle.rules.specs.Reader.{ReaderLent, readerRoom, read}
+use Rattle.rules.specs.Reader.{ReaderLent, readerHasRoom, readFrame}
 use Rattle.rules.specs.declared.Layout.{Layout}
 use Rattle.rules.proofs.Cuts.{part-of-front}
-use Rattle.rules_line.specs.Line.{LineLent, LineLeft, frameLent, line}
+use Rattle.rules_line.specs.Line.{LineLent, LineLeft, frameLent, encodeLine}
 use Rattle.rules_files.specs.declared.list.Entry.{Entry}
-use Rattle.rules_files.specs.List.{entryNumbers, entryAt, listWritten, looked}
+use Rattle.rules_files.specs.List.{entryNumbers, entryAt, writeList, listEntry}
 use Rattle.rules_files.proofs.Entries.{entries-front}
 use Rattle.line_demands.proofs.Standing.{allLent, single, answersAt, Stands, ran, ended, answers-long, bytes-long}
 use Rattle.line_demands.proofs.Lines.{Admits, doneOf, framesDone, granted, standing, line-frame}
@@ -30,7 +30,7 @@ module _ (l : Layout) (count : ℕ) (t : LineLent) (a : Admits l count t) where
   done = framesDone l count t
 
   abbrev pub answered : List ℕ
-  answered = line l count t .answers
+  answered = encodeLine l count t .answers
 
   abbrev pub entryOf : (k : ℕ) → Entry
   entryOf k = entryAt answered k
@@ -57,8 +57,8 @@ module _ (l : Layout) (count : ℕ) (t : LineLent) (a : Admits l count t) where
   covered-by x (ended m g i j e) =
       record { few = rw i (omega arith); long = rw i (ran-long m (x .answers) (e .before .each) (e .answers ∙ e .before .answers)) }
 
-  covered : Covered (line l count t)
-  covered = covered-by (line l count t) (standing l count t a)
+  covered : Covered (encodeLine l count t)
+  covered = covered-by (encodeLine l count t) (standing l count t a)
 
   its-part : (k : ℕ) → k < done → part 4 answered k ≡ entryNumbers (entryOf k)
   its-part k h =
@@ -68,7 +68,7 @@ module _ (l : Layout) (count : ℕ) (t : LineLent) (a : Admits l count t) where
 
   -- the single call on frame k delivered them, and its bytes stand among the frames
   delivers-entry : (k : ℕ) → k < done
-      → (single l t k .outcome ≡ delivered (entryNumbers (entryOf k))) × (single l t k .frame ≡ part (frameSize l) (line l count t .frames) k)
+      → (single l t k .outcome ≡ delivered (entryNumbers (entryOf k))) × (single l t k .frame ≡ part (frameSize l) (encodeLine l count t .frames) k)
   delivers-entry k h =
       let g = granted l count t a .room in
       let (o, f) = line-frame l count t a k h (t .scaled) (t .codes) (t .factors) (t .side)
@@ -76,22 +76,22 @@ module _ (l : Layout) (count : ℕ) (t : LineLent) (a : Admits l count t) where
       (o ∙ ap delivered (its-part k h), f)
 
   -- The writer, lent the answers of a line, delivers wherever it has room.
-  pub line-listed : (list : List ℕ) → 9 + done * 8 ≤ length list → listWritten done answered list .outcome ≡ delivered []
+  pub line-listed : (list : List ℕ) → 9 + done * 8 ≤ length list → writeList done answered list .outcome ≡ delivered []
   line-listed list room =
       let made : (i : ℕ) → i < done → FromStage (entryAt answered i) = λ i h. (l, partsOf i, delivers-entry i h .0) in
       stage-list-written done answered list made (covered .long) room
 
   -- ---- each entry agrees with its frame
 
-  module _ (list : List ℕ) (words : AtMost 4294967295 answered) (w : listWritten done answered list .outcome ≡ delivered []) (k : ℕ) (h : k < done) where
+  module _ (list : List ℕ) (words : AtMost 4294967295 answered) (w : writeList done answered list .outcome ≡ delivered []) (k : ℕ) (h : k < done) where
     -- the list's bytes
     abbrev listed : List ℕ
-    listed = take (9 + done * 8) (listWritten done answered list .list)
+    listed = take (9 + done * 8) (writeList done answered list .list)
 
     few : done < 4294967296
     few = omega (arith, covered .few, granted l count t a .batch .few)
 
-    module _ (u : ReaderLent) (q : take (frameSize l) (u .frame) ≡ part (frameSize l) (line l count t .frames) k) where
+    module _ (u : ReaderLent) (q : take (frameSize l) (u .frame) ≡ part (frameSize l) (encodeLine l count t .frames) k) where
       below : k < count
       below = omega (arith, covered .few)
 
@@ -100,23 +100,24 @@ module _ (l : Layout) (count : ℕ) (t : LineLent) (a : Admits l count t) where
           q ∙ sym (delivers-entry k h .1)
           ∙ sym (take-all (frameSize l) (single l t k .frame) (omega (arith, bytes-long l t count (granted l count t a) k below)))
 
-      module _ (level′ boundary′ bits′ : ℕ) (d : read l u .outcome ≡ delivered (level′ ∷ boundary′ ∷ bits′ ∷ [])) where
+      module _ (level′ boundary′ bits′ : ℕ) (d : readFrame l u .outcome ≡ delivered (level′ ∷ boundary′ ∷ bits′ ∷ [])) where
         -- Wherever the strict reader delivers on frame k of a line, lookup k has its level and its boundary;
-        pub line-head-agrees : looked listed k ≡ delivered (level′ ∷ boundary′ ∷ entryOf k .pairs ∷ entryOf k .bits ∷ [])
+        pub line-head-agrees : listEntry listed k ≡ delivered (level′ ∷ boundary′ ∷ entryOf k .pairs ∷ entryOf k .bits ∷ [])
         line-head-agrees =
             head-agrees l (partsOf k) (entryOf k .level) (entryOf k .boundary) (entryOf k .pairs) (entryOf k .bits) (delivers-entry k h .0)
             done answered list few words w k h refl u same level′ boundary′ bits′ d
 
         -- where it hands back the frame's own record, that of the single call, lookup k has its level, its boundary and its bits.
-        pub line-list-agrees : OwnRecord l (partsOf k) u → looked listed k ≡ delivered (level′ ∷ boundary′ ∷ entryOf k .pairs ∷ bits′ ∷ [])
+        pub line-list-agrees : OwnRecord l (partsOf k) u → listEntry listed k ≡ delivered (level′ ∷ boundary′ ∷ entryOf k .pairs ∷ bits′ ∷ [])
         line-list-agrees =
             list-agrees l (partsOf k) (entryOf k .level) (entryOf k .boundary) (entryOf k .pairs) (entryOf k .bits) (delivers-entry k h .0)
             done answered list few words w k h refl u same level′ boundary′ bits′ d
 
       -- Whenever each code is in its range, the reader delivers, and lookup k has its level, its boundary and its bits.
-      pub line-agrees-in-range : CodesInRange l (entryOf k .level) (entryOf k .boundary) (single l t k .factors) (single l t k .codes) → readerRoom l u ≡ true
-          → (read l u .outcome ≡ delivered (entryOf k .level ∷ entryOf k .boundary ∷ entryOf k .bits ∷ []))
-          × (looked listed k ≡ delivered (entryNumbers (entryOf k)))
+      pub line-agrees-in-range : CodesInRange l (entryOf k .level) (entryOf k .boundary) (single l t k .factors) (single l t k .codes) → readerHasRoom l u
+          ≡ true
+          → (readFrame l u .outcome ≡ delivered (entryOf k .level ∷ entryOf k .boundary ∷ entryOf k .bits ∷ []))
+          × (listEntry listed k ≡ delivered (entryNumbers (entryOf k)))
       line-agrees-in-range =
           list-agrees-in-range l (partsOf k) (entryOf k .level) (entryOf k .boundary) (entryOf k .pairs) (entryOf k .bits) (delivers-entry k h .0)
           done answered list few words w k h refl u same

@@ -35,7 +35,8 @@ module _ (l : Layout) where
 
     pub same-level : r .level < 512 → r′ .level < 512 → r .level ≡ r′ .level
     same-level h h′ =
-        sym (value-back 9 (r .level) h) ∙ ap value (sym (level-bits r) ∙ ap (λ s. take 9 (drop 16 s)) same-payload ∙ level-bits r′) ∙ value-back 9 (r′ .level) h′
+        sym (value-back 9 (r .level) h) ∙ ap value (sym (level-bits r) ∙ ap (λ s. take 9 (drop 16 s)) same-payload ∙ level-bits r′)
+        ∙ value-back 9 (r′ .level) h′
 
     pub same-boundary : r .boundary < 128 → r′ .boundary < 128 → r .boundary ≡ r′ .boundary
     same-boundary h h′ =

@@ -2,7 +2,8 @@
 use mathlib.Core.Path.{_≡_, refl, sym, ap, ap₂, _∙_}
 use mathlib.Core.List.{List, [], _∷_, _++_}
 use Prim.Native.Nat.{ℕ, zero, suc, _+_, _*_, _/_, _%_, _^_, _≤_, _<_}
-use native.Mathlib.Nat.{mod-lt, mod-one, mod-eq-of-lt, one-le-pow, zero-lt-suc, pow-suc, pow-le-pow-right, mul-assoc, mul-comm, add-mul, add-assoc, lt-of-lt-of-le, mul-add-div-right, mul-add-mod-self-right, div-div-eq-div-mul}
+use native.Mathlib.Nat.{mod-lt, mod-one, mod-eq-of-lt, one-le-pow, zero-lt-suc, pow-suc, pow-le-pow-right, mul-assoc, mul-comm, add-mul, add-assoc}
+use native.Mathlib.Nat.{lt-of-lt-of-le, mul-add-div-right, mul-add-mod-self-right, div-div-eq-div-mul}
 use native.Mathlib.Omega.{arith}
 use lib.Arith.{digits-lt, digits-div, mod-mul}
 use lib.ListN.{length, getD, length-append}
@@ -45,7 +46,8 @@ high-above : (k a r : ℕ) → highFirst k (a * 256 ^ k + r) ≡ highFirst k r
 unfolding highFirst
 high-above zero a r = refl
 high-above (suc k) a r =
-    let e : a * 256 ^ suc k + r ≡ a * 256 * 256 ^ k + r = rw (pow-suc 256 k, mul-comm (256 ^ k) 256) (ap (λ (x : ℕ). x + r) (sym (mul-assoc a 256 (256 ^ k)))) in
+    let e : a * 256 ^ suc k + r ≡ a * 256 * 256 ^ k + r =
+    rw (pow-suc 256 k, mul-comm (256 ^ k) 256) (ap (λ (x : ℕ). x + r) (sym (mul-assoc a 256 (256 ^ k)))) in
     let h : (a * 256 * 256 ^ k + r) / 256 ^ k % 256 ≡ r / 256 ^ k % 256 =
     rw (mul-add-div-right (pow-above k) (a * 256) r) (mul-add-mod-self-right a 256 (r / 256 ^ k)) in
     rw e (ap₂ _∷_ h (high-above k (a * 256) r))

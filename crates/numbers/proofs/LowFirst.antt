@@ -40,11 +40,13 @@ module _ (bytes : List ℕ) (at width : ℕ) (inside : at + width ≤ length byt
       let z : width - width ≡ 0 = omega arith in
       (omega arith, low-none (take width (drop at bytes)) width (omega (arith, part-length)), rw z (omega arith))
 
-  pub met-more : (n left b : ℕ) → 0 < left → Met bytes at width n left → b ≡ getD bytes (at + (left - 1)) 0 → b < 256 → Met bytes at width (n * 256 + b) (left - 1)
+  pub met-more : (n left b : ℕ) → 0 < left → Met bytes at width n left → b ≡ getD bytes (at + (left - 1)) 0 → b < 256
+      → Met bytes at width (n * 256 + b) (left - 1)
   met-more n left b h m e g =
       let s : List ℕ = take width (drop at bytes) in
       let z : suc (left - 1) ≡ left = omega arith in
-      let byte : getD s (left - 1) 0 ≡ getD bytes (at + (left - 1)) 0 = getD-take width (drop at bytes) (left - 1) 0 (omega arith) ∙ getD-drop at bytes (left - 1) 0 in (
+      let byte : getD s (left - 1) 0 ≡ getD bytes (at + (left - 1)) 0 = getD-take width (drop at bytes) (left - 1) 0 (omega arith)
+      ∙ getD-drop at bytes (left - 1) 0 in (
         omega arith,
         low-more s (left - 1) n b (omega (arith, part-length)) (m .1 ∙ ap (λ (i : ℕ). ofLow (drop i s)) (sym z)) (e ∙ sym byte),
         low-below left width n b h (m .0) (m .2) g,

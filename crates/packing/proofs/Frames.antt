@@ -15,7 +15,7 @@ use Rattle.bits.proofs.Parts.{bytes-all}
 use Rattle.bits.proofs.Runs.{written-pack}
 use Rattle.crc.specs.Sealed.{body, sealed}
 use Rattle.rules.specs.Format.{eachBits, times}
-use Rattle.rules.specs.Layout.{Sizes, frameSize, kindsOf}
+use Rattle.rules.specs.Layout.{LegalLayout, frameSize, kindsOf}
 use Rattle.rules.specs.Resolution.{allResolutions}
 use Rattle.rules.specs.Record.{Rec, chanOf, codesIn, recOf}
 use Rattle.resolutions.specs.Coded.{codedResolutions}
@@ -28,7 +28,8 @@ regroup : (a b c d : List Bool) → a ++ (b ++ (c ++ d)) ≡ (a ++ (b ++ c)) ++ 
 regroup a b c d = simp append-assoc
 
 -- head, channels and codes, with the resolutions that are lent
-pub fields-packed : (l : Layout) (level boundary : ℕ) (F S : List ℕ) (C : List ℤ) (R : List ℕ) → Sizes l → length F ≡ l .channels * 128 → R ≡ allResolutions l level boundary F →
+pub fields-packed : (l : Layout) (level boundary : ℕ) (F S : List ℕ) (C : List ℤ) (R : List ℕ) → LegalLayout l → length F ≡ l .channels * 128 → R
+    ≡ allResolutions l level boundary F →
     fields l (recOf l level boundary F S C)
     ≡ (bits 16 0xFFFF ++ (bits 9 level ++ bits 7 boundary)) ++ (eachBits (channelFields l) (kindsOf l) (build (chanOf l F S) (l .channels))
     ++ eachBits (λ _. eachBits (eachBits codeBits) (build (codedResolutions l R) (l .channels))) (times 8) (build (λ s. build (codesIn l C s) (l .channels)) 8))
@@ -40,7 +41,7 @@ fields-packed l level boundary F S C R z e h =
     (sym (resolutions-are l level boundary F S z e) ∙ ap (λ rs. build (codedResolutions l rs) (l .channels)) (sym h))
 
 -- a frame and its payload
-module _ (l : Layout) (z : Sizes l) (f : List ℕ) (long : length f ≡ frameSize l) where
+module _ (l : Layout) (z : LegalLayout l) (f : List ℕ) (long : length f ≡ frameSize l) where
   pub part-length : length (take (frameSize l - 2) f) ≡ frameSize l - 2
   part-length = length-take-le (frameSize l - 2) f (omega (arith, long))
 

@@ -5,7 +5,7 @@ ghost use Prim.Native.Nat.{_*_, _≤_};
 ghost use lib.Dec.{ltb};
 ghost use lib.ListN.{length, replicate};
 ghost use Rattle.bits.specs.Place.{Written};
-ghost use Rattle.rules.specs.Layout.{Sizes, frameSize};
+ghost use Rattle.rules.specs.Layout.{LegalLayout, frameSize};
 ghost use Rattle.rules.specs.Record.{recOf};
 ghost use Rattle.rules.specs.Resolution.{allResolutions};
 ghost use Rattle.rules.specs.Fields.{fields};
@@ -32,7 +32,7 @@ fn write_fields(
     rows: &mut [u32],
     bytes: &mut [u8],
 ) -> usize
-    requires { ⌜ Sizes layout ⌝ }
+    requires { ⌜ LegalLayout layout ⌝ }
     requires { ⌜ (level ≤ 511) × (boundary ≤ 127) ⌝ }
     requires { ⌜ (length (now factors) ≡ layout .channels * 128) × (length (now side) ≡ layout .channels * 8)
         × (length (now codes) ≡ layout .channels * 1024) ⌝ }
@@ -75,7 +75,7 @@ fn packed(
     rows: &mut [u32],
     frame: &mut [u8],
 ) -> usize
-    requires { ⌜ Sizes layout ⌝ }
+    requires { ⌜ LegalLayout layout ⌝ }
     requires { ⌜ (level ≤ 511) × (boundary ≤ 127) ⌝ }
     requires { ⌜ (length (now factors) ≡ layout .channels * 128) × (length (now side) ≡ layout .channels * 8)
         × (length (now codes) ≡ layout .channels * 1024) ⌝ }
@@ -116,7 +116,7 @@ pub fn pack_frame(
     resolutions: &[u8],
     frame: &mut [u8],
 ) -> usize
-    requires { ⌜ Sizes layout ⌝ }
+    requires { ⌜ LegalLayout layout ⌝ }
     requires { ⌜ (level ≤ 511) × (boundary ≤ 127) ⌝ }
     requires { ⌜ (length (now factors) ≡ layout .channels * 128) × (length (now side) ≡ layout .channels * 8)
         × (length (now codes) ≡ layout .channels * 1024) ⌝ }

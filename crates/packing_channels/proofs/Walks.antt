@@ -24,9 +24,11 @@ side-blocks w ys n h = rw (front 0 ys n h) (times-blocks w (λ i. getD ys i 0) n
 state-is : (fs : List ℕ) (i : ℕ) → foldl asPrevious none (build (λ j. getD fs j 0) i) ≡ factorBefore i (getD fs (i - 1) 0)
 unfolding build
 state-is fs zero = refl
-state-is fs (suc i) = let e : i ≡ suc i - 1 = omega arith in foldl-snoc asPrevious none (build (λ j. getD fs j 0) i) (getD fs i 0) ∙ ap (λ k. some (getD fs k 0)) e
+state-is fs (suc i) = let e : i ≡ suc i - 1 = omega arith in
+    foldl-snoc asPrevious none (build (λ j. getD fs j 0) i) (getD fs i 0) ∙ ap (λ k. some (getD fs k 0)) e
 
-pub factors-blocks : (w : ℕ) (fs : List ℕ) (n : ℕ) → 1 ≤ w → n ≤ length fs → allFactorBits w n (take n fs) ≡ blocks (λ i. factorBits w (factorBefore i (getD fs (i - 1) 0)) (getD fs i 0)) n
+pub factors-blocks : (w : ℕ) (fs : List ℕ) (n : ℕ) → 1 ≤ w → n ≤ length fs → allFactorBits w n (take n fs)
+    ≡ blocks (λ i. factorBits w (factorBefore i (getD fs (i - 1) 0)) (getD fs i 0)) n
 factors-blocks zero fs n h k = absurd (omega arith)
 factors-blocks (suc w) fs n h k =
     rw (front 0 fs n k, ← build-const (tt {0}) n)

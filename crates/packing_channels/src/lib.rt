@@ -11,7 +11,7 @@ ghost use Rattle.buffers.specs.Walk.{build};
 ghost use Rattle.bits.specs.Bits.{bits};
 ghost use Rattle.emission.specs.Run.{Emits};
 ghost use Rattle.rules.specs.Format.{eachBits, times};
-ghost use Rattle.rules.specs.Layout.{Sizes, kindAt, kindsOf};
+ghost use Rattle.rules.specs.Layout.{LegalLayout, kindAt, kindsOf};
 ghost use Rattle.rules.specs.Width.{width};
 ghost use Rattle.rules.specs.Record.{chanIn, chanOf};
 ghost use Rattle.rules.specs.Fields.{factorBits, allFactorBits, channelFields};
@@ -43,7 +43,8 @@ fn write_factor(run: Run, payload: &mut [u8], factors: &[u8], i: usize, width: u
 
 fn write_factors(run: Run, payload: &mut [u8], factors: &[u8], coded: usize, width: usize) -> Run
     requires { ⌜ (1 ≤ width) × (width ≤ 6) × (run .n ≤ 7) × (run .at < 2 ^ 48) × (length (now factors) ≡ 128) × (coded ≤ 128) ⌝ }
-    ensures { λ r. ⌜ Emits run (now (payload .entry)) (allFactorBits width coded (take coded (now (factors .entry)))) r (now (payload .exit)) × (8 * r .at + r .n ≤ 8 * run .at + run .n + 1408) ⌝ }
+    ensures { λ r. ⌜ Emits run (now (payload .entry)) (allFactorBits width coded (take coded (now (factors .entry)))) r (now (payload .exit))
+        × (8 * r .at + r .n ≤ 8 * run .at + run .n + 1408) ⌝ }
 {
     let mut at = run;
     let mut i = 0;
@@ -59,7 +60,8 @@ fn write_scale_factors(run: Run, payload: &mut [u8], factors: &[u8], coded: usiz
     requires { ⌜ (run .n ≤ 7) × (run .at < 2 ^ 47) × (length (now factors) ≡ 128) × (coded ≤ 128) ⌝ }
     ensures { λ r. ⌜ Emits run (now (payload .entry))
         (bits 3 (width (take coded (now (factors .entry)))) ++ allFactorBits (width (take coded (now (factors .entry)))) coded
-        (take coded (now (factors .entry)))) r (now (payload .exit)) × (8 * r .at + r .n ≤ 8 * run .at + run .n + 1411) ⌝ }
+        (take coded (now (factors .entry)))) r (now (payload .exit))
+        × (8 * r .at + r .n ≤ 8 * run .at + run .n + 1411) ⌝ }
 {
     let best = calculate_optimal_delta_length(factors, coded);
     let width = best.bits;
@@ -94,10 +96,11 @@ fn write_channel(
     factors: &[u8],
     side: &[u8],
 ) -> Run
-    requires { ⌜ Sizes layout ⌝ }
+    requires { ⌜ LegalLayout layout ⌝ }
     requires { ⌜ (run .n ≤ 7) × (run .at < 2 ^ 46) × (channel < 16) × (length (now factors) ≡ 128) × (length (now side) ≡ 8) ⌝ }
     ensures { λ r. ⌜ Emits run (now (payload .entry))
-        (channelFields layout (kindAt layout channel) (chanIn layout channel (now (factors .entry)) (now (side .entry)))) r (now (payload .exit)) × (8 * r .at + r .n ≤ 8 * run .at + run .n + 1459) ⌝ }
+        (channelFields layout (kindAt layout channel) (chanIn layout channel (now (factors .entry)) (now (side .entry)))) r (now (payload .exit))
+        × (8 * r .at + r .n ≤ 8 * run .at + run .n + 1459) ⌝ }
 {
     let coded = coded_count(layout, channel);
     let next = write_scale_factors(run, payload, factors, coded);
@@ -113,7 +116,7 @@ pub fn write_channels(
     factors: &[u8],
     side: &[u8],
 ) -> Run
-    requires { ⌜ Sizes layout ⌝ }
+    requires { ⌜ LegalLayout layout ⌝ }
     requires { ⌜ (run .n ≤ 7) × (run .at < 2 ^ 45) × (length (now factors) ≡ layout .channels * 128) × (length (now side) ≡ layout .channels * 8) ⌝ }
     ensures { λ r. ⌜ Emits run (now (payload .entry))
         (eachBits (channelFields layout) (kindsOf layout) (build (chanOf layout (now (factors .entry)) (now (side .entry))) (layout .channels)))

@@ -41,7 +41,8 @@ unfolding spectrumValue build wordOf rules
 table-words = refl
 
 abbrev fits : (r k : ℕ) → Bool
-fits r k = leb (lengthOf (ruleOf r) (ordinal (codeOfPlace k))) 12 && ltb (wordOf (ruleOf r) (ordinal (codeOfPlace k))) (2 ^ lengthOf (ruleOf r) (ordinal (codeOfPlace k)))
+fits r k = leb (lengthOf (ruleOf r) (ordinal (codeOfPlace k))) 12 && ltb (wordOf (ruleOf r) (ordinal (codeOfPlace k)))
+    (2 ^ lengthOf (ruleOf r) (ordinal (codeOfPlace k)))
 
 table-fits : every (λ r. every (fits r) 16) 8 ≡ true
 unfolding every wordOf lengthOf rules
@@ -60,7 +61,8 @@ module _ (r k : ℕ) (hr : r < 8) (hk : k < 16) where
       ∙ ap (λ t. getD t k 0) (build-at (λ r. build (λ k. wordOf (ruleOf r) (ordinal (codeOfPlace k))) 16) 8 r [] hr)
       ∙ build-at (λ k. wordOf (ruleOf r) (ordinal (codeOfPlace k))) 16 k 0 hk
 
-  row-fits : (lengthOf (ruleOf r) (ordinal (codeOfPlace k)) ≤ 12) × (wordOf (ruleOf r) (ordinal (codeOfPlace k)) < 2 ^ lengthOf (ruleOf r) (ordinal (codeOfPlace k)))
+  row-fits : (lengthOf (ruleOf r) (ordinal (codeOfPlace k)) ≤ 12)
+      × (wordOf (ruleOf r) (ordinal (codeOfPlace k)) < 2 ^ lengthOf (ruleOf r) (ordinal (codeOfPlace k)))
   row-fits =
       let l : ℕ = lengthOf (ruleOf r) (ordinal (codeOfPlace k)) in
       let w : ℕ = wordOf (ruleOf r) (ordinal (codeOfPlace k)) in
@@ -102,7 +104,8 @@ small-field r z hr h =
 small-fits : (r : ℕ) (z : ℤ) → r < 8 → Small z → (lengthOf (ruleOf r) (ordinal z) ≤ 12) × (wordOf (ruleOf r) (ordinal z) < 2 ^ lengthOf (ruleOf r) (ordinal z))
 small-fits r z hr h =
     let b = place-back z h in
-    subst (λ y. (lengthOf (ruleOf r) (ordinal y) ≤ 12) × (wordOf (ruleOf r) (ordinal y) < 2 ^ lengthOf (ruleOf r) (ordinal y))) (b .1) (row-fits r (codePlace z) hr (b .0))
+    subst (λ y. (lengthOf (ruleOf r) (ordinal y) ≤ 12) × (wordOf (ruleOf r) (ordinal y) < 2 ^ lengthOf (ruleOf r) (ordinal y))) (b .1)
+    (row-fits r (codePlace z) hr (b .0))
 
 -- ---- a rule's field, by where the number stands
 
@@ -143,7 +146,8 @@ module _ (m p : ℕ) (hm : m ≤ 11) (e : p ≡ 17 + m + 256 * (2 * 2 ^ m - 1)) 
   parts = (omega arith, omega arith, omega arith)
 
   large-field : (z : ℤ) → natAbs z ≤ 2 ^ m - 1
-      → (bits m (natAbs z) ++ signBits z ≡ bits (lengthOf p (ordinal z)) (wordOf p (ordinal z))) × (lengthOf p (ordinal z) ≤ 12) × (wordOf p (ordinal z) < 2 ^ lengthOf p (ordinal z))
+      → (bits m (natAbs z) ++ signBits z ≡ bits (lengthOf p (ordinal z)) (wordOf p (ordinal z))) × (lengthOf p (ordinal z) ≤ 12)
+      × (wordOf p (ordinal z) < 2 ^ lengthOf p (ordinal z))
   large-field (pos zero) h =
       let q = parts in
       let k = pow-pos m in
@@ -199,7 +203,8 @@ field-is r z hr g =
     (λ n. code-small r z (λ e. omega arith) l ∙ small-field r z l (g .small l)))
     (λ l. large r z hr l g .0)
 
-pub field-fits : (r : ℕ) (z : ℤ) → r ≤ 15 → Ranged r z → (lengthOf (ruleOf r) (ordinal z) ≤ 12) × (wordOf (ruleOf r) (ordinal z) < 2 ^ lengthOf (ruleOf r) (ordinal z))
+pub field-fits : (r : ℕ) (z : ℤ) → r ≤ 15 → Ranged r z → (lengthOf (ruleOf r) (ordinal z) ≤ 12)
+    × (wordOf (ruleOf r) (ordinal z) < 2 ^ lengthOf (ruleOf r) (ordinal z))
 field-fits r z hr g = by-order r 8 (λ l. small-fits r z l (g .small l)) (λ l. (large r z hr l g .1, large r z hr l g .2))
 
 -- ---- what the code needs of a rule and a code within its range
@@ -211,7 +216,8 @@ table-starts = refl
 pub ruled-starts : {p : ℕ} {z : ℤ} → Ruled p z → 1 ≤ p / 16 % 16 → 1 ≤ p % 16
 ruled-starts {p} w h =
     let r : ℕ = w .resolution in
-    let e : leb (ruleOf r / 16 % 16) (15 * (ruleOf r % 16)) ≡ true = every-at (λ r. leb (ruleOf r / 16 % 16) (15 * (ruleOf r % 16))) 16 r table-starts (omega (arith, w .known)) in
+    let e : leb (ruleOf r / 16 % 16) (15 * (ruleOf r % 16))
+    ≡ true = every-at (λ r. leb (ruleOf r / 16 % 16) (15 * (ruleOf r % 16))) 16 r table-starts (omega (arith, w .known)) in
     let l : p / 16 % 16 ≤ 15 * (p % 16) = rw (w .same) (leb-true (ruleOf r / 16 % 16) (15 * (ruleOf r % 16)) e) in
     omega arith
 

@@ -17,7 +17,7 @@ use Rattle.buffers.proofs.Build.{length-build, build-at}
 use Rattle.buffers.proofs.Every.{every-at}
 use Rattle.buffers.proofs.Tests.{and-fst, and-snd, cond-both}
 use Rattle.rules.specs.Signed.{heldZ}
-use Rattle.rules.specs.Layout.{codedAt, sidesAt, sideWidth, kindAt, part}
+use Rattle.rules.specs.Layout.{codedCountAt, sideCountAt, sideWidth, kindAt, part}
 use Rattle.rules.specs.Resolution.{allResolutions}
 use Rattle.rules.specs.Code.{codeLimit, rawCode, codeOf, recordedCode, codeAt, subframeCodes, channelCodes, allCodes}
 use Rattle.rules.specs.Record.{codeRange, legalHead, legalRow, legalSubframe, legalCodes, legalChannel, legalChannels, legalRecord, legalBand}
@@ -35,7 +35,8 @@ held-small (negsuc k) = cond-both Small (ltb 7 k) (λ _. omega arith) (λ e. ltb
 
 held-large : (n : ℕ) (z : ℤ) → natAbs (heldZ (negℤ (pos n)) (pos n) z) ≤ n
 unfolding heldZ
-held-large n z = cond-both (λ y. natAbs y ≤ n) (ltZ z (negℤ (pos n))) (λ _. low n) (λ a. cond-both (λ y. natAbs y ≤ n) (ltZ (pos n) z) (λ _. omega arith) (λ b. inside n z a b))
+held-large n z = cond-both (λ y. natAbs y ≤ n) (ltZ z (negℤ (pos n))) (λ _. low n)
+    (λ a. cond-both (λ y. natAbs y ≤ n) (ltZ (pos n) z) (λ _. omega arith) (λ b. inside n z a b))
   where
     low : (n : ℕ) → natAbs (negℤ (pos n)) ≤ n
     low zero = omega arith
@@ -82,12 +83,17 @@ module _ (l : Layout) (rs : List ℕ) (scaled : List Float) where
   pub made-ranged : AllRanged l rs (allCodes l rs scaled)
   unfolding allCodes channelCodes subframeCodes codeAt
   made-ranged c s b hc hs hb =
-      rw (block-part codesOf 1024 (l .channels) c codes-size hc, block-part (subframeCodes (part 128 rs c) (part 1024 scaled c)) 128 8 s (λ j _. length-build _ 128) hs, build-at (codeAt (part 128 rs c) (part 1024 scaled c) s) 128 b (pos 0) hb)
+      rw (
+        block-part codesOf 1024 (l .channels) c codes-size hc,
+        block-part (subframeCodes (part 128 rs c) (part 1024 scaled c)) 128 8 s
+            (λ j _. length-build _ 128) hs,
+        build-at (codeAt (part 128 rs c) (part 1024 scaled c) s) 128 b (pos 0) hb,
+      )
       (ranged-recorded (getD (part 128 rs c) b 0) _)
 
 module _ (l : Layout) (level boundary : ℕ) (F : List ℕ) where
   pub made-blank : Blank l (allResolutions l level boundary F)
-  made-blank c b hc h hb = rw (resolutions-part l level boundary F c hc) (blank-band level boundary (part 128 F c) (codedAt l c) b hb h)
+  made-blank c b hc h hb = rw (resolutions-part l level boundary F c hc) (blank-band level boundary (part 128 F c) (codedCountAt l c) b hb h)
 
   pub legal-ranged : (S : List ℕ) (C : List ℤ) → legalRecord l level boundary F S C ≡ true → AllRanged l (allResolutions l level boundary F) C
   unfolding legalRecord legalChannels legalChannel legalCodes legalSubframe
@@ -97,8 +103,8 @@ module _ (l : Layout) (level boundary : ℕ) (F : List ℕ) where
       let all = and-snd (legalHead level boundary) (legalChannels l F S C (allResolutions l level boundary F)) e in
       let one : legalChannel l c (part 128 F c) (part 8 S c) cs rs ≡ true =
       every-at (λ c. legalChannel l c (part 128 F c) (part 8 S c) (part 1024 C c) (part 128 (allResolutions l level boundary F) c)) (l .channels) c all hc in
-      let row : Bool = legalRow (codedAt l c) 64 128 (part 128 F c) in
-      let sides : Bool = legalRow (sidesAt l c) (2 ^ sideWidth (kindAt l c)) 8 (part 8 S c) in
+      let row : Bool = legalRow (codedCountAt l c) 64 128 (part 128 F c) in
+      let sides : Bool = legalRow (sideCountAt l c) (2 ^ sideWidth (kindAt l c)) 8 (part 8 S c) in
       let codes : legalCodes rs cs ≡ true = and-snd sides (legalCodes rs cs) (and-snd row (sides && legalCodes rs cs) one) in
       let sub : legalSubframe rs (part 128 cs s) ≡ true = every-at (λ s. legalSubframe rs (part 128 cs s)) 8 s codes hs in
       ranged-legal (getD rs b 0) (getD (part 128 cs s) b (pos 0)) (leb-true _ _ (every-at (legalBand rs (part 128 cs s)) 128 b sub hb))

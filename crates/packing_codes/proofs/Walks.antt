@@ -13,7 +13,7 @@ use Rattle.buffers.proofs.Build.{length-build, build-at}
 use Rattle.emission.specs.Run.{fieldBits, AllFit}
 use Rattle.emission.proofs.Loops.{fields-blocks}
 use Rattle.rules.specs.Format.{eachBits, times}
-use Rattle.rules.specs.Layout.{Sizes, codedAt, part}
+use Rattle.rules.specs.Layout.{LegalLayout, codedCountAt, part}
 use Rattle.rules.specs.Record.{codesIn}
 use Rattle.rules.specs.Fields.{codeBits}
 use Rattle.rules.specs.declared.Layout.{Layout}
@@ -21,7 +21,8 @@ use Rattle.rules.proofs.Cuts.{length-part, blocks-same}
 use Rattle.rules.proofs.Layouts.{coded-few}
 use Rattle.rules_formats.proofs.Written.{front-blocks, each-blocks, times-blocks}
 use Rattle.resolutions.specs.Coded.{codedResolutions}
-use Rattle.packing_codes.specs.Columns.{ordinal, ruleOf, lengthOf, wordOf, ruleBits, lengthAt, wordAt, Ruled, AllRuled, padded, paddedRows, paddedCodes, RowsRuled, Blank, AllRanged}
+use Rattle.packing_codes.specs.Columns.{ordinal, ruleOf, lengthOf, wordOf, ruleBits, lengthAt, wordAt, Ruled, AllRuled, padded, paddedRows, paddedCodes}
+use Rattle.packing_codes.specs.Columns.{RowsRuled, Blank, AllRanged}
 use Rattle.packing_codes.proofs.Columns.{field-is, ruled-fits}
 
 -- ---- a subframe's columns
@@ -62,7 +63,7 @@ blocks-short f n (suc k) h =
 part-at : {A : Type 0} (d : A) (k : ℕ) (xs : List A) (c b : ℕ) → b < k → getD (part k xs c) b d ≡ getD xs (c * k + b) d
 part-at d k xs c b h = getD-take k (drop (c * k) xs) b d h ∙ getD-drop (c * k) xs b d
 
-module _ (l : Layout) (R : List ℕ) (C : List ℤ) {rows : List ℕ} (z : Sizes l) (long : length R ≡ l .channels * 128) (many : length C ≡ l .channels * 1024)
+module _ (l : Layout) (R : List ℕ) (C : List ℤ) {rows : List ℕ} (z : LegalLayout l) (long : length R ≡ l .channels * 128) (many : length C ≡ l .channels * 1024)
     (most : AtMost 15 R) (blank : Blank l R) (ranged : AllRanged l R C) (e : rows ≡ build (λ i. ruleOf (getD R i 0)) (length R)) where
   rule-at : (c b : ℕ) → c < l .channels → b < 128 → getD (part 128 rows c) b 0 ≡ ruleOf (getD (part 128 R c) b 0)
   rule-at c b hc hb =
@@ -86,18 +87,19 @@ module _ (l : Layout) (R : List ℕ) (C : List ℤ) {rows : List ℕ} (z : Sizes
 
   -- a channel's codes in a subframe
   module _ (c s : ℕ) (hc : c < l .channels) (hs : s < 8) where
-    code-at : (b : ℕ) → b < 128 → ruleBits (getD (part 128 rows c) b 0) (getD (part 128 (part 1024 C c) s) b (pos 0)) ≡ codeBits (getD (part 128 R c) b 0) (getD (part 128 (part 1024 C c) s) b (pos 0))
+    code-at : (b : ℕ) → b < 128 → ruleBits (getD (part 128 rows c) b 0) (getD (part 128 (part 1024 C c) s) b (pos 0))
+        ≡ codeBits (getD (part 128 R c) b 0) (getD (part 128 (part 1024 C c) s) b (pos 0))
     code-at b hb =
         ap (λ p. ruleBits p (getD (part 128 (part 1024 C c) s) b (pos 0))) (rule-at c b hc hb)
         ∙ sym (field-is (getD (part 128 R c) b 0) (getD (part 128 (part 1024 C c) s) b (pos 0)) (resolution-most c b hb) (ranged c s b hc hs hb))
 
-    code-blank : (b : ℕ) → codedAt l c ≤ b → b < 128 → codeBits (getD (part 128 R c) b 0) (getD (part 128 (part 1024 C c) s) b (pos 0)) ≡ []
+    code-blank : (b : ℕ) → codedCountAt l c ≤ b → b < 128 → codeBits (getD (part 128 R c) b 0) (getD (part 128 (part 1024 C c) s) b (pos 0)) ≡ []
     unfolding codeBits
     code-blank b h hb = rw (blank c b hc h hb)
 
     channel-bits : eachBits ruleBits (paddedRows l rows c) (paddedCodes l C s c) ≡ eachBits codeBits (codedResolutions l R c) (codesIn l C s c)
     channel-bits =
-        let n : ℕ = codedAt l c in
+        let n : ℕ = codedCountAt l c in
         let few : n ≤ 128 = coded-few l z c in
         let lr : length (part 128 rows c) ≡ 128 = length-part 128 (l .channels) c rows (omega (arith, rows-long)) hc in
         let lR : length (part 128 R c) ≡ 128 = length-part 128 (l .channels) c R (omega arith) hc in
@@ -117,5 +119,6 @@ module _ (l : Layout) (R : List ℕ) (C : List ℤ) {rows : List ℕ} (z : Sizes
       ≡ eachBits (eachBits codeBits) (build (codedResolutions l R) (l .channels)) (build (codesIn l C s) (l .channels))
   subframe-bits s hs =
       each-blocks (eachBits ruleBits) (paddedRows l rows) (paddedCodes l C s) (l .channels)
-      ∙ blocks-same (λ c. eachBits ruleBits (paddedRows l rows c) (paddedCodes l C s c)) (λ c. eachBits codeBits (codedResolutions l R c) (codesIn l C s c)) (l .channels) (λ c hc. channel-bits c s hc hs)
+      ∙ blocks-same (λ c. eachBits ruleBits (paddedRows l rows c) (paddedCodes l C s c)) (λ c. eachBits codeBits (codedResolutions l R c) (codesIn l C s c))
+      (l .channels) (λ c hc. channel-bits c s hc hs)
       ∙ sym (each-blocks (eachBits codeBits) (codedResolutions l R) (codesIn l C s) (l .channels))

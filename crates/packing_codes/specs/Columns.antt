@@ -9,7 +9,7 @@ use lib.IntN.{ℤ, pos, negsuc, natAbs}
 use lib.ListN.{getD, take}
 use Rattle.bits.specs.Bits.{bits}
 use Rattle.rules.specs.Code.{codeLimit}
-use Rattle.rules.specs.Layout.{codedAt, part}
+use Rattle.rules.specs.Layout.{codedCountAt, part}
 use Rattle.rules.specs.declared.Layout.{Layout}
 
 -- a code's number
@@ -25,17 +25,17 @@ rules =
     7957 ∷ 16150 ∷ 32535 ∷ 65304 ∷ 130841 ∷ 261914 ∷ 524059 ∷ 1048348 ∷ []
 
 abbrev pub ruleOf : (resolution : ℕ) → ℕ
-ruleOf r = getD rules r 0
+ruleOf resolution = getD rules resolution 0
 
 -- the field of number o by a rule
 unfoldable pub lengthOf : (rule number : ℕ) → ℕ
-lengthOf p o = cond (ltb o (p / 256)) (cond (ltb o (p / 16 % 16)) (p % 16 - 1) (p % 16)) 0
+lengthOf rule number = cond (ltb number (rule / 256)) (cond (ltb number (rule / 16 % 16)) (rule % 16 - 1) (rule % 16)) 0
 
 unfoldable pub wordOf : (rule number : ℕ) → ℕ
-wordOf p o = cond (ltb o (p / 256)) (cond (ltb o (p / 16 % 16)) o (o + p / 16 % 16)) 0
+wordOf rule number = cond (ltb number (rule / 256)) (cond (ltb number (rule / 16 % 16)) number (number + rule / 16 % 16)) 0
 
 unfoldable pub ruleBits : (rule : ℕ) (code : ℤ) → List Bool
-ruleBits p z = bits (lengthOf p (ordinal z)) (wordOf p (ordinal z))
+ruleBits rule code = bits (lengthOf rule (ordinal code)) (wordOf rule (ordinal code))
 
 -- -8..7
 abbrev pub Small : (code : ℤ) → Type 0
@@ -57,10 +57,10 @@ pub record Ruled (rule : ℕ) (code : ℤ) : Type 0 where
 -- ---- columns
 
 abbrev pub lengthAt : (rows : List ℕ) (codes : List ℤ) (band : ℕ) → ℕ
-lengthAt rows codes b = lengthOf (getD rows b 0) (ordinal (getD codes b (pos 0)))
+lengthAt rows codes band = lengthOf (getD rows band 0) (ordinal (getD codes band (pos 0)))
 
 abbrev pub wordAt : (rows : List ℕ) (codes : List ℤ) (band : ℕ) → ℕ
-wordAt rows codes b = wordOf (getD rows b 0) (ordinal (getD codes b (pos 0)))
+wordAt rows codes band = wordOf (getD rows band 0) (ordinal (getD codes band (pos 0)))
 
 -- of the first n bands of a subframe
 abbrev pub AllRuled : (n : ℕ) (rows : List ℕ) (codes : List ℤ) → Type 0
@@ -70,22 +70,22 @@ AllRuled n rows codes = (b : ℕ) → b < n → Ruled (getD rows b 0) (getD code
 
 -- the coded bands, up to a multiple of eight
 abbrev pub padded : (l : Layout) (channel : ℕ) → ℕ
-padded l c = (codedAt l c + 7) / 8 * 8
+padded l channel = (codedCountAt l channel + 7) / 8 * 8
 
 abbrev pub paddedRows : (l : Layout) (rows : List ℕ) (channel : ℕ) → List ℕ
-paddedRows l rows c = take (padded l c) (part 128 rows c)
+paddedRows l rows channel = take (padded l channel) (part 128 rows channel)
 
 abbrev pub paddedCodes : (l : Layout) (codes : List ℤ) (subframe channel : ℕ) → List ℤ
-paddedCodes l codes s c = take (padded l c) (part 128 (part 1024 codes c) s)
+paddedCodes l codes subframe channel = take (padded l channel) (part 128 (part 1024 codes channel) subframe)
 
 abbrev pub RowsRuled : (l : Layout) (rows : List ℕ) (codes : List ℤ) → Type 0
 RowsRuled l rows codes = (c s : ℕ) → c < l .channels → s < 8 → AllRuled 128 (part 128 rows c) (part 128 (part 1024 codes c) s)
 
 -- past the coded count the resolutions are 0
 abbrev pub Blank : (l : Layout) (resolutions : List ℕ) → Type 0
-Blank l rs = (c b : ℕ) → c < l .channels → codedAt l c ≤ b → b < 128 → getD (part 128 rs c) b 0 ≡ 0
+Blank l resolutions = (c b : ℕ) → c < l .channels → codedCountAt l c ≤ b → b < 128 → getD (part 128 resolutions c) b 0 ≡ 0
 
 -- THE PREMISE: each code within its resolution's range
 abbrev pub AllRanged : (l : Layout) (resolutions : List ℕ) (codes : List ℤ) → Type 0
-AllRanged l rs codes =
-    (c s b : ℕ) → c < l .channels → s < 8 → b < 128 → Ranged (getD (part 128 rs c) b 0) (getD (part 128 (part 1024 codes c) s) b (pos 0))
+AllRanged l resolutions codes =
+    (c s b : ℕ) → c < l .channels → s < 8 → b < 128 → Ranged (getD (part 128 resolutions c) b 0) (getD (part 128 (part 1024 codes c) s) b (pos 0))

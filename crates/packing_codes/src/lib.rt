@@ -7,7 +7,7 @@ ghost use lib.ListN.{length, getD, take, drop};
 ghost use Rattle.buffers.specs.Walk.{build, AtMost};
 ghost use Rattle.emission.specs.Run.{Emits};
 ghost use Rattle.rules.specs.Format.{eachBits, times};
-ghost use Rattle.rules.specs.Layout.{Sizes};
+ghost use Rattle.rules.specs.Layout.{LegalLayout};
 ghost use Rattle.rules.specs.Record.{codesIn};
 ghost use Rattle.rules.specs.Fields.{codeBits};
 ghost use Rattle.resolutions.specs.Coded.{codedResolutions};
@@ -113,7 +113,7 @@ fn fields_of(rows: &[u32], codes: &[i32], n: usize, words: &mut [u32], lengths: 
 }
 
 // The codes of one subframe of one channel.
-fn write_spectra(
+fn write_band_codes(
     run: Run,
     payload: &mut [u8],
     rows: &[u32],
@@ -143,7 +143,7 @@ fn write_subframe(
     words: &mut [u32],
     lengths: &mut [u32],
 ) -> Run
-    requires { ⌜ Sizes layout ⌝ }
+    requires { ⌜ LegalLayout layout ⌝ }
     requires { ⌜ (run .n ≤ 7) × (run .at < 2 ^ 47) × (subframe < 8) × (length (now rows) ≡ layout .channels * 128)
         × (length (now codes) ≡ layout .channels * 1024) × (128 ≤ length (now words)) × (128 ≤ length (now lengths)) ⌝ }
     requires { ⌜ RowsRuled layout (now rows) (now codes) ⌝ }
@@ -159,7 +159,7 @@ fn write_subframe(
         let coded = (coded_count(layout, c) + 7) / 8 * 8;
         let r = c * 128;
         let s = c * 1024 + subframe * 128;
-        at = write_spectra(
+        at = write_band_codes(
             at,
             payload,
             &rows[r..r + 128],
@@ -184,7 +184,7 @@ pub fn write_codes(
     words: &mut [u32],
     lengths: &mut [u32],
 ) -> Run
-    requires { ⌜ Sizes layout ⌝ }
+    requires { ⌜ LegalLayout layout ⌝ }
     requires { ⌜ (run .n ≤ 7) × (run .at < 2 ^ 46) × (length (now resolutions) ≡ layout .channels * 128) × (length (now codes) ≡ layout .channels * 1024)
         × (length (now rows) ≡ layout .channels * 128) × (128 ≤ length (now words)) × (128 ≤ length (now lengths)) ⌝ }
     requires { ⌜ AtMost 15 (now resolutions) × Blank layout (now resolutions) × AllRanged layout (now resolutions) (now codes) ⌝ }

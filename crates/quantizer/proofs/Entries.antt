@@ -16,7 +16,7 @@ use Rattle.buffers.proofs.Build.{build-at}
 use Rattle.buffers.proofs.Every.{every-at}
 use Rattle.rules.specs.Tables.{stepTable, maxBitTable, spectrumBits}
 use Rattle.rules.specs.Code.{stepOf, stepShift, magnitudeBits, codeLimit}
-use Rattle.quantizer.specs.Packed.{entryOf}
+use Rattle.quantizer.specs.SixteenInOne.{entryOf}
 
 -- two functions that give the same list
 pub build-agrees : {A : Type 0} (f g : ℕ → A) (n : ℕ) → build f n ≡ build g n → (i : ℕ) → i < n → f i ≡ g i
@@ -77,7 +77,8 @@ shift-low r h = build-agrees (λ (i : ℕ). pos (i + 1)) stepShift 8 refl r h
 pub shift-high : (r : ℕ) → 8 ≤ r → r ≤ 15 → pos (2 ^ (r - 4)) ≡ stepShift r
 unfolding build stepShift stepOf stepTable ofBits toSigned add
 shift-high r l h =
-    let z : cond (ltb r 8) (stepShift r) (pos (2 ^ (r - 4))) ≡ stepShift r = build-agrees (λ (i : ℕ). cond (ltb i 8) (stepShift i) (pos (2 ^ (i - 4)))) stepShift 16 refl r (omega arith) in
+    let z : cond (ltb r 8) (stepShift r) (pos (2 ^ (r - 4)))
+    ≡ stepShift r = build-agrees (λ (i : ℕ). cond (ltb i 8) (stepShift i) (pos (2 ^ (i - 4)))) stepShift 16 refl r (omega arith) in
     rw (le-ltb r 8 l) at z
 
 pub shift-nat : (r : ℕ) → r ≤ 15 → (stepShift r ≡ pos (natAbs (stepShift r))) × (natAbs (stepShift r) ≤ 2048)

@@ -97,8 +97,10 @@ bitsAt r w = getD (getD spectrumBits r []) (min (7 - r + w) 15) 0
 low-silent : (r p : ℕ) → r < 8 → p ≤ 7 - r → getD (getD spectrumBits r []) p 0 ≡ 0
 unfolding build spectrumBits
 low-silent r p h l =
-    let z = build-agrees (λ (i : ℕ). build (λ (n : ℕ). cond (leb n (7 - i)) (getD (getD spectrumBits i []) n 0) 0) 8) (λ (i : ℕ). build (λ (n : ℕ). 0) 8) 8 refl r h in
-    let y : cond (leb p (7 - r)) (getD (getD spectrumBits r []) p 0) 0 ≡ 0 = build-agrees (λ (n : ℕ). cond (leb n (7 - r)) (getD (getD spectrumBits r []) n 0) 0) (λ (n : ℕ). 0) 8 z p (omega arith) in
+    let z = build-agrees (λ (i : ℕ). build (λ (n : ℕ). cond (leb n (7 - i)) (getD (getD spectrumBits i []) n 0) 0) 8) (λ (i : ℕ). build (λ (n : ℕ). 0) 8) 8 refl
+    r h in
+    let y : cond (leb p (7 - r)) (getD (getD spectrumBits r []) p 0) 0
+    ≡ 0 = build-agrees (λ (n : ℕ). cond (leb n (7 - r)) (getD (getD spectrumBits r []) n 0) 0) (λ (n : ℕ). 0) 8 z p (omega arith) in
     rw (le-leb p (7 - r) l) at y
 
 bits-whole : (r : ℕ) (z : ℤ) → r < 8 → getD (getD spectrumBits r []) (codePlace (z -ℤ stepShift r)) 0 ≡ bitsAt r (wholeN z)
@@ -121,7 +123,8 @@ bitsTakenOff r w = bitsAt r w + (cond (leb (nearAt r) w) 1 0 + cond (leb (pastAt
 small-parts : (r w : ℕ) → r < 8 → w ≤ 16 → bitsAdded r w ≡ bitsTakenOff r w
 unfolding build bitsAdded bitsTakenOff bitsAt nearAt farAt pastAt highAt dropAt spectrumBits
 small-parts r w h l =
-    build-agrees (bitsAdded r) (bitsTakenOff r) 17 (build-agrees (λ (i : ℕ). build (bitsAdded i) 17) (λ (i : ℕ). build (bitsTakenOff i) 17) 8 refl r h) w (omega arith)
+    build-agrees (bitsAdded r) (bitsTakenOff r) 17 (build-agrees (λ (i : ℕ). build (bitsAdded i) 17) (λ (i : ℕ). build (bitsTakenOff i) 17) 8 refl r h) w
+    (omega arith)
 
 -- the marks are from 1 to 16, so that no larger whole part differs from 16
 marks-in : (r : ℕ) → r < 8 → (1 ≤ nearAt r) × (nearAt r ≤ 16) × (1 ≤ farAt r) × (farAt r ≤ 16) × (1 ≤ pastAt r) × (pastAt r ≤ 16)
@@ -148,16 +151,25 @@ same-parts r w h =
     let m = marks-in r h in
     let l : min w 16 ≤ 16 = omega arith in
     let p : min (7 - r + w) 15 ≡ min (7 - r + min w 16) 15 = omega arith in
-    rw (capped 1 w (omega arith), capped (farAt r) w (omega arith), capped (nearAt r) w (omega arith), capped (pastAt r) w (omega arith), p) (small-parts r (min w 16) h l)
+    rw (capped 1 w (omega arith), capped (farAt r) w (omega arith), capped (nearAt r) w (omega arith), capped (pastAt r) w (omega arith), p)
+    (small-parts r (min w 16) h l)
 
 -- a value at resolution r below 8: what reaching 1 and far adds, near and past take off again
 counted : (r : ℕ) (y : Float) → r < 8
     → cond (le (wholeF 1) y) (highAt r) 0 + cond (le (wholeF (farAt r)) y) 1 0
-    ≡ getD (getD spectrumBits r []) (codePlace (toSigned 31 y -ℤ stepShift r)) 0 + (cond (le (wholeF (nearAt r)) y) 1 0 + cond (le (wholeF (pastAt r)) y) (dropAt r) 0)
+    ≡ getD (getD spectrumBits r []) (codePlace (toSigned 31 y -ℤ stepShift r)) 0
+    + (cond (le (wholeF (nearAt r)) y) 1 0 + cond (le (wholeF (pastAt r)) y) (dropAt r) 0)
 unfolding bitsAdded bitsTakenOff
 counted r y h =
     let m = marks-in r h in
-    rw (reaches-whole 1 y (omega arith) (omega arith), reaches-whole (farAt r) y (omega arith) (omega arith), reaches-whole (nearAt r) y (omega arith) (omega arith), reaches-whole (pastAt r) y (omega arith) (omega arith), bits-whole r (toSigned 31 y) h)
+    rw (
+      reaches-whole 1 y (omega arith) (omega arith),
+      reaches-whole (farAt r) y (omega arith) (omega arith),
+      reaches-whole (nearAt r) y (omega arith)
+          (omega arith),
+      reaches-whole (pastAt r) y (omega arith) (omega arith),
+      bits-whole r (toSigned 31 y) h,
+    )
     (same-parts r (wholeN (toSigned 31 y)) h)
 
 -- the same by a resolution's marks

@@ -12,22 +12,23 @@ abbrev pub wholeF : (k : ℕ) → Float
 wholeF k = ofInt binary32 (pos k)
 
 unfoldable pub nearAt : (resolution : ℕ) → ℕ
-nearAt r = getD (1 ∷ 2 ∷ 2 ∷ 4 ∷ 2 ∷ 4 ∷ 6 ∷ 8 ∷ []) r 0
+nearAt resolution = getD (1 ∷ 2 ∷ 2 ∷ 4 ∷ 2 ∷ 4 ∷ 6 ∷ 8 ∷ []) resolution 0
 
 unfoldable pub farAt : (resolution : ℕ) → ℕ
-farAt r = getD (1 ∷ 3 ∷ 5 ∷ 5 ∷ 9 ∷ 9 ∷ 9 ∷ 9 ∷ []) r 0
+farAt resolution = getD (1 ∷ 3 ∷ 5 ∷ 5 ∷ 9 ∷ 9 ∷ 9 ∷ 9 ∷ []) resolution 0
 
 unfoldable pub pastAt : (resolution : ℕ) → ℕ
-pastAt r = getD (1 ∷ 4 ∷ 6 ∷ 8 ∷ 10 ∷ 12 ∷ 14 ∷ 16 ∷ []) r 0
+pastAt resolution = getD (1 ∷ 4 ∷ 6 ∷ 8 ∷ 10 ∷ 12 ∷ 14 ∷ 16 ∷ []) resolution 0
 
 unfoldable pub highAt : (resolution : ℕ) → ℕ
-highAt r = getD (0 ∷ 2 ∷ 3 ∷ 3 ∷ 4 ∷ 4 ∷ 4 ∷ 4 ∷ []) r 0
+highAt resolution = getD (0 ∷ 2 ∷ 3 ∷ 3 ∷ 4 ∷ 4 ∷ 4 ∷ 4 ∷ []) resolution 0
 
 unfoldable pub dropAt : (resolution : ℕ) → ℕ
-dropAt r = getD (0 ∷ 2 ∷ 3 ∷ 3 ∷ 4 ∷ 4 ∷ 4 ∷ 0 ∷ []) r 0
+dropAt resolution = getD (0 ∷ 2 ∷ 3 ∷ 3 ∷ 4 ∷ 4 ∷ 4 ∷ 0 ∷ []) resolution 0
 
 abbrev pub marksOf : (step near far past : Float) (high drop : ℕ) → Marks
 marksOf step near far past high drop = record { step = step; near = near; far = far; past = past; high = high; drop = drop }
 
 unfoldable pub marksAt : (resolution : ℕ) → Marks
-marksAt r = marksOf (stepOf r) (wholeF (nearAt r)) (wholeF (farAt r)) (wholeF (pastAt r)) (highAt r) (dropAt r)
+marksAt resolution = marksOf (stepOf resolution) (wholeF (nearAt resolution)) (wholeF (farAt resolution)) (wholeF (pastAt resolution)) (highAt resolution)
+    (dropAt resolution)

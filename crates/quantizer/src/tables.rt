@@ -7,7 +7,7 @@ ghost use lib.Ieee.{nan};
 ghost use lib.ListN.{getD};
 ghost use Rattle.rules.specs.Tables.{deadZoneTable};
 ghost use Rattle.rules.specs.Code.{stepOf, stepShift, magnitudeBits, codeLimit};
-ghost use Rattle.quantizer.specs.Packed.{entryOf};
+ghost use Rattle.quantizer.specs.SixteenInOne.{entryOf};
 
 // The entry at a place of a row.
 pub fn row_entry(row: u64, place: usize) -> u32

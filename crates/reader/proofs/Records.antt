@@ -13,7 +13,7 @@ use Rattle.bits.proofs.Numbers.{length-bits-of}
 use Rattle.bits.proofs.Fields.{length-left}
 use Rattle.buffers.specs.Walk.{build}
 use Rattle.rules.specs.Format.{pure, andThen, each, times}
-use Rattle.rules.specs.Layout.{Sizes, factorLength, sideLength}
+use Rattle.rules.specs.Layout.{LegalLayout, factorLength, sideLength}
 use Rattle.rules.specs.Resolution.{allResolutions}
 use Rattle.rules.specs.Record.{Rec, chanOf, codesIn, recOf}
 use Rattle.rules.specs.Reading.{readCode, readRecord, firstOne, Scanned, faulty}
@@ -65,7 +65,7 @@ refused-left l a e h = rw (e, h) refl
 
 module _ (l : Layout) (s F S : List ℕ) (C : List ℤ) where
   -- THE CODES after the header
-  module _ {v b : ℕ} {q : Place} (h : Headed l s F S (head.Of v b q)) (z : Sizes l) (n : length F ≡ factorLength l) (m : length S ≡ sideLength l) where
+  module _ {v b : ℕ} {q : Place} (h : Headed l s F S (head.Of v b q)) (z : LegalLayout l) (n : length F ≡ factorLength l) (m : length S ≡ sideLength l) where
     abbrev CodesRead : Step → Type 0
     CodesRead r = Subframes l s (readSubframes l (allResolutions l v b F) (leftAt s (q .at))) C r
 
@@ -73,7 +73,8 @@ module _ (l : Layout) (s F S : List ℕ) (C : List ℤ) where
         → readRecord l (bitsOf s) ≡ andThen (stepRead s (build (λ i. build (codesIn l C i) (l .channels)) 8) r) (λ cs. pure (withCodes l F S v b cs))
     codes-read r t =
         h .is
-        ∙ ap (λ rs. andThen (each (λ _. each (each readCode) rs) (times 8) (leftAt s (q .at))) (λ cs. pure (withCodes l F S v b cs))) (sym (coded-rows l v b F S z n))
+        ∙ ap (λ rs. andThen (each (λ _. each (each readCode) rs) (times 8) (leftAt s (q .at))) (λ cs. pure (withCodes l F S v b cs)))
+        (sym (coded-rows l v b F S z n))
         ∙ ap (λ x. andThen x (λ cs. pure (withCodes l F S v b cs))) (t .done .is)
 
     chans-are : recOf l v b F S C .chans ≡ build (chanOf l F S) (l .channels)

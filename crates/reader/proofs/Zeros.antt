@@ -42,7 +42,8 @@ pub byte-zero : (part : List ℕ) (i : ℕ) → i < length part → getD part i 
 unfolding bits bitsOf
 byte-zero part i h e =
     let z : leftAt part (8 * i) ≡ bits 8 (getD part i 0) ++ leftAt part (8 * (i + 1)) =
-    sym (bits-drop i part) ∙ ap bitsOf (drop-cons part i 0 h) ∙ ap (λ s. bits 8 (getD part i 0) ++ s) (bits-drop (suc i) part ∙ ap (λ n. leftAt part (8 * n)) (sym (add-one i))) in
+    sym (bits-drop i part) ∙ ap bitsOf (drop-cons part i 0 h)
+    ∙ ap (λ s. bits 8 (getD part i 0) ++ s) (bits-drop (suc i) part ∙ ap (λ n. leftAt part (8 * n)) (sym (add-one i))) in
     ap firstOne z ∙ ap (λ b. firstOne (bits 8 b ++ leftAt part (8 * (i + 1)))) e
 
 pub end-zero : (part : List ℕ) (p : ℕ) → 8 * length part ≤ p → firstOne (leftAt part p) ≡ none

@@ -14,7 +14,7 @@ use Rattle.rules.specs.Lent.{noFactors, noSide, noCodes}
 use Rattle.rules.specs.Reader.{ReaderLeft, readerLeft}
 use Rattle.rules.specs.declared.Layout.{Layout}
 use Rattle.rules.specs.declared.ReadAnswer.the-variants as read
-use Rattle.reader_channels.specs.Started.{HeadTold}
+use Rattle.reader_channels.specs.Started.{HeadAgrees}
 use Rattle.reader_channels.specs.declared.level_and_boundary.Head.{Head}
 use Rattle.reader.specs.declared.fill.FrameFound.{FrameFound}
 use Rattle.reader.specs.declared.fill.FrameFound.the-variants as found
@@ -28,7 +28,7 @@ pub record Holds (l : Layout) (r : Rec) (F S : List ℕ) (C : List ℤ) : Type 0
 -- EVERY FIELD was read: the record lies in the buffers
 abbrev pub FieldsRead : (l : Layout) (s F S : List ℕ) (C : List ℤ) (r : Head) → Type 0
 FieldsRead l s F S C r =
-    HeadTold l s (λ level boundary. pure (recOf l level boundary F S C)) (λ level boundary. Holds l (recOf l level boundary F S C) F S C) r
+    HeadAgrees l s (λ level boundary. pure (recOf l level boundary F S C)) (λ level boundary. Holds l (recOf l level boundary F S C) F S C) r
 
 -- THE SCAN of what follows the sync, its bits counted from the frame's first
 abbrev pub scanPart : (l : Layout) (s : List ℕ) → Scanned

@@ -1,7 +1,7 @@
 // A whole frame: its check, its sync, and the record between them; the answer, and buffers that a refusal leaves zero.
 ghost use mathlib.Core.Path.{_≡_};
 ghost use lib.ListN.{length};
-ghost use Rattle.rules.specs.Layout.{Sizes, frameSize};
+ghost use Rattle.rules.specs.Layout.{LegalLayout, frameSize};
 ghost use Rattle.rules.specs.Reading.{strict};
 ghost use Rattle.rules.specs.Reader.{readerLeft, scannedLeft};
 ghost use Rattle.reader.specs.Scans.{foundLeft, ReaderLengths};
@@ -22,7 +22,7 @@ fn scan_frame(
     side: &mut [u8],
     codes: &mut [i32],
 ) -> FrameFound
-    requires { ⌜ Sizes layout ⌝ }
+    requires { ⌜ LegalLayout layout ⌝ }
     requires { ⌜ length (now frame) ≡ frameSize layout ⌝ }
     requires { ⌜ ReaderLengths layout (length (now factors)) (length (now side)) (length (now codes)) ⌝ }
     ensures { λ r. ⌜ foundLeft layout (now (factors .exit)) (now (side .exit)) (now (codes .exit)) r
@@ -50,7 +50,7 @@ pub fn read_exact(
     side: &mut [u8],
     codes: &mut [i32],
 ) -> ReadAnswer
-    requires { ⌜ Sizes layout ⌝ }
+    requires { ⌜ LegalLayout layout ⌝ }
     requires { ⌜ length (now frame) ≡ frameSize layout ⌝ }
     requires { ⌜ ReaderLengths layout (length (now factors)) (length (now side)) (length (now codes)) ⌝ }
     ensures { λ r. ⌜ readerLeft r (now (factors .exit)) (now (side .exit)) (now (codes .exit))

@@ -11,9 +11,9 @@ pub mod frame;
 
 ghost use mathlib.Core.Path.{_≡_};
 ghost use lib.ListN.{length, take};
-ghost use Rattle.rules.specs.Layout.{Sizes, frameSize, roomOf, Enough};
+ghost use Rattle.rules.specs.Layout.{LegalLayout, frameSize, roomOf, HasRoom};
 ghost use Rattle.rules.specs.Reading.{strict};
-ghost use Rattle.rules.specs.Reader.{readerLent, readerLeft, scannedLeft, readerLaid, read};
+ghost use Rattle.rules.specs.Reader.{readerLent, readerLeft, scannedLeft, readerOverwrite, readFrame};
 use crate::frame::read_exact;
 use rules::Layout;
 use rules::ReadAnswer;
@@ -27,10 +27,10 @@ fn lend_exact(
     side: &mut [u8],
     codes: &mut [i32],
 ) -> ReadAnswer
-    requires { ⌜ Sizes layout ⌝ }
-    requires { ⌜ Enough layout (roomOf (length (now factors)) (length (now side)) (length (now codes)) (length (now frame))) ⌝ }
+    requires { ⌜ LegalLayout layout ⌝ }
+    requires { ⌜ HasRoom layout (roomOf (length (now factors)) (length (now side)) (length (now codes)) (length (now frame))) ⌝ }
     ensures { λ r. ⌜ readerLeft r (now (factors .exit)) (now (side .exit)) (now (codes .exit))
-        ≡ readerLaid (readerLent (now (frame .entry)) (now (factors .entry)) (now (side .entry)) (now (codes .entry)))
+        ≡ readerOverwrite (readerLent (now (frame .entry)) (now (factors .entry)) (now (side .entry)) (now (codes .entry)))
         (scannedLeft layout (strict layout (take (frameSize layout) (now (frame .entry))))) ⌝ }
 {
     let size = layout.frame_size;
@@ -55,7 +55,7 @@ pub fn read_frame(
     codes: &mut [i32],
 ) -> ReadAnswer
     ensures { λ r. ⌜ readerLeft r (now (factors .exit)) (now (side .exit)) (now (codes .exit))
-        ≡ read layout (readerLent (now (frame .entry)) (now (factors .entry)) (now (side .entry)) (now (codes .entry))) ⌝ }
+        ≡ readFrame layout (readerLent (now (frame .entry)) (now (factors .entry)) (now (side .entry)) (now (codes .entry))) ⌝ }
 {
     if !layouts::legal(layout) {
         return ReadAnswer::BadLayout;

@@ -3,7 +3,7 @@ ghost use mathlib.Core.Path.{_≡_};
 ghost use Prim.Native.Nat.{_*_, _≤_};
 ghost use lib.ListN.{length};
 ghost use Rattle.bits.specs.Place.{leftAt};
-ghost use Rattle.rules.specs.Layout.{Sizes, factorLength, spectrumLength};
+ghost use Rattle.rules.specs.Layout.{LegalLayout, factorLength, spectrumLength};
 ghost use Rattle.rules.specs.Resolution.{allResolutions};
 ghost use Rattle.rules.specs.Reader.{scannedLeft};
 ghost use Rattle.reader_codes.specs.Rows.{readSubframes, Subframes};
@@ -17,7 +17,7 @@ use reader_channels::level_and_boundary::Head;
 use reader_channels::level_and_boundary::head_after;
 use reader_channels::read_header;
 use reader_channels::values::faults::Step;
-use reader_codes::read_all_spectra;
+use reader_codes::read_all_codes;
 use resolutions::RESOLUTION_ROOM;
 use resolutions::calculate_frame_resolutions;
 use rules::Layout;
@@ -33,7 +33,7 @@ fn read_resolved(
     resolutions: &mut [u8],
     codes: &mut [i32],
 ) -> Step
-    requires { ⌜ Sizes layout ⌝ }
+    requires { ⌜ LegalLayout layout ⌝ }
     requires { ⌜ (level ≤ 511) × (length (now part) ≤ 65535) × (place .at ≤ 8 * length (now part)) ⌝ }
     requires { ⌜ (length (now factors) ≡ factorLength layout) × (length (now resolutions) ≡ factorLength layout)
         × (length (now codes) ≡ spectrumLength layout) ⌝ }
@@ -42,7 +42,7 @@ fn read_resolved(
         (now (codes .exit)) r ⌝ }
 {
     calculate_frame_resolutions(layout, level, boundary, factors, resolutions);
-    read_all_spectra(layout, part, place, resolutions, codes)
+    read_all_codes(layout, part, place, resolutions, codes)
 }
 
 // The same with a buffer for sixteen channels.
@@ -55,7 +55,7 @@ fn read_codes(
     place: Place,
     codes: &mut [i32],
 ) -> Step
-    requires { ⌜ Sizes layout ⌝ }
+    requires { ⌜ LegalLayout layout ⌝ }
     requires { ⌜ (level ≤ 511) × (length (now part) ≤ 65535) × (place .at ≤ 8 * length (now part)) ⌝ }
     requires { ⌜ (length (now factors) ≡ factorLength layout) × (length (now codes) ≡ spectrumLength layout) ⌝ }
     ensures { λ r. ⌜ Subframes layout (now (part .entry))
@@ -84,7 +84,7 @@ fn read_fields(
     side: &mut [u8],
     codes: &mut [i32],
 ) -> Head
-    requires { ⌜ Sizes layout ⌝ }
+    requires { ⌜ LegalLayout layout ⌝ }
     requires { ⌜ length (now part) ≤ 65535 ⌝ }
     requires { ⌜ ReaderLengths layout (length (now factors)) (length (now side)) (length (now codes)) ⌝ }
     ensures { λ r. ⌜ FieldsRead layout (now (part .entry)) (now (factors .exit)) (now (side .exit)) (now (codes .exit)) r ⌝ }
@@ -105,7 +105,7 @@ pub fn read_record(
     side: &mut [u8],
     codes: &mut [i32],
 ) -> FrameFound
-    requires { ⌜ Sizes layout ⌝ }
+    requires { ⌜ LegalLayout layout ⌝ }
     requires { ⌜ length (now part) ≤ 65535 ⌝ }
     requires { ⌜ ReaderLengths layout (length (now factors)) (length (now side)) (length (now codes)) ⌝ }
     ensures { λ r. ⌜ foundLeft layout (now (factors .exit)) (now (side .exit)) (now (codes .exit)) r

@@ -14,7 +14,7 @@ use Rattle.bits.specs.declared.Place.{Place}
 use Rattle.buffers.specs.Walk.{build}
 use Rattle.buffers.proofs.Build.{build-none, build-more, length-build, build-at}
 use Rattle.rules.specs.Format.{Read, ok, stay, each, times, number}
-use Rattle.rules.specs.Layout.{kindAt, kindsOf, codedAt, sidesAt, sideWidth, factorLength, sideLength, part}
+use Rattle.rules.specs.Layout.{kindAt, kindsOf, codedCountAt, sideCountAt, sideWidth, factorLength, sideLength, part}
 use Rattle.rules.specs.Record.{Chan, Rec, chanIn, chanOf, pad, noChan, storeFactors, storeSide}
 use Rattle.rules.specs.Reading.{readWidth, readChannel}
 use Rattle.rules.specs.declared.Layout.{Layout}
@@ -32,28 +32,31 @@ use Rattle.reader_channels.proofs.Widths.{stored-of}
 abbrev pub ChannelRead : (l : Layout) (c : ℕ) (s : List ℕ) (at : ℕ) (F S : List ℕ) (r : Step) → Type 0
 ChannelRead l c s at F S r = StoredChannel l c s (readChannel l (kindAt l c) (leftAt s at)) F S r
 
-module _ (l : Layout) (c : ℕ) (s : List ℕ) (at : ℕ) {n : ℕ} (counts : n ≡ codedAt l c) {F : List ℕ} {o : Step} (t : StoredRow s (readWidth n (leftAt s at)) n 128 F o) where
+module _ (l : Layout) (c : ℕ) (s : List ℕ) (at : ℕ) {n : ℕ} (counts : n ≡ codedCountAt l c) {F : List ℕ} {o : Step}
+    (t : StoredRow s (readWidth n (leftAt s at)) n 128 F o) where
   -- the factors, of the coded count itself
-  coded : {o′ : Step} → o ≡ o′ → StoredRow s (readWidth (codedAt l c) (leftAt s at)) (codedAt l c) 128 F o′
+  coded : {o′ : Step} → o ≡ o′ → StoredRow s (readWidth (codedCountAt l c) (leftAt s at)) (codedCountAt l c) 128 F o′
   coded {o′} e = subst (λ m. StoredRow s (readWidth m (leftAt s at)) m 128 F o′) counts (stored-of e t)
 
   pub channel-cut : {S : List ℕ} {f : Fault} → o ≡ step.Refused f → ChannelRead l c s at F S o
-  unfolding codedAt sidesAt
+  unfolding codedCountAt sideCountAt
   channel-cut {S} e =
       let v = coded e in
       subst (ChannelRead l c s at F S) (sym e) (record { done = record { is = rw (v .done .is) refl; within = v .done .within }; rows = tt })
 
   module _ {S : List ℕ} {q : Place} (e : o ≡ step.At q) where
-    sides : (r : Step) → StoredRow s (each (λ _. number (sideWidth (kindAt l c))) (times (sidesAt l c)) (leftAt s (q .at))) (sidesAt l c) 8 S r → ChannelRead l c s at F S r
-    unfolding codedAt sidesAt
+    sides : (r : Step) → StoredRow s (each (λ _. number (sideWidth (kindAt l c))) (times (sideCountAt l c)) (leftAt s (q .at))) (sideCountAt l c) 8 S r
+        → ChannelRead l c s at F S r
+    unfolding codedCountAt sideCountAt
     sides (step.At _) u = record { done = record { is = rw (coded e .done .is, u .done .is) refl; within = u .done .within }; rows = (coded e .held, u .held) }
     sides (step.Refused f) u = record { done = record { is = rw (coded e .done .is, u .done .is) refl; within = u .done .within }; rows = tt }
 
-    pub channel-stored : {k w : ℕ} → k ≡ sidesAt l c → w ≡ sideWidth (kindAt l c) → (r : Step) → StoredRow s (each (λ _. number w) (times k) (leftAt s (q .at))) k 8 S r
+    pub channel-stored : {k w : ℕ} → k ≡ sideCountAt l c → w ≡ sideWidth (kindAt l c) → (r : Step)
+        → StoredRow s (each (λ _. number w) (times k) (leftAt s (q .at))) k 8 S r
         → ChannelRead l c s at F S r
     channel-stored {w} i j r u =
         sides r
-        (subst (λ v. StoredRow s (each (λ _. number v) (times (sidesAt l c)) (leftAt s (q .at))) (sidesAt l c) 8 S r) j
+        (subst (λ v. StoredRow s (each (λ _. number v) (times (sideCountAt l c)) (leftAt s (q .at))) (sideCountAt l c) 8 S r) j
         (subst (λ m. StoredRow s (each (λ _. number w) (times m) (leftAt s (q .at))) m 8 S r) i u))
 
 -- ALL CHANNELS: c of them are read, each in its part
@@ -110,16 +113,17 @@ module _ (l : Layout) (s : List ℕ) where
           (record {
             done = record {
               is = w .is ∙ rw (kinds-next l c h)
-                  (walk-stop stay (λ _. readChannel l) (build (chanOf l F S) c) tt (kindAt l c) (drop (c + 1) (kindsOf l)) (leftAt s at) (faultNumber f) (length (leftAt s (faultBit f))) (v .done .is));
+                  (walk-stop stay (λ _. readChannel l) (build (chanOf l F S) c) tt (kindAt l c) (drop (c + 1) (kindsOf l)) (leftAt s at) (faultNumber f)
+                  (length (leftAt s (faultBit f))) (v .done .is));
               within = v .done .within;
             };
             rows = tt;
           })
 
       module _ (ys zs : List ℕ) (fl : length ys ≡ 128) (sl : length zs ≡ 8) {q : Place} {r : Step} (z : r ≡ step.At q)
-          (told : ChannelRead l c s at ys zs r) where
+          (agrees : ChannelRead l c s at ys zs r) where
         t : ChannelRead l c s at ys zs (step.At q)
-        t = subst (ChannelRead l c s at ys zs) z told
+        t = subst (ChannelRead l c s at ys zs) z agrees
 
         -- the rows end within their buffers
         ends-f : c * 128 + 128 ≤ length F
@@ -147,7 +151,7 @@ module _ (l : Layout) (s : List ℕ) where
             (build-same (chanOf l (renewed 128 c F ys) (renewed 8 c S zs)) (chanOf l F S) c (λ i g. ap₂ (chanIn l i) (old-f i g) (old-s i g)))
             (ap₂ (chanIn l c) new-f new-s)
 
-        rows′ : (i : ℕ) → i < c + 1 → Row (codedAt l i) 128 (part 128 (renewed 128 c F ys) i) × Row (sidesAt l i) 8 (part 8 (renewed 8 c S zs) i)
+        rows′ : (i : ℕ) → i < c + 1 → Row (codedCountAt l i) 128 (part 128 (renewed 128 c F ys) i) × Row (sideCountAt l i) 8 (part 8 (renewed 8 c S zs) i)
         rows′ i g =
             ⊎-elim
             (λ (e : i ≡ c). rw (e, new-f, new-s) (t .rows))
@@ -162,7 +166,8 @@ module _ (l : Layout) (s : List ℕ) where
           side-long = renewed-length 8 c S zs ends-s sl ∙ w .side-long;
           rows = rows′;
           is = w .is ∙ rw (kinds-next l c h)
-              (walk-turn stay (λ _. readChannel l) (build (chanOf l F S) c) tt (kindAt l c) (drop (c + 1) (kindsOf l)) (leftAt s at) (chanIn l c ys zs) (leftAt s (q .at)) (t .done .is)
+              (walk-turn stay (λ _. readChannel l) (build (chanOf l F S) c) tt (kindAt l c) (drop (c + 1) (kindsOf l)) (leftAt s at) (chanIn l c ys zs)
+              (leftAt s (q .at)) (t .done .is)
               ∙ ap (λ d. onto d (each (readChannel l) (drop (c + 1) (kindsOf l)) (leftAt s (q .at)))) (sym chans));
         }
 

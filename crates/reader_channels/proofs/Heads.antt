@@ -16,11 +16,11 @@ use Rattle.rules.specs.declared.Layout.{Layout}
 use Rattle.reader_channels.specs.declared.values.faults.Fault.{Fault}
 use Rattle.reader_channels.specs.declared.values.faults.Fault.the-variants as fault
 use Rattle.reader_channels.specs.declared.values.Value.the-variants as value
-use Rattle.reader_channels.specs.Values.{ValueTold}
+use Rattle.reader_channels.specs.Values.{ValueAgrees}
 use Rattle.reader_channels.proofs.Answered.{number-read, number-cut}
 use Rattle.reader_channels.specs.declared.level_and_boundary.Head.{Head}
 use Rattle.reader_channels.specs.declared.level_and_boundary.Head.the-variants as head
-use Rattle.reader_channels.specs.Started.{HeadTold, codesThen, Started}
+use Rattle.reader_channels.specs.Started.{HeadAgrees, codesThen, Started}
 
 abbrev Codes : Type 0
 Codes = List (List (List ℤ))
@@ -55,7 +55,7 @@ module _ (l : Layout) (s : List ℕ) where
   level-past e = let t = number-cut s 0 9 (omega arith) e in record { is = rw (t .is) refl; within = t .within; holds = tt }
 
   module _ {v : ℕ} {q : Place} (e : fieldAt s 0 9 ≡ field.Of v q) where
-    level-read : ValueTold s (number 9 (bitsOf s)) 512 (value.Of v q)
+    level-read : ValueAgrees s (number 9 (bitsOf s)) 512 (value.Of v q)
     level-read = number-read s 0 9 e
 
     pub boundary-past : {k : ℕ} → fieldAt s (q .at) 7 ≡ field.Past k → Started l s (head.Refused (fault.PastEnd (q .at)))
@@ -75,12 +75,12 @@ module _ (l : Layout) (s : List ℕ) where
         }
 
 -- an answer of a known variant
-module _ {l : Layout} {s : List ℕ} {rest : ℕ → ℕ → Reader Rec} {P : ℕ → ℕ → Type 0} {r : Head} (t : HeadTold l s rest P r) where
-  pub head-of : {o : Head} → r ≡ o → HeadTold l s rest P o
-  head-of e = subst (λ o. HeadTold l s rest P o) e t
+module _ {l : Layout} {s : List ℕ} {rest : ℕ → ℕ → Reader Rec} {P : ℕ → ℕ → Type 0} {r : Head} (t : HeadAgrees l s rest P r) where
+  pub head-of : {o : Head} → r ≡ o → HeadAgrees l s rest P o
+  head-of e = subst (λ o. HeadAgrees l s rest P o) e t
 
   -- a refusal is the same whatever was to follow
-  pub head-refused : {rest′ : ℕ → ℕ → Reader Rec} {P′ : ℕ → ℕ → Type 0} {f : Fault} → r ≡ head.Refused f → HeadTold l s rest′ P′ r
+  pub head-refused : {rest′ : ℕ → ℕ → Reader Rec} {P′ : ℕ → ℕ → Type 0} {f : Fault} → r ≡ head.Refused f → HeadAgrees l s rest′ P′ r
   head-refused {rest′} {P′} e =
       let u = head-of e in
-      subst (λ o. HeadTold l s rest′ P′ o) (sym e) (record { is = u .is; within = u .within; holds = tt })
+      subst (λ o. HeadAgrees l s rest′ P′ o) (sym e) (record { is = u .is; within = u .within; holds = tt })

@@ -23,13 +23,14 @@ use Rattle.reader_channels.specs.declared.values.Value.{Value}
 use Rattle.reader_channels.specs.declared.values.Value.the-variants as value
 use Rattle.reader_channels.specs.declared.values.faults.Step.{Step}
 use Rattle.reader_channels.specs.declared.values.faults.Step.the-variants as step
-use Rattle.reader_channels.specs.Values.{ValueTold, valueless}
+use Rattle.reader_channels.specs.Values.{ValueAgrees, valueless}
 use Rattle.reader_channels.specs.StoredRow.{Row, StoredRow}
-use Rattle.reader_channels.proofs.Answered.{told-of}
+use Rattle.reader_channels.proofs.Answered.{agrees-of}
 
 -- THE VALUES, stored from the front on in a row of zeros
 -- i of n values are stored; `state` is what the next one depends on, and `at` its place
-pub record Going {S : Type 0} (next : S → ℕ → S) (f : S → Unit {0} → Reader ℕ) (s : List ℕ) (x : Read (List ℕ)) (n k i : ℕ) (state : S) (at : ℕ) (xs : List ℕ) : Type 0 where
+pub record Going {S : Type 0} (next : S → ℕ → S) (f : S → Unit {0} → Reader ℕ) (s : List ℕ) (x : Read (List ℕ)) (n k i : ℕ) (state : S) (at : ℕ)
+    (xs : List ℕ) : Type 0 where
   pub below : i ≤ n
   pub within : at ≤ 8 * length s
   pub long : length xs ≡ k
@@ -44,10 +45,12 @@ row-of n k xs h l e p = record {
 }
   where
     zeroed : (j : ℕ) → n + (j - n) ≡ j → getD xs j 0 ≡ 0
-    zeroed j z = ap (λ m. getD xs m 0) (sym z) ∙ sym (getD-drop n xs (j - n) 0) ∙ ap (λ l. getD l (j - n) 0) e ∙ getD-drop n (replicate k 0) (j - n) 0 ∙ getD-copies 0 k (n + (j - n))
+    zeroed j z = ap (λ m. getD xs m 0) (sym z) ∙ sym (getD-drop n xs (j - n) 0) ∙ ap (λ l. getD l (j - n) 0) e ∙ getD-drop n (replicate k 0) (j - n) 0
+        ∙ getD-copies 0 k (n + (j - n))
 
 module _ {S : Type 0} {next : S → ℕ → S} {f : S → Unit {0} → Reader ℕ} {s : List ℕ} {x : Read (List ℕ)} where
-  pub going-none : (n k at : ℕ) (state : S) → at ≤ 8 * length s → x ≡ walk next f state (times n) (leftAt s at) → (xs : List ℕ) (m : ℕ) → xs ≡ replicate m 0 → m ≡ k
+  pub going-none : (n k at : ℕ) (state : S) → at ≤ 8 * length s → x ≡ walk next f state (times n) (leftAt s at) → (xs : List ℕ) (m : ℕ) → xs ≡ replicate m 0 → m
+      ≡ k
       → Going next f s x n k 0 state at xs
   going-none n k at state h e xs m c z = rw (c, z) (record {
     below = omega arith;
@@ -63,9 +66,9 @@ module _ {S : Type 0} {next : S → ℕ → S} {f : S → Unit {0} → Reader �
     one-more h = omega arith
 
     pub going-more : {v : ℕ} {q : Place} {m : ℕ} {r : Value} (state′ : S) → state′ ≡ next state v → i < n → n ≤ k → m ≤ 64
-        → r ≡ value.Of v q → ValueTold s (f state tt (leftAt s at)) m r → Going next f s x n k (i + 1) state′ (q .at) (set xs i v)
-    going-more {v} {q} state′ y h g p z told =
-        let t = told-of z told in
+        → r ≡ value.Of v q → ValueAgrees s (f state tt (leftAt s at)) m r → Going next f s x n k (i + 1) state′ (q .at) (set xs i v)
+    going-more {v} {q} state′ y h g p z agrees =
+        let t = agrees-of z agrees in
         let l : i < length xs = omega (arith, w .long) in
         let b = leftAt s at in
         record {
@@ -76,12 +79,14 @@ module _ {S : Type 0} {next : S → ℕ → S} {f : S → Unit {0} → Reader �
           small = λ j. set-keeps (λ n. n < 64) v (omega (arith, t .small)) xs i j (w .small j);
           is = w .is ∙ ap (λ m. onto (take i xs) (walk next f state (times m) b)) (one-more h)
               ∙ walk-turn next f (take i xs) state tt (times (n - (i + 1))) b v (leftAt s (q .at)) (t .is)
-              ∙ ap₂ (λ d u. onto d (walk next f u (times (n - (i + 1))) (leftAt s (q .at)))) (sym (ap (λ m. take m (set xs i v)) (add-one i) ∙ take-suc-set xs i v l)) (sym y);
+              ∙ ap₂ (λ d u. onto d (walk next f u (times (n - (i + 1))) (leftAt s (q .at))))
+              (sym (ap (λ m. take m (set xs i v)) (add-one i) ∙ take-suc-set xs i v l)) (sym y);
         }
 
-    pub going-stop : {r : Value} {d : Fault} {m : ℕ} {o : Step} → i < n → r ≡ value.Refused d → ValueTold s (f state tt (leftAt s at)) m r → o ≡ valueless r → StoredRow s x n k xs o
+    pub going-stop : {r : Value} {d : Fault} {m : ℕ} {o : Step} → i < n → r ≡ value.Refused d → ValueAgrees s (f state tt (leftAt s at)) m r → o ≡ valueless r
+        → StoredRow s x n k xs o
     going-stop {r} {d} h e t z =
-        let u = told-of e t in
+        let u = agrees-of e t in
         let b = leftAt s at in
         subst (λ o. StoredRow s x n k xs o) (sym (z ∙ ap valueless e))
         (record {
@@ -100,7 +105,8 @@ module _ {S : Type 0} {next : S → ℕ → S} {f : S → Unit {0} → Reader �
         record {
           done = record {
             is = w .is ∙ ap (λ m. onto (take i xs) (walk next f state (times m) (leftAt s at))) z
-                ∙ ap (λ d. ok d (leftAt s at)) (append-nil (take i xs)) ∙ ap (λ m. ok (take m xs) (leftAt s at)) y ∙ ap (λ a. ok (take n xs) (leftAt s a)) (sym e);
+                ∙ ap (λ d. ok d (leftAt s at)) (append-nil (take i xs)) ∙ ap (λ m. ok (take m xs) (leftAt s at)) y
+                ∙ ap (λ a. ok (take n xs) (leftAt s a)) (sym e);
             within = omega (arith, w .within);
           };
           held = row-of n k xs g (w .long) (w .blank) (w .small);

@@ -31,7 +31,7 @@ abbrev pub ifHead : (r : Head) (P : (level boundary : ℕ) → Type 0) → Type 
 ifHead (head.Of level boundary q) P = P level boundary
 ifHead (head.Refused f) P = Unit {0}
 
-pub record HeadTold (l : Layout) (s : List ℕ) (rest : (level boundary : ℕ) → Reader Rec) (P : (level boundary : ℕ) → Type 0) (r : Head) : Type 0 where
+pub record HeadAgrees (l : Layout) (s : List ℕ) (rest : (level boundary : ℕ) → Reader Rec) (P : (level boundary : ℕ) → Type 0) (r : Head) : Type 0 where
   pub is : readRecord l (bitsOf s) ≡ headRead s rest r
   pub within : headPlace r ≤ 8 * length s
   pub holds : ifHead r P
@@ -47,7 +47,7 @@ channelsThen l level boundary = each (readChannel l) (kindsOf l) >>= codesThen l
 
 -- LEVEL AND BOUNDARY were read
 abbrev pub Started : (l : Layout) (s : List ℕ) (r : Head) → Type 0
-Started l s r = HeadTold l s (channelsThen l) (λ level _. level ≤ 511) r
+Started l s r = HeadAgrees l s (channelsThen l) (λ level _. level ≤ 511) r
 
 -- level and boundary at the place after what was stored next
 abbrev pub headAfter : (level boundary : ℕ) (next : Step) → Head

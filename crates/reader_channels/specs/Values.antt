@@ -29,7 +29,7 @@ abbrev pub valueBelow : (bound : ℕ) (r : Value) → Type 0
 valueBelow bound (value.Of v q) = v < bound
 valueBelow bound (value.Refused f) = Unit {0}
 
-pub record ValueTold (s : List ℕ) (x : Read ℕ) (bound : ℕ) (r : Value) : Type 0 where
+pub record ValueAgrees (s : List ℕ) (x : Read ℕ) (bound : ℕ) (r : Value) : Type 0 where
   pub is : x ≡ valueRead s r
   pub within : valuePlace r ≤ 8 * length s
   pub small : valueBelow bound r

@@ -13,7 +13,7 @@ ghost use mathlib.Core.Path.{_≡_};
 ghost use Prim.Native.Nat.{_≤_, _<_};
 ghost use lib.ListN.{length};
 ghost use Rattle.bits.specs.Place.{leftAt};
-ghost use Rattle.rules.specs.Layout.{Sizes, kindAt, kindsOf, factorLength, sideLength};
+ghost use Rattle.rules.specs.Layout.{LegalLayout, kindAt, kindsOf, factorLength, sideLength};
 ghost use Rattle.rules.specs.Format.{each};
 ghost use Rattle.rules.specs.Reading.{readChannel};
 ghost use Rattle.reader_channels.specs.Steps.{Inside};
@@ -37,7 +37,7 @@ fn read_channel(
     factors: &mut [u8],
     side: &mut [u8],
 ) -> Step
-    requires { ⌜ Sizes layout ⌝ }
+    requires { ⌜ LegalLayout layout ⌝ }
     requires { ⌜ Inside (now part) (place .at) ⌝ }
     requires { ⌜ (channel < 16) × (length (now factors) ≡ 128) × (length (now side) ≡ 8) ⌝ }
     ensures { λ r. ⌜ StoredChannel layout channel (now (part .entry))
@@ -62,7 +62,7 @@ fn read_channels(
     factors: &mut [u8],
     side: &mut [u8],
 ) -> Step
-    requires { ⌜ Sizes layout ⌝ }
+    requires { ⌜ LegalLayout layout ⌝ }
     requires { ⌜ Inside (now part) (place .at) ⌝ }
     requires { ⌜ (length (now factors) ≡ factorLength layout) × (length (now side) ≡ sideLength layout) ⌝ }
     ensures { λ r. ⌜ StoredChannels layout (now (part .entry))
@@ -94,7 +94,7 @@ fn read_channels(
 
 // Level, boundary and every channel's factors and side values.
 pub fn read_header(layout: Layout, part: &[u8], factors: &mut [u8], side: &mut [u8]) -> Head
-    requires { ⌜ Sizes layout ⌝ }
+    requires { ⌜ LegalLayout layout ⌝ }
     requires { ⌜ (length (now part) ≤ 65535) × (length (now factors) ≡ factorLength layout) × (length (now side) ≡ sideLength layout) ⌝ }
     ensures { λ r. ⌜ Headed layout (now (part .entry)) (now (factors .exit)) (now (side .exit)) r ⌝ }
 {

@@ -11,7 +11,7 @@ ghost use Rattle.rules.specs.Width.{near};
 ghost use Rattle.widths.specs.Previous.{factorBefore};
 ghost use Rattle.rules.specs.Reading.{deltaFactor, readDelta, readFactor};
 ghost use Rattle.reader_channels.specs.Steps.{Inside};
-ghost use Rattle.reader_channels.specs.Values.{ValueTold, valueless, judged};
+ghost use Rattle.reader_channels.specs.Values.{ValueAgrees, valueless, judged};
 use crate::values::faults::Fault;
 use crate::values::faults::Step;
 use bits::Field;
@@ -39,7 +39,7 @@ impl Value {
 pub fn read_number(part: &[u8], place: Place, bits: u32) -> Value
     requires { ⌜ Inside (now part) (place .at) ⌝ }
     requires { ⌜ bits ≤ 16 ⌝ }
-    ensures { λ r. ⌜ ValueTold (now (part .entry)) (number bits (leftAt (now (part .entry)) (place .at))) (2 ^ bits) r ⌝ }
+    ensures { λ r. ⌜ ValueAgrees (now (part .entry)) (number bits (leftAt (now (part .entry)) (place .at))) (2 ^ bits) r ⌝ }
 {
     let Field::Of(value, next) = place.get(part, bits) else {
         return Value::Refused(Fault::PastEnd(place.at));
@@ -51,7 +51,7 @@ pub fn read_number(part: &[u8], place: Place, bits: u32) -> Value
 fn read_escaped(part: &[u8], place: Place, d: u32, previous: u8, at: usize) -> Value
     requires { ⌜ Inside (now part) (place .at) ⌝ }
     requires { ⌜ (1 ≤ d) × (d ≤ 5) × (at ≤ 8 * length (now part)) ⌝ }
-    ensures { λ r. ⌜ ValueTold (now (part .entry))
+    ensures { λ r. ⌜ ValueAgrees (now (part .entry))
         (require 12 (length (leftAt (now (part .entry)) at)) (λ f. not (near d previous f)) (number 6) (leftAt (now (part .entry)) (place .at)))
         64 r ⌝ }
 {
@@ -90,7 +90,7 @@ fn judge(factor: i32, next: Place, at: usize) -> Value
 fn read_delta(part: &[u8], place: Place, d: u32, previous: u8) -> Value
     requires { ⌜ Inside (now part) (place .at) ⌝ }
     requires { ⌜ (1 ≤ d) × (d ≤ 5) ⌝ }
-    ensures { λ r. ⌜ ValueTold (now (part .entry)) (readDelta d previous (leftAt (now (part .entry)) (place .at))) 64 r ⌝ }
+    ensures { λ r. ⌜ ValueAgrees (now (part .entry)) (readDelta d previous (leftAt (now (part .entry)) (place .at))) 64 r ⌝ }
 {
     let field = read_number(part, place, d);
     let Value::Of(v, next) = field else {
@@ -106,7 +106,7 @@ fn read_delta(part: &[u8], place: Place, d: u32, previous: u8) -> Value
 pub fn read_factor(part: &[u8], place: Place, width: u32, i: usize, previous: u8) -> Value
     requires { ⌜ Inside (now part) (place .at) ⌝ }
     requires { ⌜ (1 ≤ width) × (width ≤ 6) ⌝ }
-    ensures { λ r. ⌜ ValueTold (now (part .entry)) (readFactor width (factorBefore i previous) (leftAt (now (part .entry)) (place .at))) 64 r ⌝ }
+    ensures { λ r. ⌜ ValueAgrees (now (part .entry)) (readFactor width (factorBefore i previous) (leftAt (now (part .entry)) (place .at))) 64 r ⌝ }
 {
     if i != 0 {
         if width != 6 {

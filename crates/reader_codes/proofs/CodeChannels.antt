@@ -10,7 +10,7 @@ use Rattle.bits.specs.declared.Place.{Place}
 use Rattle.buffers.specs.Walk.{build}
 use Rattle.buffers.proofs.Build.{build-none, build-more, length-build, build-at}
 use Rattle.rules.specs.Format.{ok, each}
-use Rattle.rules.specs.Layout.{codedAt, spectrumLength}
+use Rattle.rules.specs.Layout.{codedCountAt, spectrumLength}
 use Rattle.resolutions.specs.Coded.{codedResolutions}
 use Rattle.rules.specs.Reading.{readCode}
 use Rattle.rules.specs.declared.Layout.{Layout}
@@ -24,14 +24,14 @@ use Rattle.reader_channels.specs.declared.values.faults.Step.the-variants as st
 
 -- the rows of the first n channels
 abbrev upTo : (l : Layout) (s : ℕ) (codes : List ℤ) (n : ℕ) → List (List ℤ)
-upTo l s codes n = build (λ c. take (codedAt l c) (rowOf codes c s)) n
+upTo l s codes n = build (λ c. take (codedCountAt l c) (rowOf codes c s)) n
 
 pub record Upto (l : Layout) (s : ℕ) (frame rs : List ℕ) (codes₀ : List ℤ) (at₀ : ℕ) (codes : List ℤ) (at n : ℕ) : Type 0 where
   pub below : n ≤ l .channels
   pub within : at ≤ 8 * length frame
   pub same : length codes ≡ length codes₀
   pub is : readSubframe l rs (leftAt frame at₀) ≡ onto (upTo l s codes n) (each (each readCode) (drop n (codedRows l rs)) (leftAt frame at))
-  pub blank : (c : ℕ) → c < n → Blank (codedAt l c) (rowOf codes c s)
+  pub blank : (c : ℕ) → c < n → Blank (codedCountAt l c) (rowOf codes c s)
   pub kept : (c t : ℕ) → c < l .channels → t < 8 → (t ≡ s → ⊥) → rowOf codes c t ≡ rowOf codes₀ c t
 
 length-coded : (l : Layout) (rs : List ℕ) → length (codedRows l rs) ≡ l .channels
@@ -70,16 +70,18 @@ module _ (l : Layout) (s : ℕ) (frame rs : List ℕ) (codes₀ : List ℤ) (at�
 
     module _ (h : n < l .channels) where
       abbrev pub RowRead : List ℤ → Step → Type 0
-      RowRead ys r = StoredCodes frame (each readCode (codedResolutions l rs n) (leftAt frame at)) (codedAt l n) ys r
+      RowRead ys r = StoredCodes frame (each readCode (codedResolutions l rs n) (leftAt frame at)) (codedCountAt l n) ys r
 
       -- a row that is cut
-      pub upto-stop : {ys after : List ℤ} {r : Step} {f : Fault} → r ≡ step.Refused f → RowRead ys r → Subframe l frame (readSubframe l rs (leftAt frame at₀)) s codes₀ after r
-      upto-stop {ys} {after} {r} {f} z told =
-          let t = subst (RowRead ys) z told in
+      pub upto-stop : {ys after : List ℤ} {r : Step} {f : Fault} → r ≡ step.Refused f → RowRead ys r
+          → Subframe l frame (readSubframe l rs (leftAt frame at₀)) s codes₀ after r
+      upto-stop {ys} {after} {r} {f} z agrees =
+          let t = subst (RowRead ys) z agrees in
           subst (Subframe l frame (readSubframe l rs (leftAt frame at₀)) s codes₀ after) (sym z)
           (record {
             done = record {
-              is = w .is ∙ each-stop (each readCode) (codedRows l rs) [] (upTo l s codes n) n (leftAt frame at) (faultNumber f) _ (omega (arith, length-coded l rs)) (rw (coded-at l rs n h) (t .done .is));
+              is = w .is ∙ each-stop (each readCode) (codedRows l rs) [] (upTo l s codes n) n (leftAt frame at) (faultNumber f) _
+                  (omega (arith, length-coded l rs)) (rw (coded-at l rs n h) (t .done .is));
               within = t .done .within;
             };
             blank = tt;
@@ -87,9 +89,10 @@ module _ (l : Layout) (s : ℕ) (frame rs : List ℕ) (codes₀ : List ℤ) (at�
           })
 
       -- a row more
-      module _ (hs : s < 8) (size : length codes₀ ≡ spectrumLength l) (ys : List ℤ) (e : length ys ≡ 128) {q : Place} {r : Step} (z : r ≡ step.At q) (told : RowRead ys r) where
+      module _ (hs : s < 8) (size : length codes₀ ≡ spectrumLength l) (ys : List ℤ) (e : length ys ≡ 128) {q : Place} {r : Step} (z : r ≡ step.At q)
+          (agrees : RowRead ys r) where
         t : RowRead ys (step.At q)
-        t = subst (RowRead ys) z told
+        t = subst (RowRead ys) z agrees
 
         fits : (n * 8 + s) * 128 + 128 ≤ length codes
         fits = omega (arith, w .same)
@@ -103,12 +106,13 @@ module _ (l : Layout) (s : ℕ) (frame rs : List ℕ) (codes₀ : List ℤ) (at�
         old : (c u : ℕ) → (c * 8 + u ≡ n * 8 + s → ⊥) → rowOf withRow c u ≡ rowOf codes c u
         old c u = row-old 128 (n * 8 + s) codes ys fits e (c * 8 + u)
 
-        longer : upTo l s withRow (n + 1) ≡ upTo l s codes n ++ (take (codedAt l n) ys ∷ [])
+        longer : upTo l s withRow (n + 1) ≡ upTo l s codes n ++ (take (codedCountAt l n) ys ∷ [])
         longer =
-            build-more (λ c. take (codedAt l c) (rowOf withRow c s)) n
+            build-more (λ c. take (codedCountAt l c) (rowOf withRow c s)) n
             ∙ ap₂ (λ xs x. xs ++ (x ∷ []))
-            (build-same (λ c. take (codedAt l c) (rowOf withRow c s)) (λ c. take (codedAt l c) (rowOf codes c s)) n (λ c lt. ap (take (codedAt l c)) (old c s (λ z. omega arith))))
-            (ap (take (codedAt l n)) new)
+            (build-same (λ c. take (codedCountAt l c) (rowOf withRow c s)) (λ c. take (codedCountAt l c) (rowOf codes c s)) n
+            (λ c lt. ap (take (codedCountAt l c)) (old c s (λ z. omega arith))))
+            (ap (take (codedCountAt l n)) new)
 
         pub upto-more : Upto l s frame rs codes₀ at₀ withRow (q .at) (n + 1)
         upto-more = record {
@@ -116,10 +120,12 @@ module _ (l : Layout) (s : ℕ) (frame rs : List ℕ) (codes₀ : List ℤ) (at�
           within = t .done .within;
           same = renewed-length 128 (n * 8 + s) codes ys fits e ∙ w .same;
           is = w .is
-              ∙ each-turn (each readCode) (codedRows l rs) [] (upTo l s codes n) n (leftAt frame at) (take (codedAt l n) ys) (leftAt frame (q .at)) (omega (arith, length-coded l rs)) (rw (coded-at l rs n h) (t .done .is))
+              ∙ each-turn (each readCode) (codedRows l rs) [] (upTo l s codes n) n (leftAt frame at) (take (codedCountAt l n) ys) (leftAt frame (q .at))
+              (omega (arith, length-coded l rs)) (rw (coded-at l rs n h) (t .done .is))
               ∙ ap (λ d. onto d (each (each readCode) (drop (n + 1) (codedRows l rs)) (leftAt frame (q .at)))) (sym longer);
           blank = λ c lt. by-order c n
-              (λ k. subst (Blank (codedAt l c)) (sym (old c s (λ z. omega arith))) (w .blank c k))
-              (λ k. let z : n ≡ c = omega arith in subst (λ i. Blank (codedAt l i) (rowOf withRow i s)) z (subst (Blank (codedAt l n)) (sym new) (t .blank)));
+              (λ k. subst (Blank (codedCountAt l c)) (sym (old c s (λ z. omega arith))) (w .blank c k))
+              (λ k. let z : n ≡ c = omega arith in subst (λ i. Blank (codedCountAt l i) (rowOf withRow i s)) z
+              (subst (Blank (codedCountAt l n)) (sym new) (t .blank)));
           kept = λ c u hc hu ne. old c u (λ z. ne (omega arith)) ∙ w .kept c u hc hu ne;
         }

@@ -10,7 +10,7 @@ use Rattle.bits.specs.declared.Place.{Place}
 use Rattle.buffers.specs.Walk.{build, blocks}
 use Rattle.buffers.proofs.Build.{build-none, build-more}
 use Rattle.rules.specs.Format.{ok, each, times}
-use Rattle.rules.specs.Layout.{codedAt, part, spectrumLength}
+use Rattle.rules.specs.Layout.{codedCountAt, part, spectrumLength}
 use Rattle.rules.specs.Record.{codesIn, pad}
 use Rattle.rules.specs.declared.Layout.{Layout}
 use Rattle.rules.proofs.Cuts.{by-order, build-same, blocks-same, length-part, parts-all, subframe-cut}
@@ -33,23 +33,24 @@ module _ (l : Layout) (codes : List ℤ) where
   frame-codes : build (subframeIn l codes) 8 ≡ build (λ s. build (codesIn l codes s) (l .channels)) 8
   frame-codes =
       build-same (subframeIn l codes) (λ s. build (codesIn l codes s) (l .channels)) 8
-      (λ s h. build-same (λ c. take (codedAt l c) (rowOf codes c s)) (codesIn l codes s) (l .channels) (λ c _. ap (take (codedAt l c)) (sym (row-in codes c s h))))
+      (λ s h. build-same (λ c. take (codedCountAt l c) (rowOf codes c s)) (codesIn l codes s) (l .channels)
+      (λ c _. ap (take (codedCountAt l c)) (sym (row-in codes c s h))))
 
-  frame-blank : length codes ≡ spectrumLength l → ((c t : ℕ) → c < l .channels → t < 8 → Blank (codedAt l c) (rowOf codes c t))
+  frame-blank : length codes ≡ spectrumLength l → ((c t : ℕ) → c < l .channels → t < 8 → Blank (codedCountAt l c) (rowOf codes c t))
       → codes ≡ blocks (λ c. blocks (λ s. pad (pos 0) 128 (codesIn l codes s c)) 8) (l .channels)
   frame-blank e b =
       sym (parts-all 1024 (l .channels) codes e)
       ∙ blocks-same (part 1024 codes) _ (l .channels)
       (λ c h. sym (parts-all 128 8 (part 1024 codes c) (length-part 1024 (l .channels) c codes (omega arith) h))
       ∙ blocks-same (part 128 (part 1024 codes c)) _ 8
-      (λ s k. row-in codes c s k ∙ b c s h k ∙ ap (λ row. pad (pos 0) 128 (take (codedAt l c) row)) (sym (row-in codes c s k))))
+      (λ s k. row-in codes c s k ∙ b c s h k ∙ ap (λ row. pad (pos 0) 128 (take (codedCountAt l c) row)) (sym (row-in codes c s k))))
 
 pub record Eight (l : Layout) (frame rs : List ℕ) (codes₀ : List ℤ) (at₀ : ℕ) (codes : List ℤ) (at n : ℕ) : Type 0 where
   pub below : n ≤ 8
   pub within : at ≤ 8 * length frame
   pub same : length codes ≡ length codes₀
   pub is : readSubframes l rs (leftAt frame at₀) ≡ onto (build (subframeIn l codes) n) (each (λ _. readSubframe l rs) (drop n (times 8)) (leftAt frame at))
-  pub blank : (c t : ℕ) → c < l .channels → t < n → Blank (codedAt l c) (rowOf codes c t)
+  pub blank : (c t : ℕ) → c < l .channels → t < n → Blank (codedCountAt l c) (rowOf codes c t)
 
 module _ (l : Layout) (frame rs : List ℕ) (codes₀ : List ℤ) (at₀ : ℕ) where
   pub eight-none : at₀ ≤ 8 * length frame → Eight l frame rs codes₀ at₀ codes₀ at₀ 0
@@ -62,7 +63,8 @@ module _ (l : Layout) (frame rs : List ℕ) (codes₀ : List ℤ) (at₀ : ℕ) 
   }
 
   module _ (codes : List ℤ) (at n : ℕ) (w : Eight l frame rs codes₀ at₀ codes at n) where
-    pub eight-all : (q : Place) → q .at ≡ at → length codes₀ ≡ spectrumLength l → 8 ≤ n → Subframes l frame (readSubframes l rs (leftAt frame at₀)) codes (step.At q)
+    pub eight-all : (q : Place) → q .at ≡ at → length codes₀ ≡ spectrumLength l → 8 ≤ n
+        → Subframes l frame (readSubframes l rs (leftAt frame at₀)) codes (step.At q)
     eight-all q z size h =
         let e : n ≡ 8 = omega (arith, w .below) in
         record {
@@ -79,7 +81,8 @@ module _ (l : Layout) (frame rs : List ℕ) (codes₀ : List ℤ) (at₀ : ℕ) 
           → Subframes l frame (readSubframes l rs (leftAt frame at₀)) after (step.Refused f)
       eight-stop f t = record {
         done = record {
-          is = w .is ∙ each-stop (λ _. readSubframe l rs) (times 8) tt (build (subframeIn l codes) n) n (leftAt frame at) (faultNumber f) _ (omega (arith, times-long)) (t .done .is);
+          is = w .is ∙ each-stop (λ _. readSubframe l rs) (times 8) tt (build (subframeIn l codes) n) n (leftAt frame at) (faultNumber f) _
+              (omega (arith, times-long)) (t .done .is);
           within = t .done .within;
         };
         blank = tt;
@@ -91,8 +94,8 @@ module _ (l : Layout) (frame rs : List ℕ) (codes₀ : List ℤ) (at₀ : ℕ) 
             build-more (subframeIn l after) n
             ∙ ap (λ xs. xs ++ (subframeIn l after n ∷ []))
             (build-same (subframeIn l after) (subframeIn l codes) n
-            (λ u lt. build-same (λ c. take (codedAt l c) (rowOf after c u)) (λ c. take (codedAt l c) (rowOf codes c u)) (l .channels)
-            (λ c k. ap (take (codedAt l c)) (t .kept c u k (omega arith) (λ z. omega arith)))))
+            (λ u lt. build-same (λ c. take (codedCountAt l c) (rowOf after c u)) (λ c. take (codedCountAt l c) (rowOf codes c u)) (l .channels)
+            (λ c k. ap (take (codedCountAt l c)) (t .kept c u k (omega arith) (λ z. omega arith)))))
 
         pub eight-more : Eight l frame rs codes₀ at₀ after (q .at) (n + 1)
         eight-more = record {
@@ -100,9 +103,11 @@ module _ (l : Layout) (frame rs : List ℕ) (codes₀ : List ℤ) (at₀ : ℕ) 
           within = t .done .within;
           same = same ∙ w .same;
           is = w .is
-              ∙ each-turn (λ _. readSubframe l rs) (times 8) tt (build (subframeIn l codes) n) n (leftAt frame at) (subframeIn l after n) (leftAt frame (q .at)) (omega (arith, times-long)) (t .done .is)
+              ∙ each-turn (λ _. readSubframe l rs) (times 8) tt (build (subframeIn l codes) n) n (leftAt frame at) (subframeIn l after n) (leftAt frame (q .at))
+              (omega (arith, times-long)) (t .done .is)
               ∙ ap (λ d. onto d (each (λ _. readSubframe l rs) (drop (n + 1) (times 8)) (leftAt frame (q .at)))) (sym longer);
           blank = λ c u k lt. by-order u n
-              (λ j. t .kept c u k (omega arith) (λ z. omega arith) ∙ w .blank c u k j ∙ ap (λ row. pad (pos 0) 128 (take (codedAt l c) row)) (sym (t .kept c u k (omega arith) (λ z. omega arith))))
+              (λ j. t .kept c u k (omega arith) (λ z. omega arith) ∙ w .blank c u k j
+              ∙ ap (λ row. pad (pos 0) 128 (take (codedCountAt l c) row)) (sym (t .kept c u k (omega arith) (λ z. omega arith))))
               (λ j. let z : u ≡ n = omega arith in rw z (t .blank c k));
         }

@@ -16,7 +16,7 @@ use Rattle.rules.specs.Tables.{spectrumBits, spectrumValue, maxBitTable}
 use Rattle.rules.specs.Signed.{heldZ}
 use Rattle.rules.specs.Code.{codePlace}
 use Rattle.rules.specs.Fields.{smallBits}
-use Rattle.quantizer.specs.Packed.{entryOf}
+use Rattle.quantizer.specs.SixteenInOne.{entryOf}
 use Rattle.reader_codes.specs.Seen.{wordBits, codeSeen, placeSeen, IsRow}
 
 -- ---- MAX_BIT_TABLE, from resolution 1 up

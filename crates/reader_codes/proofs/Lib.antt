@@ -2,7 +2,7 @@
 pub mod Entries
 -- one_code
 pub mod Ahead
-pub mod Telling
+pub mod CodeAnswers
 -- the whole
 pub mod Padding
 pub mod CodeChannels

@@ -14,7 +14,8 @@ use Rattle.reader_codes.specs.Rows.{Blank}
 pad-is : {A : Type 0} (d : A) (k n : ℕ) (xs : List A) → length xs ≡ n → n ≤ k → pad d k xs ≡ xs ++ replicate (k - n) d
 pad-is d k n xs e h =
     let q : length xs + (k - n) ≡ k = omega arith in
-    let z : replicate k d ≡ replicate (k - n) d ++ replicate n d = let m : k - n + n ≡ k = omega arith in ap (λ i. replicate i d) (sym m) ∙ sym (replicate-append-replicate (k - n) n d) in
+    let z : replicate k d ≡ replicate (k - n) d ++ replicate n d = let m : k - n + n ≡ k = omega arith in
+    ap (λ i. replicate i d) (sym m) ∙ sym (replicate-append-replicate (k - n) n d) in
     ap (λ i. take i (xs ++ replicate k d)) (sym q)
     ∙ take-append-add xs (replicate k d) (k - n)
     ∙ ap (λ ys. xs ++ ys) (ap (take (k - n)) z ∙ take-at (replicate (k - n) d) (replicate n d) (k - n) (length-replicate (k - n) d))
@@ -29,7 +30,8 @@ module _ (n : ℕ) (row ys : List ℤ) (e : length row ≡ 128) (h : n ≤ 128) 
 
   cleared-is : cleared ≡ take n row ++ replicate (128 - n) (pos 0)
   cleared-is =
-      let l : length (take (length row - n) (drop n row)) ≡ 128 - n = length-take-le (length row - n) (drop n row) (omega (arith, length-drop n row)) ∙ ap (λ i. i - n) e in
+      let l : length (take (length row - n) (drop n row)) ≡ 128 - n = length-take-le (length row - n) (drop n row) (omega (arith, length-drop n row))
+      ∙ ap (λ i. i - n) e in
       let z : drop (length row - n) (drop n row) ≡ [] = drop-of-length-le (drop n row) {i = length row - n} (omega (arith, length-drop n row)) in
       rw (c, l, z, append-nil (replicate (128 - n) (pos 0)))
 

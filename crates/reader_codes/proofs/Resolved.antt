@@ -6,7 +6,7 @@ use lib.IntN.{ℤ, pos}
 use lib.ListN.{length, getD}
 use Rattle.buffers.specs.Walk.{build, blocks}
 use Rattle.buffers.proofs.Build.{build-at}
-use Rattle.rules.specs.Layout.{Sizes, factorLength}
+use Rattle.rules.specs.Layout.{LegalLayout, factorLength}
 use Rattle.rules.specs.Resolution.{allResolutions}
 use Rattle.rules.specs.Record.{resolutions, chanOf, codesIn, recOf, pad, storeCodes}
 use Rattle.rules.specs.declared.Layout.{Layout}
@@ -16,7 +16,7 @@ use Rattle.reader_codes.specs.Rows.{codedRows}
 
 module _ (l : Layout) (level boundary : ℕ) (factors side : List ℕ) where
   -- the resolutions that the codes are read by are those of the record in the buffers
-  pub coded-rows : Sizes l → length factors ≡ factorLength l
+  pub coded-rows : LegalLayout l → length factors ≡ factorLength l
       → codedRows l (allResolutions l level boundary factors) ≡ resolutions level boundary (build (chanOf l factors side) (l .channels))
   unfolding codedRows
   coded-rows z e = resolutions-are l level boundary factors side z e

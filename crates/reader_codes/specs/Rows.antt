@@ -6,7 +6,7 @@ use lib.IntN.{ℤ, pos}
 use lib.ListN.{take}
 use Rattle.buffers.specs.Walk.{build, blocks}
 use Rattle.rules.specs.Format.{Read, Reader, each, times}
-use Rattle.rules.specs.Layout.{codedAt, part}
+use Rattle.rules.specs.Layout.{codedCountAt, part}
 use Rattle.rules.specs.Record.{codesIn, pad}
 use Rattle.resolutions.specs.Coded.{codedResolutions}
 use Rattle.rules.specs.Reading.{readCode}
@@ -40,12 +40,12 @@ rowOf codes channel subframe = part 128 codes (channel * 8 + subframe)
 
 -- the coded codes of a subframe
 abbrev pub subframeIn : (l : Layout) (codes : List ℤ) (subframe : ℕ) → List (List ℤ)
-subframeIn l codes subframe = build (λ c. take (codedAt l c) (rowOf codes c subframe)) (l .channels)
+subframeIn l codes subframe = build (λ c. take (codedCountAt l c) (rowOf codes c subframe)) (l .channels)
 
 -- what reading subframe s tells of a reader's result x: the subframe's rows are stored, and no other row changes
 pub record Subframe (l : Layout) (frame : List ℕ) (x : Read (List (List ℤ))) (s : ℕ) (before after : List ℤ) (r : Step) : Type 0 where
   pub done : Done frame x (subframeIn l after s) r
-  pub blank : ifDone r ((c : ℕ) → c < l .channels → Blank (codedAt l c) (rowOf after c s))
+  pub blank : ifDone r ((c : ℕ) → c < l .channels → Blank (codedCountAt l c) (rowOf after c s))
   pub kept : ifDone r ((c t : ℕ) → c < l .channels → t < 8 → (t ≡ s → ⊥) → rowOf after c t ≡ rowOf before c t)
 
 -- what reading all eight tells: the buffer holds the codes that were read, and zeros

@@ -13,7 +13,7 @@ use Rattle.rules.specs.Format.{Read, ok, bad, oneOf}
 use Rattle.rules.specs.Tables.{maxBitTable}
 use Rattle.rules.specs.Fields.{smallBits}
 use Rattle.rules.specs.Reading.{codesTo}
-use Rattle.quantizer.specs.Packed.{entryOf}
+use Rattle.quantizer.specs.SixteenInOne.{entryOf}
 
 -- how many bits are looked at: MAX_BIT_TABLE
 abbrev pub wordBits : (r : ℕ) → ℕ

@@ -11,7 +11,7 @@ ghost use lib.ListN.{length, take};
 ghost use Rattle.bits.specs.Place.{leftAt};
 ghost use Rattle.buffers.specs.Walk.{AtMost};
 ghost use Rattle.rules.specs.Format.{each};
-ghost use Rattle.rules.specs.Layout.{Sizes, spectrumLength, factorLength};
+ghost use Rattle.rules.specs.Layout.{LegalLayout, spectrumLength, factorLength};
 ghost use Rattle.rules.specs.Reading.{readCode};
 ghost use Rattle.reader_codes.specs.Rows.{readSubframe, readSubframes, StoredCodes, Subframe, Subframes};
 use crate::one_code::Code;
@@ -24,7 +24,7 @@ use reader_channels::values::faults::Step;
 use rules::Layout;
 
 // One subframe of one channel: the codes of its coded bands, and zeros behind them.
-fn read_spectra(
+fn read_band_codes(
     part: &[u8],
     place: Place,
     resolutions: &[u8],
@@ -60,7 +60,7 @@ fn read_subframe(
     resolutions: &[u8],
     codes: &mut [i32],
 ) -> Step
-    requires { ⌜ Sizes layout ⌝ }
+    requires { ⌜ LegalLayout layout ⌝ }
     requires { ⌜ (subframe < 8) × (length (now part) ≤ 65535) × (place .at ≤ 8 * length (now part)) ⌝ }
     requires { ⌜ (length (now resolutions) ≡ factorLength layout) × (length (now codes) ≡ spectrumLength layout)
         × AtMost 15 (now resolutions) ⌝ }
@@ -75,7 +75,7 @@ fn read_subframe(
         let coded = coded_count(layout, c);
         let from = c * 128;
         let to = (c * 8 + subframe) * 128;
-        let step = read_spectra(
+        let step = read_band_codes(
             part,
             at,
             &resolutions[from..from + 128],
@@ -92,14 +92,14 @@ fn read_subframe(
 }
 
 // The codes of a frame: subframe by subframe, channel by channel.
-pub fn read_all_spectra(
+pub fn read_all_codes(
     layout: Layout,
     part: &[u8],
     place: Place,
     resolutions: &[u8],
     codes: &mut [i32],
 ) -> Step
-    requires { ⌜ Sizes layout ⌝ }
+    requires { ⌜ LegalLayout layout ⌝ }
     requires { ⌜ (length (now part) ≤ 65535) × (place .at ≤ 8 * length (now part)) ⌝ }
     requires { ⌜ (length (now resolutions) ≡ factorLength layout) × (length (now codes) ≡ spectrumLength layout)
         × AtMost 15 (now resolutions) ⌝ }

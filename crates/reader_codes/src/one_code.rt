@@ -5,7 +5,7 @@ ghost use Rattle.bits.specs.Place.{leftAt};
 ghost use Rattle.rules.specs.Format.{oneOf};
 ghost use Rattle.rules.specs.Fields.{smallBits};
 ghost use Rattle.rules.specs.Reading.{codesTo, readCode};
-ghost use Rattle.reader_codes.specs.CodeTold.{signedCode, CodeTold};
+ghost use Rattle.reader_codes.specs.CodeAgrees.{signedCode, CodeAgrees};
 use crate::lookup::seen_code;
 use crate::lookup::seen_length;
 use crate::lookup::with_sign;
@@ -23,7 +23,7 @@ pub enum Code {
 // A code below resolution 8: one look ahead finds it and how many bits it has, and then its field is taken.
 fn read_word(part: &[u8], place: Place, resolution: u8) -> Code
     requires { ⌜ (length (now part) ≤ 65535) × (place .at ≤ 8 * length (now part)) × (1 ≤ resolution) × (resolution < 8) ⌝ }
-    ensures { λ r. ⌜ CodeTold (now (part .entry)) (place .at)
+    ensures { λ r. ⌜ CodeAgrees (now (part .entry)) (place .at)
         (oneOf (smallBits resolution) (codesTo resolution) (leftAt (now (part .entry)) (place .at))) r ⌝ }
 {
     let seen = place.look(part, word_bits(resolution));
@@ -36,7 +36,7 @@ fn read_word(part: &[u8], place: Place, resolution: u8) -> Code
 // A code from resolution 8 up, which is one field with its sign bit.
 fn read_signed(part: &[u8], place: Place, resolution: u8) -> Code
     requires { ⌜ (length (now part) ≤ 65535) × (place .at ≤ 8 * length (now part)) × (resolution ≤ 15) ⌝ }
-    ensures { λ r. ⌜ CodeTold (now (part .entry)) (place .at) (signedCode resolution (leftAt (now (part .entry)) (place .at))) r ⌝ }
+    ensures { λ r. ⌜ CodeAgrees (now (part .entry)) (place .at) (signedCode resolution (leftAt (now (part .entry)) (place .at))) r ⌝ }
 {
     let Field::Of(magnitude, next) = place.get(part, magnitude_bits(resolution)) else {
         return Code::Past(place.at);
@@ -52,7 +52,7 @@ fn read_signed(part: &[u8], place: Place, resolution: u8) -> Code
 
 pub fn read_code(part: &[u8], place: Place, resolution: u8) -> Code
     requires { ⌜ (length (now part) ≤ 65535) × (place .at ≤ 8 * length (now part)) × (resolution ≤ 15) ⌝ }
-    ensures { λ r. ⌜ CodeTold (now (part .entry)) (place .at) (readCode resolution (leftAt (now (part .entry)) (place .at))) r ⌝ }
+    ensures { λ r. ⌜ CodeAgrees (now (part .entry)) (place .at) (readCode resolution (leftAt (now (part .entry)) (place .at))) r ⌝ }
 {
     if resolution == 0 {
         return Code::Of(0, place);

@@ -12,7 +12,7 @@ use replay_vectors::lines::Left;
 use replay_vectors::lines::Verdict;
 use replay_vectors::lines::judge_case;
 use replay_vectors::lines::not_run;
-use replay_vectors::lines::refusal_told;
+use replay_vectors::lines::refusal_said;
 use replay_vectors::runs::runs_f32;
 use replay_vectors::sums::sum_f32;
 use replay_vectors::sums::sum_i32;
@@ -25,7 +25,7 @@ use system::words::word;
 
 fn stage_answer(answer: StageAnswer) -> Numbers {
     let StageAnswer::Delivered(level, boundary, pairs, bits) = answer else {
-        return refusal_told(stage_refusal(answer));
+        return refusal_said(stage_refusal(answer));
     };
     Numbers {
         a: 0,

@@ -14,7 +14,7 @@ use replay_vectors::lines::Verdict;
 use replay_vectors::lines::delivered;
 use replay_vectors::lines::judge_case;
 use replay_vectors::lines::not_run;
-use replay_vectors::lines::refusal_told;
+use replay_vectors::lines::refusal_said;
 use replay_vectors::lines::verdict_for;
 use replay_vectors::runs::runs_i32;
 use replay_vectors::sums::sum_i32;
@@ -28,7 +28,7 @@ use system::words::word;
 
 fn read_answer(answer: ReadAnswer) -> Numbers {
     let ReadAnswer::Delivered(level, boundary, bits) = answer else {
-        return refusal_told(read_refusal(answer));
+        return refusal_said(read_refusal(answer));
     };
     delivered(level, boundary, bits)
 }
@@ -89,7 +89,7 @@ pub(crate) fn read_case(body: &[u8]) -> CaseOutcome {
 
 fn write_answer(answer: WriteAnswer) -> Numbers {
     let WriteAnswer::Delivered(level, boundary, bits) = answer else {
-        return refusal_told(write_refusal(answer));
+        return refusal_said(write_refusal(answer));
     };
     delivered(level, boundary, bits)
 }
@@ -175,7 +175,7 @@ pub(crate) fn check_case(body: &[u8]) -> CaseOutcome {
     let check = sealing::crc16_checksum(&body[a..e]) as usize;
     let is_same = check == word(body, e);
     CaseOutcome {
-        answer: refusal_told(refused(0, check)),
+        answer: refusal_said(refused(0, check)),
         verdict: verdict_for(is_same, ahead(e, 4) == body.len()),
     }
 }

@@ -35,7 +35,7 @@ pub struct Tally {
 }
 
 // An answer place that no call writes holds 0x5A5A5A5A.
-pub fn refusal_told(refusal: Refusal) -> Numbers {
+pub fn refusal_said(refusal: Refusal) -> Numbers {
     Numbers {
         a: refusal.number,
         b: refusal.beside,
@@ -71,18 +71,18 @@ pub fn verdict_for(is_same: bool, is_whole: bool) -> Verdict {
 pub fn judge_case(body: &[u8], at: usize, left: Left, n: usize) -> CaseOutcome {
     let answer = left.answer;
     let sums = left.sums;
-    let is_told = are_same(numbers_at(body, at), answer);
+    let is_said = are_same(numbers_at(body, at), answer);
     let is_left = are_same(numbers_at(body, ahead(at, 20)), sums);
     CaseOutcome {
         answer: answer,
-        verdict: verdict_for(is_told && is_left, ahead(at, n) == body.len()),
+        verdict: verdict_for(is_said && is_left, ahead(at, n) == body.len()),
     }
 }
 
 // Of a case that is not run.
 pub fn not_run(verdict: Verdict) -> CaseOutcome {
     CaseOutcome {
-        answer: refusal_told(refused(0, 0)),
+        answer: refusal_said(refused(0, 0)),
         verdict: verdict,
     }
 }
@@ -127,10 +127,10 @@ pub fn is_damaged(verdict: Verdict) -> bool {
 pub fn say_outcome(number: usize, kind: usize, outcome: CaseOutcome) {
     let verdict = outcome.verdict;
     let n = verdict_number(verdict);
-    let told = if n < 2 { kind } else { 0 };
+    let shown = if n < 2 { kind } else { 0 };
     let mut line = [0u8; 256];
     let a = put_form(&mut line, 0, b"case # kind #", &[number, kind]);
-    let b = put_answer(&mut line, a, told, outcome.answer);
+    let b = put_answer(&mut line, a, shown, outcome.answer);
     let end = put_entry(
         &mut line,
         b,

@@ -13,8 +13,9 @@ use Rattle.buffers.proofs.Tests.{cond-bound}
 use Rattle.buffers.proofs.Build.{length-build, build-at, build-of, map-build}
 use Rattle.buffers.proofs.Most.{build-most, blocks-most}
 use Rattle.rules.specs.Tables.{resolutionCurve}
-use Rattle.rules.specs.Layout.{Sizes, codedAt, part, factorLength}
-use Rattle.rules.specs.Resolution.{heldPosition, noiseAt, resolutionIn, resolution, resolutionAt, resolutionsOf, bandResolution, channelResolutions, allResolutions}
+use Rattle.rules.specs.Layout.{LegalLayout, codedCountAt, part, factorLength}
+use Rattle.rules.specs.Resolution.{heldPosition, noiseAt, resolutionIn, resolution, resolutionAt, resolutionsOf, bandResolution, channelResolutions}
+use Rattle.rules.specs.Resolution.{allResolutions}
 use Rattle.rules.specs.Record.{Chan, resolutions, chanOf}
 use Rattle.resolutions.specs.Coded.{codedResolutions}
 use Rattle.rules.specs.declared.Layout.{Layout}
@@ -38,21 +39,25 @@ coded-resolutions level boundary fs coded e h =
     let n : length (take coded fs) ≡ coded = length-take-le coded fs (omega arith) in
     let f : ℕ → ℕ = bandResolution level boundary fs coded in
     rw n
-    (build-of (resolutionAt level boundary (take coded fs)) coded 0 (take coded (build f 128)) (length-take-le coded (build f 128) (omega (arith, length-build f 128)))
-    (λ i lt. getD-take coded (build f 128) i 0 lt ∙ build-at f 128 i 0 (omega arith) ∙ rw (lt-ltb i coded lt) (ap (resolution (noiseAt level boundary i)) (sym (getD-take coded fs i 0 lt)))))
+    (build-of (resolutionAt level boundary (take coded fs)) coded 0 (take coded (build f 128))
+    (length-take-le coded (build f 128) (omega (arith, length-build f 128)))
+    (λ i lt. getD-take coded (build f 128) i 0 lt ∙ build-at f 128 i 0 (omega arith)
+    ∙ rw (lt-ltb i coded lt) (ap (resolution (noiseAt level boundary i)) (sym (getD-take coded fs i 0 lt)))))
 
 -- the resolutions of all bands
 module _ (l : Layout) (level boundary : ℕ) (factors : List ℕ) where
   pub resolutions-most : AtMost 15 (allResolutions l level boundary factors)
   unfolding allResolutions channelResolutions
   resolutions-most =
-      blocks-most 15 (resolutionsAt l level boundary factors) (λ c. build-most 15 (bandResolution level boundary (part 128 factors c) (codedAt l c)) (band-le _ _ _ _) 128) (l .channels)
+      blocks-most 15 (resolutionsAt l level boundary factors)
+      (λ c. build-most 15 (bandResolution level boundary (part 128 factors c) (codedCountAt l c)) (band-le _ _ _ _) 128) (l .channels)
 
   -- those of the coded bands are those of the record in the buffers
-  pub resolutions-are : (side : List ℕ) → Sizes l → length factors ≡ factorLength l
-      → build (codedResolutions l (allResolutions l level boundary factors)) (l .channels) ≡ resolutions level boundary (build (chanOf l factors side) (l .channels))
+  pub resolutions-are : (side : List ℕ) → LegalLayout l → length factors ≡ factorLength l
+      → build (codedResolutions l (allResolutions l level boundary factors)) (l .channels)
+      ≡ resolutions level boundary (build (chanOf l factors side) (l .channels))
   resolutions-are side z e =
-      build-same _ (λ c. resolutionsOf level boundary (take (codedAt l c) (part 128 factors c))) (l .channels)
-      (λ c h. ap (take (codedAt l c)) (resolutions-part l level boundary factors c h)
-      ∙ coded-resolutions level boundary (part 128 factors c) (codedAt l c) (length-part 128 (l .channels) c factors (omega arith) h) (coded-few l z c))
+      build-same _ (λ c. resolutionsOf level boundary (take (codedCountAt l c) (part 128 factors c))) (l .channels)
+      (λ c h. ap (take (codedCountAt l c)) (resolutions-part l level boundary factors c h)
+      ∙ coded-resolutions level boundary (part 128 factors c) (codedCountAt l c) (length-part 128 (l .channels) c factors (omega arith) h) (coded-few l z c))
       ∙ sym (map-build (λ (c : Chan). resolutionsOf level boundary (c .factors)) (chanOf l factors side) (l .channels))

@@ -5,14 +5,14 @@ use native.Mathlib.Omega.{arith}
 use lib.ListN.{getD, take, drop}
 use Rattle.buffers.specs.Walk.{build}
 use Rattle.rules.specs.Tables.{resolutionCurve}
-use Rattle.quantizer.specs.Packed.{packedRow, entryOf}
+use Rattle.quantizer.specs.SixteenInOne.{sixteenInOne, entryOf}
 use Rattle.quantizer.proofs.Entries.{build-agrees}
 
 abbrev pub curveRow : ℕ → ℕ
-curveRow i = packedRow (take 16 (drop (16 * i) resolutionCurve))
+curveRow i = sixteenInOne (take 16 (drop (16 * i) resolutionCurve))
 
 curve-test : build (λ (i : ℕ). entryOf (curveRow (i / 16)) (i % 16)) 59 ≡ build (λ (i : ℕ). getD resolutionCurve i 0) 59
-unfolding build packedRow resolutionCurve
+unfolding build sixteenInOne resolutionCurve
 curve-test = refl
 
 pub curve-entry : (i : ℕ) → i ≤ 58 → entryOf (curveRow (i / 16)) (i % 16) ≡ getD resolutionCurve i 0

@@ -35,11 +35,13 @@ held-is noise factor = go noise (5 * factor / 2)
         low : (n : ℕ) → a + suc n ≡ suc k → natAbs (heldZ (pos 0) (pos 58) (negsuc n +ℤ pos 2)) ≡ min (a + 2 - suc k) 58
         low n e = under (ltb 2 (suc n)) refl
           where
-            under : (t : Bool) → ltb 2 (suc n) ≡ t → natAbs (heldZ (pos 0) (pos 58) (cond t (negsuc (suc n - suc 2)) (pos (2 - suc n)))) ≡ min (a + 2 - suc k) 58
+            under : (t : Bool) → ltb 2 (suc n) ≡ t → natAbs (heldZ (pos 0) (pos 58) (cond t (negsuc (suc n - suc 2)) (pos (2 - suc n))))
+                ≡ min (a + 2 - suc k) 58
             under true q = let h = ltb-true 2 (suc n) q in unfold heldZ in omega arith
             under false q = let h = ltb-false 2 (suc n) q in inside (2 - suc n) ∙ omega arith
 
-        by : (t : Bool) → ltb a (suc k) ≡ t → natAbs (heldZ (pos 0) (pos 58) (cond t (negsuc (suc k - suc a)) (pos (a - suc k)) +ℤ pos 2)) ≡ min (a + 2 - suc k) 58
+        by : (t : Bool) → ltb a (suc k) ≡ t → natAbs (heldZ (pos 0) (pos 58) (cond t (negsuc (suc k - suc a)) (pos (a - suc k)) +ℤ pos 2))
+            ≡ min (a + 2 - suc k) 58
         by true e = let h = ltb-true a (suc k) e in low (suc k - suc a) (omega arith)
         by false e = let h = ltb-false a (suc k) e in inside (a - suc k + 2) ∙ omega arith
 
@@ -60,7 +62,8 @@ stretched-entry factor noise h l = go (eqb factor 0) refl
   where
     go : (t : Bool) → eqb factor 0 ≡ t
         → getD stretchedCurve (cond t 417 (159 - 5 * factor / 2) + noise) 0 ≡ cond t 0 (min (max (getD resolutionCurve (heldPosition noise factor) 0) 1) 15)
-    go true e = let k : 417 + noise < 688 = omega arith in let q : 416 ≤ 417 + noise = omega arith in entry-is (417 + noise) k ∙ ap (λ b. cond b (held-entry (417 + noise)) 0) (le-ltb (417 + noise) 416 q)
+    go true e = let k : 417 + noise < 688 = omega arith in let q : 416 ≤ 417 + noise = omega arith in
+        entry-is (417 + noise) k ∙ ap (λ b. cond b (held-entry (417 + noise)) 0) (le-ltb (417 + noise) 416 q)
     go false e =
         let i = 159 - 5 * factor / 2 + noise in
         let n = eqb-false factor 0 e in

@@ -2,8 +2,8 @@
 use mathlib.Core.List.{List}
 use Prim.Native.Nat.{ℕ}
 use lib.ListN.{take}
-use Rattle.rules.specs.Layout.{codedAt, part}
+use Rattle.rules.specs.Layout.{codedCountAt, part}
 use Rattle.rules.specs.declared.Layout.{Layout}
 
 abbrev pub codedResolutions : (l : Layout) (resolutions : List ℕ) (channel : ℕ) → List ℕ
-codedResolutions l resolutions c = take (codedAt l c) (part 128 resolutions c)
+codedResolutions l resolutions channel = take (codedCountAt l channel) (part 128 resolutions channel)

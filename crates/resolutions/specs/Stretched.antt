@@ -1,4 +1,5 @@
--- SCALE_TO_RESOLUTION_CURVE, stretched: with its first entry before it and its last after it, so that no position is held, and a removed band's zeros behind. Definitions only.
+-- SCALE_TO_RESOLUTION_CURVE, stretched: with its first entry before it and its last after it, so that no position is held, and a removed band's zeros behind.
+-- Definitions only.
 use mathlib.Core.Path.{_≡_}
 use mathlib.Core.Bool.{cond}
 use mathlib.Core.List.{List, _++_}

@@ -8,7 +8,7 @@ ghost use mathlib.Core.Bool.{cond};
 ghost use Prim.Native.Nat.{_*_, _≤_, min, max};
 ghost use lib.Dec.{ltb};
 ghost use lib.ListN.{length};
-ghost use Rattle.rules.specs.Layout.{Sizes};
+ghost use Rattle.rules.specs.Layout.{LegalLayout};
 ghost use Rattle.rules.specs.Resolution.{noiseAt, heldPosition, resolutionIn, resolution, channelResolutions, allResolutions};
 use crate::noise_curve::curve;
 use crate::noise_curve::noise_at;
@@ -94,7 +94,7 @@ pub fn calculate_frame_resolutions(
     factors: &[u8],
     resolutions: &mut [u8],
 )
-    requires { ⌜ Sizes layout ⌝ }
+    requires { ⌜ LegalLayout layout ⌝ }
     requires { ⌜ level ≤ 511 ⌝ }
     requires { ⌜ (length (now factors) ≡ layout .channels * 128) × (length (now resolutions) ≡ layout .channels * 128) ⌝ }
     ensures { λ r. ⌜ now (resolutions .exit) ≡ allResolutions layout level boundary (now (factors .entry)) ⌝ }

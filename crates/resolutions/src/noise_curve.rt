@@ -4,7 +4,7 @@ ghost use Prim.Native.Nat.{_*_, _≤_};
 ghost use lib.ListN.{getD, take, drop};
 ghost use Rattle.rules.specs.Tables.{resolutionCurve};
 ghost use Rattle.rules.specs.Resolution.{noiseAt, resolution};
-ghost use Rattle.quantizer.specs.Packed.{packedRow};
+ghost use Rattle.quantizer.specs.SixteenInOne.{sixteenInOne};
 ghost use Rattle.resolutions.specs.Stretched.{IsStretched, placeOf};
 use quantizer::tables::row_entry;
 
@@ -25,7 +25,7 @@ pub fn noise_at(level: usize, boundary: usize, band: usize) -> usize
 // SCALE_TO_RESOLUTION_CURVE, sixteen entries in a number as in the quantizer's tables.
 fn curve_row(i: usize) -> u64
     requires { ⌜ i ≤ 3 ⌝ }
-    ensures { λ r. ⌜ r ≡ packedRow (take 16 (drop (16 * i) resolutionCurve)) ⌝ }
+    ensures { λ r. ⌜ r ≡ sixteenInOne (take 16 (drop (16 * i) resolutionCurve)) ⌝ }
 {
     match i {
         0 => 0xCCCD_DDDD_DEEE_EEEF,

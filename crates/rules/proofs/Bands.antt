@@ -7,7 +7,7 @@ use borrow.Author.Tests.{lt-ltb, le-ltb}
 use lib.ListN.{length, getD, take}
 use Rattle.buffers.proofs.Build.{length-build, build-at}
 use Rattle.buffers.proofs.Blocks.{length-blocks}
-use Rattle.rules.specs.Layout.{codedAt, factorLength, part}
+use Rattle.rules.specs.Layout.{codedCountAt, factorLength, part}
 use Rattle.rules.specs.Resolution.{resolutionAt, bandResolution, channelResolutions, allResolutions}
 use Rattle.rules.specs.declared.Layout.{Layout}
 use Rattle.rules.proofs.Cuts.{blocks-same, block-part, part-of-front}
@@ -32,7 +32,7 @@ module _ (level boundary : ℕ) (fs : List ℕ) (coded : ℕ) where
 
 -- channel c's, in a frame
 abbrev pub resolutionsAt : (l : Layout) (level boundary : ℕ) (factors : List ℕ) (channel : ℕ) → List ℕ
-resolutionsAt l level boundary factors c = channelResolutions level boundary (part 128 factors c) (codedAt l c)
+resolutionsAt l level boundary factors c = channelResolutions level boundary (part 128 factors c) (codedCountAt l c)
 
 module _ (l : Layout) (level boundary : ℕ) (factors : List ℕ) where
   pub resolutions-long : length (allResolutions l level boundary factors) ≡ factorLength l

@@ -119,7 +119,9 @@ pub record Worked : Type 0 where
   fill : scan (flat 1 1) (head 0 0 (bits 3 0 ++ bits 13 1)) ≡ faulty 14 47
 
 pub worked-frames : Worked
-unfolding strict isSealed checksum frameOf pack bitsOf fields filledFields scan readFields readRecord kindsOf kindAt build groupCount bandsPerGroup ceilDiv width allZero cheaper cost deltaCost laterCost near bits value number resolutionsOf resolutionAt resolution resolutionIn heldPosition curvePosition noiseAt resolutionCurve heldZ codeBits readCode smallBits codePlace magnitudeBits maxBitTable spectrumBits spectrumValue strip oneOf deltaBits deltaSymbol
+unfolding strict isSealed checksum frameOf pack bitsOf fields filledFields scan readFields readRecord kindsOf kindAt build groupCount bandsPerGroup ceilDiv
+    width allZero cheaper cost deltaCost laterCost near bits value number resolutionsOf resolutionAt resolution resolutionIn heldPosition curvePosition noiseAt
+    resolutionCurve heldZ codeBits readCode smallBits codePlace magnitudeBits maxBitTable spectrumBits spectrumValue strip oneOf deltaBits deltaSymbol
 worked-frames = record {
   silent = refl;
   sixth = refl;

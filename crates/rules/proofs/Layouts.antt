@@ -7,11 +7,12 @@ use native.Mathlib.Omega.{arith}
 use borrow.Author.Tests.{le-leb, leb-true, eqb-false, ne-eqb}
 use lib.Dec.{leb, eqb}
 use Rattle.buffers.proofs.Tests.{and-fst, and-snd, not-true-false, cond-bound}
-use Rattle.rules.specs.Layout.{legalLayout, Sizes, frameSize, kindAt, isSecondary, startBand, hfrBands, ceilDiv, bandsPerGroup, groupCount, codedAt, sidesAt, spectrumLength, factorLength, sideLength, hasRoom, Enough}
+use Rattle.rules.specs.Layout.{legalLayout, LegalLayout, frameSize, kindAt, isSecondary, startBand, hfrBands, ceilDiv, bandsPerGroup, groupCount}
+use Rattle.rules.specs.Layout.{codedCountAt, sideCountAt, spectrumLength, factorLength, sideLength, hasRoom, HasRoom}
 use Rattle.rules.specs.declared.Layout.{Layout}
 use Rattle.rules.specs.declared.Room.{Room}
 
-pub legal-true : (l : Layout) → Sizes l → legalLayout l ≡ true
+pub legal-true : (l : Layout) → LegalLayout l → legalLayout l ≡ true
 unfolding legalLayout
 legal-true l h =
     rw (
@@ -24,7 +25,7 @@ legal-true l h =
       le-leb _ _ (h .large),
     )
 
-pub legal-sizes : (l : Layout) → legalLayout l ≡ true → Sizes l
+pub legal-sizes : (l : Layout) → legalLayout l ≡ true → LegalLayout l
 unfolding legalLayout
 legal-sizes l e₁ =
     let e₂ = and-snd (leb 1 (l .channels)) _ e₁ in
@@ -42,16 +43,16 @@ legal-sizes l e₁ =
       large = leb-true _ _ (and-snd (leb 8 (frameSize l)) _ e₆);
     }
 
-pub legal-false : (l : Layout) → (Sizes l → ⊥) → legalLayout l ≡ false
+pub legal-false : (l : Layout) → (LegalLayout l → ⊥) → legalLayout l ≡ false
 legal-false l h = not-true-false (legalLayout l) (λ e. h (legal-sizes l e))
 
 -- room for a record and its frame
 module _ (l : Layout) (r : Room) where
-  pub room-true : Enough l r → hasRoom l r ≡ true
+  pub room-true : HasRoom l r → hasRoom l r ≡ true
   unfolding hasRoom
   room-true h = rw (le-leb _ _ (h .factors), le-leb _ _ (h .side), le-leb _ _ (h .codes), le-leb _ _ (h .frame))
 
-  pub room-facts : hasRoom l r ≡ true → Enough l r
+  pub room-facts : hasRoom l r ≡ true → HasRoom l r
   unfolding hasRoom
   room-facts e₁ =
       let e₂ = and-snd (leb (factorLength l) (r .factors)) _ e₁ in
@@ -63,12 +64,12 @@ module _ (l : Layout) (r : Room) where
         frame = leb-true _ _ (and-snd (leb (spectrumLength l) (r .codes)) _ e₃);
       }
 
-  pub room-false : (Enough l r → ⊥) → hasRoom l r ≡ false
+  pub room-false : (HasRoom l r → ⊥) → hasRoom l r ≡ false
   room-false h = not-true-false (hasRoom l r) (λ e. h (room-facts e))
 
 -- a coded count is at most N
-pub coded-le : (l : Layout) (c : ℕ) → codedAt l c ≤ startBand l
-unfolding codedAt
+pub coded-le : (l : Layout) (c : ℕ) → codedCountAt l c ≤ startBand l
+unfolding codedCountAt
 coded-le l c = cond-bound (isSecondary (kindAt l c)) (λ _. omega arith) (λ _. omega arith)
 
 -- at most eight groups
@@ -92,10 +93,10 @@ groups-are l g n p q h =
     let is : (l .total - n + (g - 1)) / g ≡ groupCount l = rw (q, ← p, ne-eqb g 0 h) in
     (is, rw is (groups-le l))
 
-pub sides-le : (l : Layout) (c : ℕ) → sidesAt l c ≤ 8
-unfolding sidesAt
+pub sides-le : (l : Layout) (c : ℕ) → sideCountAt l c ≤ 8
+unfolding sideCountAt
 sides-le l c = cond-bound (isSecondary (kindAt l c)) (λ _. omega arith) (λ _. groups-le l)
 
 -- a coded count fits its row
-pub coded-few : (l : Layout) → Sizes l → (c : ℕ) → codedAt l c ≤ 128
+pub coded-few : (l : Layout) → LegalLayout l → (c : ℕ) → codedCountAt l c ≤ 128
 coded-few l z c = omega (arith, coded-le l c)

@@ -10,7 +10,7 @@ use borrow.Author.Tests.{lt-ltb, le-ltb, ltb-true}
 use lib.Dec.{ltb}
 use Rattle.buffers.proofs.Tests.{cond-same, cond-bound}
 use Rattle.buffers.proofs.Scan.{left-suc}
-use Rattle.rules.specs.Level.{halve, levelOf, clearPair, Found, remove}
+use Rattle.rules.specs.Level.{halve, levelOf, clearPair, LevelFound, remove}
 use Rattle.rules.specs.declared.Layout.{Layout}
 
 module _ (over : ℕ → Bool) where
@@ -75,7 +75,7 @@ cond-is true f g = f refl
 cond-is false f g = g refl
 
 -- THE REMOVAL, as its loop takes it
-abbrev pub foundAt : (List ℕ → ℕ → Bool) → ℕ → List ℕ → Found
+abbrev pub foundAt : (List ℕ → ℕ → Bool) → ℕ → List ℕ → LevelFound
 foundAt over pairs factors = record { level = levelOf (over factors); pairs = pairs; factors = factors }
 
 module _ (l : Layout) (over : List ℕ → ℕ → Bool) (top pairs : ℕ) (factors : List ℕ) where

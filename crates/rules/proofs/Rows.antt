@@ -71,7 +71,9 @@ results =
     ∷ []
 
 pub rows : map (map answer) questions ≡ map (map pos) results
-unfolding answer questions results factorOf countLe scalingTable resolution resolutionIn heldPosition curvePosition resolutionCurve heldZ width widthCost cheaper allZero cost deltaCost laterCost near codeOf rawCode stepOf stepShift stepTable codeLimit magnitudeBits maxBitTable valueBits codePlace deadZoneTable codeBits smallBits spectrumBits spectrumValue bits absF ofBits le add mul toSigned
+unfolding answer questions results factorOf countLe scalingTable resolution resolutionIn heldPosition curvePosition resolutionCurve heldZ width widthCost
+    cheaper allZero cost deltaCost laterCost near codeOf rawCode stepOf stepShift stepTable codeLimit magnitudeBits maxBitTable valueBits codePlace
+    deadZoneTable codeBits smallBits spectrumBits spectrumValue bits absF ofBits le add mul toSigned
 rows = refl
 
 -- The corner of the upper clip: the codes are 3, 5 and 6 at resolutions 2, 4 and 5, one past the range. They get no bits, and none are counted.

@@ -8,7 +8,7 @@ use lib.ListN.{take}
 use Rattle.buffers.specs.Walk.{build, blocks}
 use Rattle.floats.specs.Single.{folded, maxAbs, zeroF}
 use Rattle.rules.specs.Tables.{scalingTable}
-use Rattle.rules.specs.Layout.{codedAt, part}
+use Rattle.rules.specs.Layout.{codedCountAt, part}
 use Rattle.rules.specs.declared.Layout.{Layout}
 
 -- how many values of a list are at most v
@@ -22,15 +22,15 @@ factorOf v = countLe v (take 63 scalingTable)
 
 -- a band's value: the largest magnitude over eight subframes. xs are a channel's 1,024 spectra by subframe and band
 unfoldable pub peakOf : (spectra : List Float) (band : ℕ) → Float
-peakOf xs b = folded maxAbs xs b 128 8 zeroF
+peakOf spectra band = folded maxAbs spectra band 128 8 zeroF
 
 -- a channel's 128 factors; past the coded count they are cleared
 unfoldable pub bandFactor : (spectra : List Float) (coded band : ℕ) → ℕ
-bandFactor xs coded b = cond (ltb b coded) (factorOf (peakOf xs b)) 0
+bandFactor spectra coded band = cond (ltb band coded) (factorOf (peakOf spectra band)) 0
 
 unfoldable pub channelFactors : (spectra : List Float) (coded : ℕ) → List ℕ
-channelFactors xs coded = build (bandFactor xs coded) 128
+channelFactors spectra coded = build (bandFactor spectra coded) 128
 
 -- the factors of every channel
 unfoldable pub allFactors : (l : Layout) (spectra : List Float) → List ℕ
-allFactors l spectra = blocks (λ c. channelFactors (part 1024 spectra c) (codedAt l c)) (l .channels)
+allFactors l spectra = blocks (λ c. channelFactors (part 1024 spectra c) (codedCountAt l c)) (l .channels)

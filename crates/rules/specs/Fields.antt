@@ -25,8 +25,8 @@ deltaBits d previous factor = bits d (deltaSymbol d previous factor) ++ cond (ne
 
 -- a factor at width w, after the factor before it if there is one: at width 6, and the first, in 6 bits
 abbrev pub factorBits : (width : ℕ) (previous : Option ℕ) (factor : ℕ) → List Bool
-factorBits w none factor = bits 6 factor
-factorBits w (some previous) factor = cond (eqb w 6) (bits 6 factor) (deltaBits w previous factor)
+factorBits width none factor = bits 6 factor
+factorBits width (some previous) factor = cond (eqb width 6) (bits 6 factor) (deltaBits width previous factor)
 
 -- the factor just passed is the next one's previous
 abbrev pub asPrevious : (previous : Option ℕ) (factor : ℕ) → Option ℕ
@@ -34,18 +34,18 @@ asPrevious previous factor = some factor
 
 -- width 0: none
 abbrev pub allFactorBits : (width coded : ℕ) (factors : List ℕ) → List Bool
-allFactorBits zero n fs = []
-allFactorBits (suc w) n fs = walkBits asPrevious (λ previous _. factorBits (suc w) previous) none (times n) fs
+allFactorBits zero coded factors = []
+allFactorBits (suc w) coded factors = walkBits asPrevious (λ previous _. factorBits (suc w) previous) none (times coded) factors
 
 -- per channel: width (3), factors, then 8 x 4 bits of intensity or G x 6 of HFR scale
 abbrev pub channelFields : (l : Layout) (kind : ChannelType) (chan : Chan) → List Bool
-channelFields l k c =
-    (bits 3 (width (c .factors)) ++ allFactorBits (width (c .factors)) (codedCount l k) (c .factors))
-    ++ eachBits (λ _. bits (sideWidth k)) (times (sideCount l k)) (c .side)
+channelFields l kind chan =
+    (bits 3 (width (chan .factors)) ++ allFactorBits (width (chan .factors)) (codedCount l kind) (chan .factors))
+    ++ eachBits (λ _. bits (sideWidth kind)) (times (sideCount l kind)) (chan .side)
 
 -- a code below resolution 8: QUANTIZE_SPECTRUM_VALUE in its bit count
 unfoldable pub smallBits : (resolution : ℕ) (code : ℤ) → List Bool
-smallBits r c = bits (getD (getD spectrumBits r []) (codePlace c) 0) (getD (getD spectrumValue r []) (codePlace c) 0)
+smallBits resolution code = bits (getD (getD spectrumBits resolution []) (codePlace code) 0) (getD (getD spectrumValue resolution []) (codePlace code) 0)
 
 -- a sign bit (1 is negative) if the magnitude isn't 0
 abbrev pub signBits : (code : ℤ) → List Bool
@@ -55,7 +55,8 @@ signBits (negsuc n) = bits 1 1
 
 -- a code: none at resolution 0; below 8 by the tables; else the magnitude and its sign
 unfoldable pub codeBits : (resolution : ℕ) (code : ℤ) → List Bool
-codeBits r c = cond (eqb r 0) [] (cond (ltb r 8) (smallBits r c) (bits (magnitudeBits r) (natAbs c) ++ signBits c))
+codeBits resolution code = cond (eqb resolution 0) []
+    (cond (ltb resolution 8) (smallBits resolution code) (bits (magnitudeBits resolution) (natAbs code) ++ signBits code))
 
 -- FFFF (16 bits), level (9), boundary (7); per channel its fields; then subframe by subframe, channel by channel, the codes
 unfoldable pub fields : (l : Layout) (r : Rec) → List Bool

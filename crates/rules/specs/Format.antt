@@ -34,16 +34,16 @@ here f s = f (length s) s
 
 -- refusal n at the bit with l left, unless the value passes the test
 abbrev pub keep : {A : Type 0} (number left : ℕ) (test : Bool) (a : A) → Reader A
-keep n l true a = pure a
-keep n l false a = λ s. bad n l
+keep number left true a = pure a
+keep number left false a = λ s. bad number left
 
 abbrev pub require : {A : Type 0} (number left : ℕ) (test : A → Bool) (p : Reader A) → Reader A
-require n l test p = p >>= λ a. keep n l (test a) a
+require number left test p = p >>= λ a. keep number left (test a) a
 
 -- several fields that count as one: any refusal in them names the first bit
 abbrev pub from : {A : Type 0} (left : ℕ) (r : Read A) → Read A
-from l (ok a t) = ok a t
-from l (bad n k) = bad n l
+from left (ok a t) = ok a t
+from left (bad n k) = bad n left
 
 abbrev pub asOne : {A : Type 0} (p : Reader A) → Reader A
 asOne p s = from (length s) (p s)
@@ -88,7 +88,7 @@ times n = replicate n tt
 
 -- A number in k bits. Refusal 13 where fewer than k bits are left.
 unfoldable pub number : (bits : ℕ) → Reader ℕ
-number k s = cond (leb k (length s)) (ok (value (take k s)) (drop k s)) (bad 13 (length s))
+number bits s = cond (leb bits (length s)) (ok (value (take bits s)) (drop bits s)) (bad 13 (length s))
 
 -- One of a list of values, whichever's bits come next. Refusal 13 where none does.
 unfoldable pub strip : (word s : List Bool) → Option (List Bool)

@@ -22,15 +22,15 @@ bandsTaken f b (suc n) a = bandsTaken f (suc b) n (f b a)
 
 -- a group's average: the next g values of b, as far as they are below the limit
 unfoldable pub groupAverage : (f : ℕ → Average → Average) (limit bands group : ℕ) → Average
-groupAverage f limit g j = bandsTaken f (j * g) (min (suc j * g) limit - j * g) noAverage
+groupAverage f limit bands group = bandsTaken f (group * bands) (min (suc group * bands) limit - group * bands) noAverage
 
 -- the spectrum average runs from band N and stops at band 128, not at total
 unfoldable pub spectrumAverage : (l : Layout) (spectra : List Float) (group : ℕ) → Average
-spectrumAverage l xs j = groupAverage (λ b. withEight xs (startBand l + b) 128) (128 - startBand l) (bandsPerGroup l) j
+spectrumAverage l spectra group = groupAverage (λ b. withEight spectra (startBand l + b) 128) (128 - startBand l) (bandsPerGroup l) group
 
 -- the source average takes scaled band N - 1 - b for b rising, while b < min(HFR bands, N)
 unfoldable pub sourceAverage : (l : Layout) (scaled : List Float) (group : ℕ) → Average
-sourceAverage l sc j = groupAverage (λ b. withEight sc ((startBand l - 1 - b) * 8) 1) (min (hfrBands l) (startBand l)) (bandsPerGroup l) j
+sourceAverage l scaled group = groupAverage (λ b. withEight scaled ((startBand l - 1 - b) * 8) 1) (min (hfrBands l) (startBand l)) (bandsPerGroup l) group
 
 abbrev pub sqrt2 : Float
 sqrt2 = ofBits binary32 0x3FB504F3
@@ -41,21 +41,21 @@ groupValue spectrum source = cond (lt zeroF source) (mul binary32 spectrum (minF
 
 -- the scale of group j: its factor
 unfoldable pub hfrScale : (l : Layout) (spectra scaled : List Float) (group : ℕ) → ℕ
-hfrScale l xs sc j = factorOf (groupValue (mean (spectrumAverage l xs j)) (mean (sourceAverage l sc j)))
+hfrScale l spectra scaled group = factorOf (groupValue (mean (spectrumAverage l spectra group)) (mean (sourceAverage l scaled group)))
 
 -- Side holds a secondary's intensities, else the G HFR scales; the rest is zero
 unfoldable pub intensitySide : (intensities : List ℕ) → List ℕ
-intensitySide is = build (λ j. getD is j 0) 8
+intensitySide intensities = build (λ j. getD intensities j 0) 8
 
 unfoldable pub scaleSide : (l : Layout) (spectra scaled : List Float) → List ℕ
-scaleSide l xs sc = build (λ j. cond (ltb j (groupCount l)) (hfrScale l xs sc j) 0) 8
+scaleSide l spectra scaled = build (λ j. cond (ltb j (groupCount l)) (hfrScale l spectra scaled j) 0) 8
 
 unfoldable pub channelSide : (l : Layout) (channel : ℕ) (spectra scaled : List Float) (intensities : List ℕ) → List ℕ
-channelSide l c xs sc is = cond (secondaryAt l c) (intensitySide is) (scaleSide l xs sc)
+channelSide l channel spectra scaled intensities = cond (secondaryAt l channel) (intensitySide intensities) (scaleSide l spectra scaled)
 
 -- of channel c, and of every channel, in the buffers of all
-abbrev pub sideAt : (l : Layout) (spectra scaled : List Float) (intensities : List ℕ) (channel : ℕ) → List ℕ
-sideAt l spectra scaled intensities c = channelSide l c (part 1024 spectra c) (part 1024 scaled c) (part 8 intensities c)
+abbrev pub sideOf : (l : Layout) (spectra scaled : List Float) (intensities : List ℕ) (channel : ℕ) → List ℕ
+sideOf l spectra scaled intensities channel = channelSide l channel (part 1024 spectra channel) (part 1024 scaled channel) (part 8 intensities channel)
 
 unfoldable pub allSide : (l : Layout) (spectra scaled : List Float) (intensities : List ℕ) → List ℕ
-allSide l spectra scaled intensities = blocks (sideAt l spectra scaled intensities) (l .channels)
+allSide l spectra scaled intensities = blocks (sideOf l spectra scaled intensities) (l .channels)

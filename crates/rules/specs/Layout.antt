@@ -21,7 +21,7 @@ legalLayout l =
     && (leb (l .base + l .stereo) (l .total) && (leb 8 (frameSize l) && leb (frameSize l) 65535)))))
 
 -- the same as facts
-pub record Sizes (l : Layout) : Type 0 where
+pub record LegalLayout (l : Layout) : Type 0 where
   pub some : 1 ≤ l .channels
   pub few : l .channels ≤ 16
   pub band : 1 ≤ l .total
@@ -32,7 +32,7 @@ pub record Sizes (l : Layout) : Type 0 where
 
 -- the kinds of the channels, in their order
 unfoldable pub kindAt : (l : Layout) (channel : ℕ) → ChannelType
-kindAt l c = (getD (l .kinds) c (record { kind = Discrete })) .kind
+kindAt l channel = (getD (l .kinds) channel (record { kind = Discrete })) .kind
 
 unfoldable pub kindsOf : (l : Layout) → List ChannelType
 kindsOf l = build (kindAt l) (l .channels)
@@ -43,7 +43,7 @@ isSecondary StereoPrimary = false
 isSecondary StereoSecondary = true
 
 unfoldable pub secondaryAt : (l : Layout) (channel : ℕ) → Bool
-secondaryAt l c = isSecondary (kindAt l c)
+secondaryAt l channel = isSecondary (kindAt l channel)
 
 -- Start N
 abbrev pub startBand : (l : Layout) → ℕ
@@ -65,20 +65,20 @@ groupCount l = ceilDiv (hfrBands l) (bandsPerGroup l)
 
 -- Coded count: base for a secondary, else N
 abbrev pub codedCount : (l : Layout) (kind : ChannelType) → ℕ
-codedCount l k = cond (isSecondary k) (l .base) (startBand l)
+codedCount l kind = cond (isSecondary kind) (l .base) (startBand l)
 
-unfoldable pub codedAt : (l : Layout) (channel : ℕ) → ℕ
-codedAt l c = codedCount l (kindAt l c)
+unfoldable pub codedCountAt : (l : Layout) (channel : ℕ) → ℕ
+codedCountAt l channel = codedCount l (kindAt l channel)
 
 -- Side values: a secondary's 8 intensities of 4 bits, else G HFR scales of 6 bits
 abbrev pub sideCount : (l : Layout) (kind : ChannelType) → ℕ
-sideCount l k = cond (isSecondary k) 8 (groupCount l)
+sideCount l kind = cond (isSecondary kind) 8 (groupCount l)
 
 abbrev pub sideWidth : (kind : ChannelType) → ℕ
-sideWidth k = cond (isSecondary k) 4 6
+sideWidth kind = cond (isSecondary kind) 4 6
 
-unfoldable pub sidesAt : (l : Layout) (channel : ℕ) → ℕ
-sidesAt l c = sideCount l (kindAt l c)
+unfoldable pub sideCountAt : (l : Layout) (channel : ℕ) → ℕ
+sideCountAt l channel = sideCount l (kindAt l channel)
 
 -- The lengths of the lent buffers
 abbrev pub spectrumLength : (l : Layout) → ℕ
@@ -95,10 +95,11 @@ abbrev pub roomOf : (factors side codes frame : ℕ) → Room
 roomOf factors side codes frame = record { factors = factors; side = side; codes = codes; frame = frame }
 
 unfoldable pub hasRoom : (l : Layout) (room : Room) → Bool
-hasRoom l r = leb (factorLength l) (r .factors) && (leb (sideLength l) (r .side) && (leb (spectrumLength l) (r .codes) && leb (frameSize l) (r .frame)))
+hasRoom l room = leb (factorLength l) (room .factors)
+    && (leb (sideLength l) (room .side) && (leb (spectrumLength l) (room .codes) && leb (frameSize l) (room .frame)))
 
 -- the same as facts
-pub record Enough (l : Layout) (r : Room) : Type 0 where
+pub record HasRoom (l : Layout) (r : Room) : Type 0 where
   pub factors : factorLength l ≤ r .factors
   pub side : sideLength l ≤ r .side
   pub codes : spectrumLength l ≤ r .codes

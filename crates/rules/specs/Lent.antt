@@ -9,8 +9,8 @@ use Rattle.rules.specs.Layout.{frameSize, spectrumLength, factorLength, 
 use Rattle.rules.specs.declared.Layout.{Layout}
 
 -- new values over a buffer's stated length; a longer buffer's rest stays untouched
-abbrev pub laid : {A : Type 0} (new old : List A) → List A
-laid new old = new ++ drop (length new) old
+abbrev pub overwrite : {A : Type 0} (new old : List A) → List A
+overwrite new old = new ++ drop (length new) old
 
 -- zeros over the stated length of each buffer
 abbrev pub noFloats : (l : Layout) → List Float

@@ -21,26 +21,26 @@ levelOf over = halve over 255 0 255
 
 -- two bands get factor 0 in every channel
 unfoldable pub clearTwo : (factors : List ℕ) (band : ℕ) → List ℕ
-clearTwo fs b = set (set fs b 0) (b + 1) 0
+clearTwo factors band = set (set factors band 0) (band + 1) 0
 
 unfoldable pub clearPair : (l : Layout) (factors : List ℕ) (band : ℕ) → List ℕ
-clearPair l factors b = blocks (λ c. clearTwo (part 128 factors c) b) (l .channels)
+clearPair l factors band = blocks (λ c. clearTwo (part 128 factors c) band) (l .channels)
 
 -- what is found: the level (255: none), the pairs removed, and the factors that remain
-pub record Found : Type 0 where
+pub record LevelFound : Type 0 where
   pub level : ℕ
   pub pairs : ℕ
   pub factors : List ℕ
 
 -- While there is none, the highest band, top - 1, falls by 2; below 0 the search ends with none; else the two bands above it are cleared and
 -- the search is repeated. n bounds the removals: 64 are more than there can be.
-unfoldable pub remove : (l : Layout) (over : List ℕ → ℕ → Bool) (fuel top pairs : ℕ) (factors : List ℕ) → Found
+unfoldable pub remove : (l : Layout) (over : List ℕ → ℕ → Bool) (fuel top pairs : ℕ) (factors : List ℕ) → LevelFound
 remove l over zero top pairs factors = record { level = levelOf (over factors); pairs = pairs; factors = factors }
 remove l over (suc n) top pairs factors =
-    let found : Found = record { level = levelOf (over factors); pairs = pairs; factors = factors } in
+    let found : LevelFound = record { level = levelOf (over factors); pairs = pairs; factors = factors } in
     cond (ltb 254 (levelOf (over factors)))
     (cond (ltb top 3) found (remove l over n (top - 2) (pairs + 1) (clearPair l factors (top - 2))))
     found
 
-unfoldable pub noiseLevel : (l : Layout) (over : List ℕ → ℕ → Bool) (factors : List ℕ) → Found
+unfoldable pub noiseLevel : (l : Layout) (over : List ℕ → ℕ → Bool) (factors : List ℕ) → LevelFound
 noiseLevel l over factors = remove l over 64 (startBand l) 0 factors

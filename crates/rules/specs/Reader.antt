@@ -8,7 +8,7 @@ use Rattle.rules.specs.Layout.{legalLayout, frameSize, roomOf, hasRoom}
 use Rattle.rules.specs.Record.{storeFactors, storeSide, storeCodes}
 use Rattle.rules.specs.Reading.{Scanned, accepted, faulty, strict}
 use Rattle.rules.specs.Refusals.{Outcome, delivered, refused, readerOutcome}
-use Rattle.rules.specs.Lent.{laid, noCodes, noFactors, noSide}
+use Rattle.rules.specs.Lent.{overwrite, noCodes, noFactors, noSide}
 use Rattle.rules.specs.declared.Layout.{Layout}
 use Rattle.rules.specs.declared.ReadAnswer.{ReadAnswer}
 
@@ -30,8 +30,8 @@ readerLent frame factors side codes = record { frame = frame; factors = factors;
 abbrev pub readerLeft : (answer : ReadAnswer) (factors side : List ℕ) (codes : List ℤ) → ReaderLeft
 readerLeft answer factors side codes = record { outcome = readerOutcome answer; factors = factors; side = side; codes = codes }
 
-abbrev pub readerRoom : (l : Layout) (t : ReaderLent) → Bool
-readerRoom l t = hasRoom l (roomOf (length (t .factors)) (length (t .side)) (length (t .codes)) (length (t .frame)))
+abbrev pub readerHasRoom : (l : Layout) (t : ReaderLent) → Bool
+readerHasRoom l t = hasRoom l (roomOf (length (t .factors)) (length (t .side)) (length (t .codes)) (length (t .frame)))
 
 -- of buffers of exactly document 01's lengths: the record that was read, or zeros
 unfoldable pub scannedLeft : (l : Layout) (scanned : Scanned) → ReaderLeft
@@ -44,20 +44,20 @@ scannedLeft l (accepted r bitCount) = record {
 scannedLeft l (faulty number bit) = record { outcome = refused number bit; factors = noFactors l; side = noSide l; codes = noCodes l }
 
 -- the same in longer buffers
-abbrev pub readerLaid : (t : ReaderLent) (x : ReaderLeft) → ReaderLeft
-readerLaid t x = record {
+abbrev pub readerOverwrite : (t : ReaderLent) (x : ReaderLeft) → ReaderLeft
+readerOverwrite t x = record {
   outcome = x .outcome;
-  factors = laid (x .factors) (t .factors);
-  side = laid (x .side) (t .side);
-  codes = laid (x .codes) (t .codes);
+  factors = overwrite (x .factors) (t .factors);
+  side = overwrite (x .side) (t .side);
+  codes = overwrite (x .codes) (t .codes);
 }
 
 -- refusals 1 and 2 change nothing
-abbrev pub untouched : (t : ReaderLent) (o : Outcome) → ReaderLeft
-untouched t o = record { outcome = o; factors = t .factors; side = t .side; codes = t .codes }
+abbrev pub readerKept : (t : ReaderLent) (o : Outcome) → ReaderLeft
+readerKept t o = record { outcome = o; factors = t .factors; side = t .side; codes = t .codes }
 
-unfoldable pub read : (l : Layout) (t : ReaderLent) → ReaderLeft
-read l t =
-    cond (not (legalLayout l)) (untouched t (refused 1 0))
-    (cond (not (readerRoom l t)) (untouched t (refused 2 0))
-    (readerLaid t (scannedLeft l (strict l (take (frameSize l) (t .frame))))))
+unfoldable pub readFrame : (l : Layout) (t : ReaderLent) → ReaderLeft
+readFrame l t =
+    cond (not (legalLayout l)) (readerKept t (refused 1 0))
+    (cond (not (readerHasRoom l t)) (readerKept t (refused 2 0))
+    (readerOverwrite t (scannedLeft l (strict l (take (frameSize l) (t .frame))))))

@@ -21,31 +21,31 @@ use Rattle.rules.specs.declared.Layout.{Layout}
 -- A delta's symbol v names this factor; where it is all ones, the factor follows. Refusal 12 (needless escape, or factor outside 0..63) names
 -- the bit where the escape or the delta begins.
 abbrev pub deltaFactor : (d previous symbol : ℕ) → ℤ
-deltaFactor d previous v = pos previous +ℤ (pos v -ℤ pos (reachOf d))
+deltaFactor d previous symbol = pos previous +ℤ (pos symbol -ℤ pos (reachOf d))
 
 abbrev pub readDelta : (d previous : ℕ) → Reader ℕ
-readDelta d previous = here λ l. number d >>= λ v.
+readDelta d previous = here λ left. number d >>= λ v.
     cond (eqb v (2 ^ d - 1))
-    (require 12 l (λ f. not (near d previous f)) (number 6))
-    (keep 12 l (leZ (pos 0) (deltaFactor d previous v) && leZ (deltaFactor d previous v) (pos 63)) (natAbs (deltaFactor d previous v)))
+    (require 12 left (λ f. not (near d previous f)) (number 6))
+    (keep 12 left (leZ (pos 0) (deltaFactor d previous v) && leZ (deltaFactor d previous v) (pos 63)) (natAbs (deltaFactor d previous v)))
 
 abbrev pub readFactor : (width : ℕ) (previous : Option ℕ) → Reader ℕ
-readFactor w none = number 6
-readFactor w (some previous) = cond (eqb w 6) (number 6) (readDelta w previous)
+readFactor width none = number 6
+readFactor width (some previous) = cond (eqb width 6) (number 6) (readDelta width previous)
 
 abbrev pub readFactors : (width coded : ℕ) → Reader (List ℕ)
-readFactors zero n = pure (replicate n 0)
-readFactors (suc w) n = walk asPrevious (λ previous _. readFactor (suc w) previous) none (times n)
+readFactors zero coded = pure (replicate coded 0)
+readFactors (suc w) coded = walk asPrevious (λ previous _. readFactor (suc w) previous) none (times coded)
 
 -- Refusal 11: width 7, and any width but 0 on a coded count of 0, at once; other wrong widths after that channel's last factor
 abbrev pub readWidth : (coded : ℕ) → Reader (List ℕ)
-readWidth n = here λ l.
-    require 11 l (λ w. leb w 6 && (leb 1 n || eqb w 0)) (number 3) >>= λ w.
-    require 11 l (λ fs. eqb (width fs) w) (readFactors w n)
+readWidth coded = here λ left.
+    require 11 left (λ w. leb w 6 && (leb 1 coded || eqb w 0)) (number 3) >>= λ w.
+    require 11 left (λ fs. eqb (width fs) w) (readFactors w coded)
 
 abbrev pub readChannel : (l : Layout) (kind : ChannelType) → Reader Chan
-readChannel l k =
-    (readWidth (codedCount l k) ⊗ λ _. each (λ _. number (sideWidth k)) (times (sideCount l k)))
+readChannel l kind =
+    (readWidth (codedCount l kind) ⊗ λ _. each (λ _. number (sideWidth kind)) (times (sideCount l kind)))
     >>= λ c. pure (record { factors = c .0; side = c .1 })
 
 -- the codes of resolution r, below 8: 0, and the magnitudes up to r with both signs
@@ -59,11 +59,12 @@ signed (suc n) = number 1 >>= λ b. pure (cond (eqb b 0) (pos (suc n)) (negsuc n
 
 -- a code with its sign bit is one field
 unfoldable pub readCode : (resolution : ℕ) → Reader ℤ
-readCode r = cond (eqb r 0) (pure (pos 0)) (cond (ltb r 8) (oneOf (smallBits r) (codesTo r)) (asOne (number (magnitudeBits r) >>= signed)))
+readCode resolution = cond (eqb resolution 0) (pure (pos 0))
+    (cond (ltb resolution 8) (oneOf (smallBits resolution) (codesTo resolution)) (asOne (number (magnitudeBits resolution) >>= signed)))
 
 -- Refusal 9: sync not FFFF
 abbrev pub readSync : Reader ℕ
-readSync = here λ l. require 9 l (λ v. eqb v 0xFFFF) (number 16)
+readSync = here λ left. require 9 left (λ v. eqb v 0xFFFF) (number 16)
 
 -- what follows the sync; any level and any boundary is taken (request A6: refusal 10 is withdrawn)
 unfoldable pub readRecord : (l : Layout) → Reader Rec

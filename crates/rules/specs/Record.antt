@@ -8,7 +8,7 @@ use lib.IntN.{ℤ, pos, natAbs}
 use lib.ListN.{getD, take, replicate}
 use Rattle.buffers.specs.Walk.{build, blocks, every}
 use Rattle.rules.specs.Format.{Each, times}
-use Rattle.rules.specs.Layout.{kindAt, kindsOf, codedCount, codedAt, sideCount, sidesAt, sideWidth, part}
+use Rattle.rules.specs.Layout.{kindAt, kindsOf, codedCount, codedCountAt, sideCount, sideCountAt, sideWidth, part}
 use Rattle.rules.specs.Resolution.{resolutionAt, resolutionsOf, allResolutions}
 use Rattle.rules.specs.Code.{codeLimit}
 use Rattle.rules.specs.declared.ChannelType.{ChannelType}
@@ -33,10 +33,10 @@ pub record LegalHead (level boundary : ℕ) : Type 0 where
 
 -- code magnitude at most r at resolution r below 8, else the clamp of **Code**
 unfoldable pub codeRange : (resolution : ℕ) → ℕ
-codeRange r = cond (ltb r 8) r (codeLimit r)
+codeRange resolution = cond (ltb resolution 8) resolution (codeLimit resolution)
 
 abbrev pub LegalCode : (resolution : ℕ) (code : ℤ) → Type 0
-LegalCode r c = natAbs c ≤ codeRange r
+LegalCode resolution code = natAbs code ≤ codeRange resolution
 
 -- factors and HFR scales 0..63; intensities 0..15
 pub record LegalChan (l : Layout) (k : ChannelType) (c : Chan) : Type 0 where
@@ -55,14 +55,14 @@ pub record Legal (l : Layout) (r : Rec) : Type 0 where
 -- THE RECORD THAT LIES IN BUFFERS of document 01's lengths: factors C x 128, side C x 8, codes C x 1,024 by channel, subframe, band
 -- channel c, of its own 128 factors and 8 side values, and of all channels'
 abbrev pub chanIn : (l : Layout) (channel : ℕ) (factors side : List ℕ) → Chan
-chanIn l c fs ss = record { factors = take (codedAt l c) fs; side = take (sidesAt l c) ss }
+chanIn l channel factors side = record { factors = take (codedCountAt l channel) factors; side = take (sideCountAt l channel) side }
 
 abbrev pub chanOf : (l : Layout) (factors side : List ℕ) (channel : ℕ) → Chan
-chanOf l factors side c = chanIn l c (part 128 factors c) (part 8 side c)
+chanOf l factors side channel = chanIn l channel (part 128 factors channel) (part 8 side channel)
 
 -- its codes in subframe s
 abbrev pub codesIn : (l : Layout) (codes : List ℤ) (subframe channel : ℕ) → List ℤ
-codesIn l codes s c = take (codedAt l c) (part 128 (part 1024 codes c) s)
+codesIn l codes subframe channel = take (codedCountAt l channel) (part 128 (part 1024 codes channel) subframe)
 
 unfoldable pub recOf : (l : Layout) (level boundary : ℕ) (factors side : List ℕ) (codes : List ℤ) → Rec
 recOf l level boundary factors side codes = record {
@@ -74,7 +74,7 @@ recOf l level boundary factors side codes = record {
 
 -- AND ITS STORING THERE: everything unwritten is 0
 abbrev pub pad : {A : Type 0} (blank : A) (n : ℕ) (xs : List A) → List A
-pad d n xs = take n (xs ++ replicate n d)
+pad blank n xs = take n (xs ++ replicate n blank)
 
 abbrev pub noChan : Chan
 noChan = record { factors = []; side = [] }
@@ -94,22 +94,23 @@ legalHead level boundary = leb level 511 && leb boundary 127
 
 -- the first n of a row's values lie below m, and the others are 0
 unfoldable pub legalRow : (count below size : ℕ) (row : List ℕ) → Bool
-legalRow n m k xs = every (λ i. cond (ltb i n) (ltb (getD xs i 0) m) (eqb (getD xs i 0) 0)) k
+legalRow count below size row = every (λ i. cond (ltb i count) (ltb (getD row i 0) below) (eqb (getD row i 0) 0)) size
 
 -- the codes of a band, of a subframe and of a channel, of the resolutions of its 128 bands: past the coded count they are 0, and so is the range
 abbrev pub legalBand : (resolutions : List ℕ) (codes : List ℤ) (band : ℕ) → Bool
-legalBand rs cs b = leb (natAbs (getD cs b (pos 0))) (codeRange (getD rs b 0))
+legalBand resolutions codes band = leb (natAbs (getD codes band (pos 0))) (codeRange (getD resolutions band 0))
 
 unfoldable pub legalSubframe : (resolutions : List ℕ) (codes : List ℤ) → Bool
-legalSubframe rs cs = every (legalBand rs cs) 128
+legalSubframe resolutions codes = every (legalBand resolutions codes) 128
 
 unfoldable pub legalCodes : (resolutions : List ℕ) (codes : List ℤ) → Bool
-legalCodes rs cs = every (λ s. legalSubframe rs (part 128 cs s)) 8
+legalCodes resolutions codes = every (λ s. legalSubframe resolutions (part 128 codes s)) 8
 
 -- channel c, of its own factors, side values, codes and resolutions
 unfoldable pub legalChannel : (l : Layout) (channel : ℕ) (factors side : List ℕ) (codes : List ℤ) (resolutions : List ℕ) → Bool
-legalChannel l c fs ss cs rs =
-    legalRow (codedAt l c) 64 128 fs && (legalRow (sidesAt l c) (2 ^ sideWidth (kindAt l c)) 8 ss && legalCodes rs cs)
+legalChannel l channel factors side codes resolutions =
+    legalRow (codedCountAt l channel) 64 128 factors && (legalRow (sideCountAt l channel) (2 ^ sideWidth (kindAt l channel)) 8 side && legalCodes resolutions
+    codes)
 
 -- every channel of the buffers
 unfoldable pub legalChannels : (l : Layout) (factors side : List ℕ) (codes : List ℤ) (resolutions : List ℕ) → Bool
@@ -123,5 +124,5 @@ legalRecord l level boundary factors side codes =
 -- DEMAND 3's premise, 'each code is in its range': each written code of the buffers, at the resolution of its band
 abbrev pub CodesInRange : (l : Layout) (level boundary : ℕ) (factors : List ℕ) (codes : List ℤ) → Type 0
 CodesInRange l level boundary factors codes =
-    (c s b : ℕ) → c < l .channels → s < 8 → b < codedAt l c →
+    (c s b : ℕ) → c < l .channels → s < 8 → b < codedCountAt l c →
     LegalCode (resolutionAt level boundary (part 128 factors c) b) (getD (part 1024 codes c) (s * 128 + b) (pos 0))

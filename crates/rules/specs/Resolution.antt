@@ -8,7 +8,7 @@ use lib.ListN.{length, getD}
 use Rattle.buffers.specs.Walk.{build, blocks}
 use Rattle.rules.specs.Tables.{resolutionCurve}
 use Rattle.rules.specs.Signed.{heldZ}
-use Rattle.rules.specs.Layout.{codedAt, part}
+use Rattle.rules.specs.Layout.{codedCountAt, part}
 use Rattle.rules.specs.declared.Layout.{Layout}
 
 -- Noise is level - 1, not below 0, in bands below the boundary; else level
@@ -38,18 +38,18 @@ resolution noise factor = resolutionIn lowestResolution highestResolution noise 
 
 -- of band b of a channel with these factors
 unfoldable pub resolutionAt : (level boundary : ℕ) (factors : List ℕ) (band : ℕ) → ℕ
-resolutionAt level boundary fs b = resolution (noiseAt level boundary b) (getD fs b 0)
+resolutionAt level boundary factors band = resolution (noiseAt level boundary band) (getD factors band 0)
 
 -- of each of its coded bands
 unfoldable pub resolutionsOf : (level boundary : ℕ) (factors : List ℕ) → List ℕ
-resolutionsOf level boundary fs = build (resolutionAt level boundary fs) (length fs)
+resolutionsOf level boundary factors = build (resolutionAt level boundary factors) (length factors)
 
 -- of its 128 bands, 0 past the coded count; and of every channel's
 unfoldable pub bandResolution : (level boundary : ℕ) (factors : List ℕ) (coded band : ℕ) → ℕ
-bandResolution level boundary fs coded b = cond (ltb b coded) (resolutionAt level boundary fs b) 0
+bandResolution level boundary factors coded band = cond (ltb band coded) (resolutionAt level boundary factors band) 0
 
 unfoldable pub channelResolutions : (level boundary : ℕ) (factors : List ℕ) (coded : ℕ) → List ℕ
-channelResolutions level boundary fs coded = build (bandResolution level boundary fs coded) 128
+channelResolutions level boundary factors coded = build (bandResolution level boundary factors coded) 128
 
 unfoldable pub allResolutions : (l : Layout) (level boundary : ℕ) (factors : List ℕ) → List ℕ
-allResolutions l level boundary factors = blocks (λ c. channelResolutions level boundary (part 128 factors c) (codedAt l c)) (l .channels)
+allResolutions l level boundary factors = blocks (λ c. channelResolutions level boundary (part 128 factors c) (codedCountAt l c)) (l .channels)

@@ -8,7 +8,7 @@ use lib.ListN.{getD}
 use Rattle.buffers.specs.Walk.{build, blocks}
 use Rattle.floats.specs.Single.{heldF, zeroF, oneF}
 use Rattle.rules.specs.Tables.{scalingTable}
-use Rattle.rules.specs.Layout.{codedAt, part}
+use Rattle.rules.specs.Layout.{codedCountAt, part}
 use Rattle.rules.specs.declared.Layout.{Layout}
 
 -- the upper clip
@@ -25,12 +25,12 @@ scaledValue factor x = cond (eqb factor 0) zeroF (heldF (neg clip) clip (mul bin
 
 -- a band's eight values, of a channel's spectra by subframe and band; past the coded count they are cleared
 unfoldable pub scaledBand : (spectra : List Float) (factors : List ℕ) (coded band : ℕ) → List Float
-scaledBand xs fs coded b = build (λ s. cond (ltb b coded) (scaledValue (getD fs b 0) (getD xs (s * 128 + b) nan)) zeroF) 8
+scaledBand spectra factors coded band = build (λ s. cond (ltb band coded) (scaledValue (getD factors band 0) (getD spectra (s * 128 + band) nan)) zeroF) 8
 
 -- a channel's 1,024 scaled values, by band and subframe
 unfoldable pub channelScaled : (spectra : List Float) (factors : List ℕ) (coded : ℕ) → List Float
-channelScaled xs fs coded = blocks (scaledBand xs fs coded) 128
+channelScaled spectra factors coded = blocks (scaledBand spectra factors coded) 128
 
 -- the scaled values of every channel
 unfoldable pub allScaled : (l : Layout) (spectra : List Float) (factors : List ℕ) → List Float
-allScaled l spectra factors = blocks (λ c. channelScaled (part 1024 spectra c) (part 128 factors c) (codedAt l c)) (l .channels)
+allScaled l spectra factors = blocks (λ c. channelScaled (part 1024 spectra c) (part 128 factors c) (codedCountAt l c)) (l .channels)

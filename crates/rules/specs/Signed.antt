@@ -6,7 +6,7 @@ use lib.Ieee.{Float, toSigned}
 
 -- z held within lo and hi
 unfoldable pub heldZ : (low high z : ℤ) → ℤ
-heldZ lo hi z = cond (ltZ z lo) lo (cond (ltZ hi z) hi z)
+heldZ low high z = cond (ltZ z low) low (cond (ltZ high z) high z)
 
 -- Rust's `as i32`: toward zero, held to 32 bits
 abbrev pub asI32 : (x : Float) → ℤ

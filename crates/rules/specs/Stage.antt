@@ -1,5 +1,5 @@
 -- The stage: what it answers and leaves in every lent buffer, for every call, refused ones too. One definition, so that the contract
--- `stageLeft r .. ≡ stage layout (stageLent ..)` allows one outcome only.
+-- `stageLeft r .. ≡ encodeFrame layout (stageLent ..)` allows one outcome only.
 use mathlib.Core.List.{List, [], _∷_}
 use mathlib.Core.Bool.{Bool, cond, not, _&&_}
 use mathlib.Core.Option.{Option, none, some}
@@ -15,7 +15,7 @@ use Rattle.rules.specs.Factor.{allFactors}
 use Rattle.rules.specs.Scaling.{allScaled}
 use Rattle.rules.specs.Hfr.{allSide}
 use Rattle.rules.specs.Estimate.{exceeds}
-use Rattle.rules.specs.Level.{Found, noiseLevel}
+use Rattle.rules.specs.Level.{LevelFound, noiseLevel}
 use Rattle.rules.specs.Boundary.{boundaryOf}
 use Rattle.rules.specs.Resolution.{allResolutions}
 use Rattle.rules.specs.Code.{allCodes}
@@ -23,7 +23,7 @@ use Rattle.rules.specs.Record.{Rec, recOf}
 use Rattle.rules.specs.Fields.{fields}
 use Rattle.rules.specs.Frame.{fieldEnd, frameOf}
 use Rattle.rules.specs.Refusals.{Outcome, delivered, refused, stageOutcome}
-use Rattle.rules.specs.Lent.{laid, noFloats, noCodes, noFactors, noSide, noFrame}
+use Rattle.rules.specs.Lent.{overwrite, noFloats, noCodes, noFactors, noSide, noFrame}
 use Rattle.rules.specs.declared.Layout.{Layout}
 use Rattle.rules.specs.declared.Room.{Room}
 use Rattle.rules.specs.declared.StageRoom.{StageRoom}
@@ -74,12 +74,12 @@ stageLeft answer scaled codes factors side frame = record {
 -- THE GATE: refusals 1 to 4, in this order
 
 -- the lengths of the lent buffers
-abbrev pub stageRoom : (spectra intensities scaled : ℕ) (stored : Room) → StageRoom
-stageRoom spectra intensities scaled stored = record { spectra = spectra; intensities = intensities; scaled = scaled; stored = stored }
+abbrev pub stageRoomOf : (spectra intensities scaled : ℕ) (stored : Room) → StageRoom
+stageRoomOf spectra intensities scaled stored = record { spectra = spectra; intensities = intensities; scaled = scaled; stored = stored }
 
-abbrev pub lentRoom : (t : StageLent) → StageRoom
-lentRoom t =
-    stageRoom (length (t .spectra)) (length (t .intensities)) (length (t .scaled))
+abbrev pub stageRoom : (t : StageLent) → StageRoom
+stageRoom t =
+    stageRoomOf (length (t .spectra)) (length (t .intensities)) (length (t .scaled))
     (roomOf (length (t .factors)) (length (t .side)) (length (t .codes)) (length (t .frame)))
 
 unfoldable pub stageHasRoom : (l : Layout) (room : StageRoom) → Bool
@@ -108,22 +108,22 @@ gate l room spectra intensities =
 -- THE RUN, of C x 1,024 spectra and C x 8 intensities
 
 -- what the rules make of them
-pub record Made : Type 0 where
+pub record Analysis : Type 0 where
   pub scaled : List Float
   pub side : List ℕ
-  pub found : Found
+  pub found : LevelFound
   pub boundary : ℕ
   pub codes : List ℤ
 
-abbrev pub foundOf : (l : Layout) (scaled : List Float) (factors : List ℕ) → Found
-foundOf l scaled factors = noiseLevel l (λ fs level. exceeds l scaled fs level 0) factors
+abbrev pub levelFound : (l : Layout) (scaled : List Float) (factors : List ℕ) → LevelFound
+levelFound l scaled factors = noiseLevel l (λ fs level. exceeds l scaled fs level 0) factors
 
-abbrev pub boundaryFor : (l : Layout) (scaled : List Float) (found : Found) → ℕ
+abbrev pub boundaryFor : (l : Layout) (scaled : List Float) (found : LevelFound) → ℕ
 boundaryFor l scaled found = boundaryOf (found .level) (exceeds l scaled (found .factors) (found .level))
 
 -- from the level on
-unfoldable pub madeFrom : (l : Layout) (scaled : List Float) (side : List ℕ) (found : Found) → Made
-madeFrom l scaled side found =
+unfoldable pub analysisFrom : (l : Layout) (scaled : List Float) (side : List ℕ) (found : LevelFound) → Analysis
+analysisFrom l scaled side found =
     let boundary = boundaryFor l scaled found in
     record {
       scaled = scaled;
@@ -133,64 +133,64 @@ madeFrom l scaled side found =
       codes = allCodes l (allResolutions l (found .level) boundary (found .factors)) scaled;
     }
 
-unfoldable pub made : (l : Layout) (spectra : List Float) (intensities : List ℕ) → Made
-made l spectra intensities =
+unfoldable pub analysis : (l : Layout) (spectra : List Float) (intensities : List ℕ) → Analysis
+analysis l spectra intensities =
     let factors = allFactors l spectra in
     let scaled = allScaled l spectra factors in
-    madeFrom l scaled (allSide l spectra scaled intensities) (foundOf l scaled factors)
+    analysisFrom l scaled (allSide l spectra scaled intensities) (levelFound l scaled factors)
 
 -- the record that the stage makes
-unfoldable pub madeRecord : (l : Layout) (m : Made) → Rec
-madeRecord l m = recOf l (m .found .level) (m .boundary) (m .found .factors) (m .side) (m .codes)
+unfoldable pub stageRecord : (l : Layout) (m : Analysis) → Rec
+stageRecord l m = recOf l (m .found .level) (m .boundary) (m .found .factors) (m .side) (m .codes)
 
 -- after 5 and 7 all output buffers are zero over document 01's lengths
 abbrev pub cleared : (l : Layout) (o : Outcome) → StageLeft
 cleared l o = record { outcome = o; scaled = noFloats l; codes = noCodes l; factors = noFactors l; side = noSide l; frame = noFrame l }
 
 -- a success
-unfoldable pub finished : (l : Layout) (m : Made) → StageLeft
-finished l m = record {
-  outcome = delivered (m .found .level ∷ m .boundary ∷ m .found .pairs ∷ length (fields l (madeRecord l m)) ∷ []);
+unfoldable pub delivery : (l : Layout) (m : Analysis) → StageLeft
+delivery l m = record {
+  outcome = delivered (m .found .level ∷ m .boundary ∷ m .found .pairs ∷ length (fields l (stageRecord l m)) ∷ []);
   scaled = m .scaled;
   codes = m .codes;
   factors = m .found .factors;
   side = m .side;
-  frame = frameOf l (madeRecord l m);
+  frame = frameOf l (stageRecord l m);
 }
 
 -- refusal 7, beside it the bits that all fields need, or a success
-unfoldable pub packed : (l : Layout) (m : Made) → StageLeft
-packed l m =
-    let bitCount = length (fields l (madeRecord l m)) in
-    cond (ltb (fieldEnd l) bitCount) (cleared l (refused 7 bitCount)) (finished l m)
+unfoldable pub afterPacking : (l : Layout) (m : Analysis) → StageLeft
+afterPacking l m =
+    let bitCount = length (fields l (stageRecord l m)) in
+    cond (ltb (fieldEnd l) bitCount) (cleared l (refused 7 bitCount)) (delivery l m)
 
 -- refusal 5, or the rest
-unfoldable pub settled : (l : Layout) (m : Made) → StageLeft
-settled l m = cond (ltb 254 (m .found .level)) (cleared l (refused 5 (m .found .pairs))) (packed l m)
+unfoldable pub afterLevel : (l : Layout) (m : Analysis) → StageLeft
+afterLevel l m = cond (ltb 254 (m .found .level)) (cleared l (refused 5 (m .found .pairs))) (afterPacking l m)
 
 -- THE WHOLE CALL
 
 -- refusals 1 to 4 change nothing
-abbrev pub kept : (t : StageLent) (o : Outcome) → StageLeft
-kept t o = record { outcome = o; scaled = t .scaled; codes = t .codes; factors = t .factors; side = t .side; frame = t .frame }
+abbrev pub stageKept : (t : StageLent) (o : Outcome) → StageLeft
+stageKept t o = record { outcome = o; scaled = t .scaled; codes = t .codes; factors = t .factors; side = t .side; frame = t .frame }
 
 -- what the run leaves, in longer buffers
-abbrev pub stageLaid : (t : StageLent) (x : StageLeft) → StageLeft
-stageLaid t x = record {
+abbrev pub stageOverwrite : (t : StageLent) (x : StageLeft) → StageLeft
+stageOverwrite t x = record {
   outcome = x .outcome;
-  scaled = laid (x .scaled) (t .scaled);
-  codes = laid (x .codes) (t .codes);
-  factors = laid (x .factors) (t .factors);
-  side = laid (x .side) (t .side);
-  frame = laid (x .frame) (t .frame);
+  scaled = overwrite (x .scaled) (t .scaled);
+  codes = overwrite (x .codes) (t .codes);
+  factors = overwrite (x .factors) (t .factors);
+  side = overwrite (x .side) (t .side);
+  frame = overwrite (x .frame) (t .frame);
 }
 
 -- gated a gate that is shut or open
-unfoldable pub gated : (g : Option Outcome) (t : StageLent) (x : StageLeft) → StageLeft
-gated (some o) t x = kept t o
-gated none t x = stageLaid t x
+unfoldable pub behindGate : (g : Option Outcome) (t : StageLent) (x : StageLeft) → StageLeft
+behindGate (some o) t x = stageKept t o
+behindGate none t x = stageOverwrite t x
 
-unfoldable pub stage : (l : Layout) (t : StageLent) → StageLeft
-stage l t =
-    gated (gate l (lentRoom t) (t .spectra) (t .intensities)) t
-    (settled l (made l (take (spectrumLength l) (t .spectra)) (take (sideLength l) (t .intensities))))
+unfoldable pub encodeFrame : (l : Layout) (t : StageLent) → StageLeft
+encodeFrame l t =
+    behindGate (gate l (stageRoom t) (t .spectra) (t .intensities)) t
+    (afterLevel l (analysis l (take (spectrumLength l) (t .spectra)) (take (sideLength l) (t .intensities))))

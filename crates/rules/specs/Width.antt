@@ -29,7 +29,7 @@ deltaCost (f ∷ fs) d = 9 + laterCost d f fs
 
 -- what each width costs: 0 has 3 bits, 6 has 3 + 6 x coded
 unfoldable pub cost : (factors : List ℕ) (width : ℕ) → ℕ
-cost fs w = cond (eqb w 0) 3 (cond (eqb w 6) (3 + 6 * length fs) (deltaCost fs w))
+cost factors width = cond (eqb width 0) 3 (cond (eqb width 6) (3 + 6 * length factors) (deltaCost factors width))
 
 unfoldable pub allZero : (factors : List ℕ) → Bool
 allZero [] = true
@@ -37,10 +37,10 @@ allZero (f ∷ fs) = eqb f 0 && allZero fs
 
 -- take 6 unless some d costs strictly less; then the smallest d of least cost
 unfoldable pub cheaper : (factors : List ℕ) (best d : ℕ) → ℕ
-cheaper fs best d = cond (ltb (cost fs d) (cost fs best)) d best
+cheaper factors best d = cond (ltb (cost factors d) (cost factors best)) d best
 
 unfoldable pub width : (factors : List ℕ) → ℕ
-width fs = cond (allZero fs) 0 (foldl (cheaper fs) 6 (1 ∷ 2 ∷ 3 ∷ 4 ∷ 5 ∷ []))
+width factors = cond (allZero factors) 0 (foldl (cheaper factors) 6 (1 ∷ 2 ∷ 3 ∷ 4 ∷ 5 ∷ []))
 
 unfoldable pub widthCost : (factors : List ℕ) → ℕ
-widthCost fs = cost fs (width fs)
+widthCost factors = cost factors (width factors)

@@ -10,7 +10,7 @@ use Rattle.rules.specs.Record.{Rec, recOf, legalRecord}
 use Rattle.rules.specs.Fields.{fields}
 use Rattle.rules.specs.Frame.{fieldEnd, frameOf}
 use Rattle.rules.specs.Refusals.{Outcome, delivered, refused, writerOutcome}
-use Rattle.rules.specs.Lent.{laid, noFrame}
+use Rattle.rules.specs.Lent.{overwrite, noFrame}
 use Rattle.rules.specs.declared.Layout.{Layout}
 use Rattle.rules.specs.declared.WriteAnswer.{WriteAnswer}
 
@@ -40,23 +40,27 @@ writerLent level boundary factors side codes frame = record {
 abbrev pub writerLeft : (answer : WriteAnswer) (frame : List ℕ) → WriterLeft
 writerLeft answer frame = record { outcome = writerOutcome answer; frame = frame }
 
-abbrev pub writerRoom : (l : Layout) (t : WriterLent) → Bool
-writerRoom l t = hasRoom l (roomOf (length (t .factors)) (length (t .side)) (length (t .codes)) (length (t .frame)))
+abbrev pub writerHasRoom : (l : Layout) (t : WriterLent) → Bool
+writerHasRoom l t = hasRoom l (roomOf (length (t .factors)) (length (t .side)) (length (t .codes)) (length (t .frame)))
 
 unfoldable pub lentRecord : (l : Layout) (t : WriterLent) → Rec
 lentRecord l t = recOf l (t .level) (t .boundary) (t .factors) (t .side) (t .codes)
+
+-- refusals 1, 2 and 15 change nothing
+abbrev pub writerKept : (t : WriterLent) (o : Outcome) → WriterLeft
+writerKept t o = record { outcome = o; frame = t .frame }
 
 -- refusals 15 and 7, beside 7 the bits that all fields need, of a legal layout and buffers that are long enough
 unfoldable pub recordWritten : (l : Layout) (t : WriterLent) → WriterLeft
 recordWritten l t =
     let bitCount = length (fields l (lentRecord l t)) in
-    cond (not (legalRecord l (t .level) (t .boundary) (t .factors) (t .side) (t .codes))) (record { outcome = refused 15 0; frame = t .frame })
-    (cond (ltb (fieldEnd l) bitCount) (record { outcome = refused 7 bitCount; frame = laid (noFrame l) (t .frame) })
-    (record { outcome = delivered (t .level ∷ t .boundary ∷ bitCount ∷ []); frame = laid (frameOf l (lentRecord l t)) (t .frame) }))
+    cond (not (legalRecord l (t .level) (t .boundary) (t .factors) (t .side) (t .codes))) (writerKept t (refused 15 0))
+    (cond (ltb (fieldEnd l) bitCount) (record { outcome = refused 7 bitCount; frame = overwrite (noFrame l) (t .frame) })
+    (record { outcome = delivered (t .level ∷ t .boundary ∷ bitCount ∷ []); frame = overwrite (frameOf l (lentRecord l t)) (t .frame) }))
 
 -- refusals 1 and 2
-unfoldable pub written : (l : Layout) (t : WriterLent) → WriterLeft
-written l t =
-    cond (not (legalLayout l)) (record { outcome = refused 1 0; frame = t .frame })
-    (cond (not (writerRoom l t)) (record { outcome = refused 2 0; frame = t .frame })
+unfoldable pub writeRecord : (l : Layout) (t : WriterLent) → WriterLeft
+writeRecord l t =
+    cond (not (legalLayout l)) (writerKept t (refused 1 0))
+    (cond (not (writerHasRoom l t)) (writerKept t (refused 2 0))
     (recordWritten l t))

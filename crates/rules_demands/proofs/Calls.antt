@@ -7,19 +7,20 @@ use Prim.Native.Nat.{ℕ, _≤_}
 use lib.IntN.{ℤ}
 use lib.ListN.{length, take}
 use Rattle.bits.specs.Bits.{Bytes}
-use Rattle.rules.specs.Layout.{legalLayout, Sizes, frameSize, spectrumLength, factorLength, sideLength}
+use Rattle.rules.specs.Layout.{legalLayout, LegalLayout, frameSize, spectrumLength, factorLength, sideLength}
 use Rattle.rules.specs.Record.{Rec, recOf, legalRecord, storeFactors, storeSide, storeCodes}
 use Rattle.rules.specs.Fields.{fields}
 use Rattle.rules.specs.Frame.{fieldEnd, frameOf}
 use Rattle.rules.specs.Reading.{accepted, strict}
 use Rattle.rules.specs.Refusals.{delivered}
-use Rattle.rules.specs.Lent.{laid}
-use Rattle.rules.specs.Writer.{WriterLent, WriterLeft, writerRoom, lentRecord, written}
-use Rattle.rules.specs.Reader.{ReaderLent, ReaderLeft, readerRoom, read}
+use Rattle.rules.specs.Lent.{overwrite}
+use Rattle.rules.specs.Writer.{WriterLent, WriterLeft, writerHasRoom, lentRecord, writeRecord}
+use Rattle.rules.specs.Reader.{ReaderLent, ReaderLeft, readerHasRoom, readFrame}
 use Rattle.rules.specs.declared.Layout.{Layout}
 use Rattle.rules_demands.proofs.Demand3.{Framed, strict-complete, injective}
 use Rattle.rules_demands.proofs.Stores.{record-front, legal-front}
-use Rattle.rules_demands.proofs.Deliveries.{writes, writes-this, writes-legal, writes-frame, writes-stored, RecordWith, reads, reads-this, framed-reads, reads-framed, reads-record, reads-legal}
+use Rattle.rules_demands.proofs.Deliveries.{writes, writes-this, writes-legal, writes-frame, writes-stored, RecordWith, reads, reads-this, framed-reads}
+use Rattle.rules_demands.proofs.Deliveries.{reads-framed, reads-record, reads-legal}
 
 -- ---- what the statements name
 
@@ -35,13 +36,13 @@ pub record Holds (l : Layout) (t : WriterLent) (level boundary : ℕ) (F S : Lis
 abbrev pub handed : Layout → ReaderLent → List ℕ → List ℕ → List ℕ → List ℤ → ReaderLeft
 handed l u ns F S C = record {
   outcome = delivered ns;
-  factors = laid (take (factorLength l) F) (u .factors);
-  side = laid (take (sideLength l) S) (u .side);
-  codes = laid (take (spectrumLength l) C) (u .codes);
+  factors = overwrite (take (factorLength l) F) (u .factors);
+  side = overwrite (take (sideLength l) S) (u .side);
+  codes = overwrite (take (spectrumLength l) C) (u .codes);
 }
 
 -- the frame is this record's, be it legal or not: its fields fit, and they end at bit n
-pub record Packed (l : Layout) (r : Rec) (n : ℕ) (f : List ℕ) : Type 0 where
+pub record FrameOf (l : Layout) (r : Rec) (n : ℕ) (f : List ℕ) : Type 0 where
   pub fits : length (fields l r) ≤ fieldEnd l
   pub ends : n ≡ length (fields l r)
   pub bytes : f ≡ frameOf l r
@@ -62,8 +63,9 @@ module _ (l : Layout) (t : WriterLent) (level boundary : ℕ) (F S : List ℕ) (
       ∙ rw (h .levels, h .boundaries, h .factors, h .side, h .codes) (legal-front l level boundary F S C)
 
   -- a record that passes the test is written as its frame, from any buffers that hold it
-  pub packed-written : (n : ℕ) (f : List ℕ) → Sizes l → writerRoom l t ≡ true → legalRecord l level boundary F S C ≡ true → Packed l (recOf l level boundary F S C) n f
-      → written l t ≡ record { outcome = delivered (level ∷ boundary ∷ n ∷ []); frame = laid f (t .frame) }
+  pub packed-written : (n : ℕ) (f : List ℕ) → LegalLayout l → writerHasRoom l t ≡ true → legalRecord l level boundary F S C ≡ true
+      → FrameOf l (recOf l level boundary F S C) n f
+      → writeRecord l t ≡ record { outcome = delivered (level ∷ boundary ∷ n ∷ []); frame = overwrite f (t .frame) }
   packed-written n f z m legal k =
       writes-this l t (record { sizes = z; room = m; legal = holds-legal ∙ legal; fits = rw holds-record (k .fits) })
       ∙ rw (holds-record, h .levels, h .boundaries, ← k .ends, ← k .bytes)
@@ -76,9 +78,9 @@ lent-head l t t′ e = (ap (λ (r : Rec). r .level) e, ap (λ (r : Rec). r .boun
 
 -- What is written is read back. Read a frame that the writer delivered, into any buffers with room: the answer (level, boundary, bits) is
 -- the writer's, and the buffers hold the writer's record.
-pub read-after-write : (l : Layout) (t : WriterLent) (u : ReaderLent) (ns : List ℕ) → written l t .outcome ≡ delivered ns → readerRoom l u ≡ true
-    → take (frameSize l) (u .frame) ≡ take (frameSize l) (written l t .frame)
-    → read l u ≡ handed l u ns (t .factors) (t .side) (t .codes)
+pub read-after-write : (l : Layout) (t : WriterLent) (u : ReaderLent) (ns : List ℕ) → writeRecord l t .outcome ≡ delivered ns → readerHasRoom l u ≡ true
+    → take (frameSize l) (u .frame) ≡ take (frameSize l) (writeRecord l t .frame)
+    → readFrame l u ≡ handed l u ns (t .factors) (t .side) (t .codes)
 unfolding lentRecord recOf
 read-after-write l t u ns e m q =
     let w = writes l t ns e in
@@ -88,38 +90,41 @@ read-after-write l t u ns e m q =
     let a : delivered (t .level ∷ t .boundary ∷ n ∷ []) ≡ delivered ns = sym (ap (λ (x : WriterLeft). x .outcome) (writes-this l t w)) ∙ e in
     let (f, s, c) = writes-stored l t w in
     reads-this l u r n (record { sizes = w .sizes; room = m; scan = p })
-    ∙ λ i. record { outcome = a i; factors = laid (f i) (u .factors); side = laid (s i) (u .side); codes = laid (c i) (u .codes) }
+    ∙ λ i. record { outcome = a i; factors = overwrite (f i) (u .factors); side = overwrite (s i) (u .side); codes = overwrite (c i) (u .codes) }
 
 -- What is read is written back. Write the record that the reader left, from any buffers that hold it, into any frame with room: the answer
 -- is the reader's, and every byte of the frame is restored.
 pub write-after-read : (l : Layout) (u : ReaderLent) (t : WriterLent) (level boundary n : ℕ) → Bytes (u .frame)
-    → read l u .outcome ≡ delivered (level ∷ boundary ∷ n ∷ []) → writerRoom l t ≡ true
-    → Holds l t level boundary (read l u .factors) (read l u .side) (read l u .codes)
-    → written l t ≡ record { outcome = delivered (level ∷ boundary ∷ n ∷ []); frame = laid (take (frameSize l) (u .frame)) (t .frame) }
+    → readFrame l u .outcome ≡ delivered (level ∷ boundary ∷ n ∷ []) → writerHasRoom l t ≡ true
+    → Holds l t level boundary (readFrame l u .factors) (readFrame l u .side) (readFrame l u .codes)
+    → writeRecord l t ≡ record { outcome = delivered (level ∷ boundary ∷ n ∷ []); frame = overwrite (take (frameSize l) (u .frame)) (t .frame) }
 write-after-read l u t level boundary n b e m h =
     let (r, p, q, k) = reads l u level boundary n e in
     let f = reads-framed l u r n k b in
-    let is : recOf l level boundary (read l u .factors) (read l u .side) (read l u .codes) ≡ r = rw (p, q) at (reads-record l u r n k (f .legal)) in
+    let is : recOf l level boundary (readFrame l u .factors) (readFrame l u .side) (readFrame l u .codes)
+    ≡ r = rw (p, q) at (reads-record l u r n k (f .legal)) in
     packed-written l t level boundary _ _ _ h n (take (frameSize l) (u .frame)) (k .sizes) m (rw (p, q) at (reads-legal l u r n k (f .legal)))
     (record { fits = rw is (f .fits); ends = rw is (f .ends); bytes = rw is (f .bytes) })
 
 -- The reader accepts exactly the frames of legal records: it delivers level, boundary and n just where a legal record with this level and
 -- boundary has this frame and its fields end at bit n.
-pub accepted-exactly : (l : Layout) (u : ReaderLent) (level boundary n : ℕ) → legalLayout l ≡ true → readerRoom l u ≡ true → Bytes (u .frame)
-    → (read l u .outcome ≡ delivered (level ∷ boundary ∷ n ∷ [])) ↔ RecordWith level boundary (λ r. Framed l r n (take (frameSize l) (u .frame)))
+pub accepted-exactly : (l : Layout) (u : ReaderLent) (level boundary n : ℕ) → legalLayout l ≡ true → readerHasRoom l u ≡ true → Bytes (u .frame)
+    → (readFrame l u .outcome ≡ delivered (level ∷ boundary ∷ n ∷ [])) ↔ RecordWith level boundary (λ r. Framed l r n (take (frameSize l) (u .frame)))
 accepted-exactly l u level boundary n a m b = (
   (λ e. let (r, p, q, k) = reads l u level boundary n e in (r, p, q, reads-framed l u r n k b)),
   (λ x. let (r, p, q, f) = x in rw (reads-this l u r n (framed-reads l u r n a m f), p, q)),
 )
 
 -- That record is the one that lies in what the reader left.
-pub accepted-record : (l : Layout) (u : ReaderLent) (r : Rec) (n : ℕ) → legalLayout l ≡ true → readerRoom l u ≡ true → Framed l r n (take (frameSize l) (u .frame))
-    → recOf l (r .level) (r .boundary) (read l u .factors) (read l u .side) (read l u .codes) ≡ r
+pub accepted-record : (l : Layout) (u : ReaderLent) (r : Rec) (n : ℕ) → legalLayout l ≡ true → readerHasRoom l u ≡ true
+    → Framed l r n (take (frameSize l) (u .frame))
+    → recOf l (r .level) (r .boundary) (readFrame l u .factors) (readFrame l u .side) (readFrame l u .codes) ≡ r
 accepted-record l u r n a m f = reads-record l u r n (framed-reads l u r n a m f) (f .legal)
 
 -- Equal frames, equal records: two calls of the writer that deliver the same bytes were lent the same record.
-pub equal-frames-equal-records : (l : Layout) (t t′ : WriterLent) (ns ns′ : List ℕ) → written l t .outcome ≡ delivered ns → written l t′ .outcome ≡ delivered ns′
-    → take (frameSize l) (written l t .frame) ≡ take (frameSize l) (written l t′ .frame)
+pub equal-frames-equal-records : (l : Layout) (t t′ : WriterLent) (ns ns′ : List ℕ) → writeRecord l t .outcome ≡ delivered ns → writeRecord l t′ .outcome
+    ≡ delivered ns′
+    → take (frameSize l) (writeRecord l t .frame) ≡ take (frameSize l) (writeRecord l t′ .frame)
     → Holds l t (t′ .level) (t′ .boundary) (t′ .factors) (t′ .side) (t′ .codes)
 equal-frames-equal-records l t t′ ns ns′ e e′ q =
     let w = writes l t ns e in

@@ -10,15 +10,15 @@ use lib.ListN.{length, take, drop}
 use lib.Seq.{length-take-le, take-at}
 use Rattle.bits.specs.Bits.{Bytes}
 use Rattle.buffers.proofs.Tests.{cond-both}
-use Rattle.rules.specs.Layout.{legalLayout, Sizes, frameSize, spectrumLength, factorLength, sideLength, roomOf, Enough}
+use Rattle.rules.specs.Layout.{legalLayout, LegalLayout, frameSize, spectrumLength, factorLength, sideLength, roomOf, HasRoom}
 use Rattle.rules.specs.Record.{Rec, Legal, recOf, legalRecord, storeFactors, storeSide, storeCodes}
 use Rattle.rules.specs.Fields.{fields}
 use Rattle.rules.specs.Frame.{fieldEnd, frameOf}
 use Rattle.rules.specs.Reading.{Scanned, accepted, faulty, strict}
 use Rattle.rules.specs.Refusals.{delivered, refused}
-use Rattle.rules.specs.Lent.{laid}
-use Rattle.rules.specs.Writer.{WriterLent, WriterLeft, writerRoom, lentRecord, recordWritten, written}
-use Rattle.rules.specs.Reader.{ReaderLent, ReaderLeft, readerRoom, scannedLeft, read}
+use Rattle.rules.specs.Lent.{overwrite}
+use Rattle.rules.specs.Writer.{WriterLent, WriterLeft, writerHasRoom, lentRecord, recordWritten, writeRecord}
+use Rattle.rules.specs.Reader.{ReaderLent, ReaderLeft, readerHasRoom, scannedLeft, readFrame}
 use Rattle.rules.specs.declared.Layout.{Layout}
 use Rattle.rules.proofs.Layouts.{legal-true, legal-sizes, room-facts}
 use Rattle.rules_demands.proofs.Demand3.{bytes-take, Framed, frame-length, strict-complete, strict-sound}
@@ -30,15 +30,15 @@ refusal : {A : Type 0} {k p : ℕ} {ns : List ℕ} → refused k p ≡ delivered
 refusal e = let z : _≡_ {A = ℕ} 0 1 = cc in absurd (omega arith)
 
 -- the front of what was laid over a buffer is what was laid
-pub laid-front : {A : Type 0} (n : ℕ) (new old : List A) → length new ≡ n → take n (laid new old) ≡ new
+pub laid-front : {A : Type 0} (n : ℕ) (new old : List A) → length new ≡ n → take n (overwrite new old) ≡ new
 laid-front n new old e = take-at new (drop (length new) old) n e
 
 -- ---- the record writer
 
 -- it delivers just where all of this holds
 pub record Writes (l : Layout) (t : WriterLent) : Type 0 where
-  pub sizes : Sizes l
-  pub room : writerRoom l t ≡ true
+  pub sizes : LegalLayout l
+  pub room : writerHasRoom l t ≡ true
   pub legal : legalRecord l (t .level) (t .boundary) (t .factors) (t .side) (t .codes) ≡ true
   pub fits : length (fields l (lentRecord l t)) ≤ fieldEnd l
 
@@ -47,32 +47,32 @@ module _ (l : Layout) (t : WriterLent) where
     abbrev Wrote : WriterLeft → Type 0
     Wrote x = x .outcome ≡ delivered ns → Writes l t
 
-    pub writes : written l t .outcome ≡ delivered ns → Writes l t
-    unfolding written recordWritten
+    pub writes : writeRecord l t .outcome ≡ delivered ns → Writes l t
+    unfolding writeRecord recordWritten
     writes =
         cond-both Wrote (not (legalLayout l)) (λ _. refusal)
-        (λ a. cond-both Wrote (not (writerRoom l t)) (λ _. refusal)
+        (λ a. cond-both Wrote (not (writerHasRoom l t)) (λ _. refusal)
         (λ b. cond-both Wrote (not (legalRecord l (t .level) (t .boundary) (t .factors) (t .side) (t .codes))) (λ _. refusal)
         (λ c. cond-both Wrote (ltb (fieldEnd l) (length (fields l (lentRecord l t)))) (λ _. refusal)
         (λ d _. record { sizes = legal-sizes l (not-false _ a); room = not-false _ b; legal = not-false _ c; fits = ltb-false _ _ d }))))
 
-  pub writes-this : Writes l t → written l t ≡ record {
+  pub writes-this : Writes l t → writeRecord l t ≡ record {
     outcome = delivered (t .level ∷ t .boundary ∷ length (fields l (lentRecord l t)) ∷ []);
-    frame = laid (frameOf l (lentRecord l t)) (t .frame);
+    frame = overwrite (frameOf l (lentRecord l t)) (t .frame);
   }
-  unfolding written recordWritten
+  unfolding writeRecord recordWritten
   writes-this w = rw (legal-true l (w .sizes), w .room, w .legal, le-ltb _ _ (w .fits))
 
 -- its record is legal, the frame is the record's, and the buffers are what the record is stored as
 module _ (l : Layout) (t : WriterLent) (w : Writes l t) where
-  room : Enough l (roomOf (length (t .factors)) (length (t .side)) (length (t .codes)) (length (t .frame)))
+  room : HasRoom l (roomOf (length (t .factors)) (length (t .side)) (length (t .codes)) (length (t .frame)))
   room = room-facts l _ (w .room)
 
   pub writes-legal : Legal l (lentRecord l t)
   unfolding lentRecord
   writes-legal = record-legal l (w .sizes) (t .level) (t .boundary) (t .factors) (t .side) (t .codes) (w .legal) (room .factors) (room .side) (room .codes)
 
-  pub writes-frame : take (frameSize l) (written l t .frame) ≡ frameOf l (lentRecord l t)
+  pub writes-frame : take (frameSize l) (writeRecord l t .frame) ≡ frameOf l (lentRecord l t)
   writes-frame = rw (writes-this l t w) (laid-front (frameSize l) (frameOf l (lentRecord l t)) (t .frame) (frame-length l (w .sizes) (lentRecord l t)))
 
   pub writes-stored : (storeFactors l (lentRecord l t) ≡ take (factorLength l) (t .factors)) × (storeSide l (lentRecord l t) ≡ take (sideLength l) (t .side))
@@ -88,8 +88,8 @@ module _ (l : Layout) (t : WriterLent) (w : Writes l t) where
 
 -- it delivers just where all of this holds
 pub record Reads (l : Layout) (u : ReaderLent) (r : Rec) (n : ℕ) : Type 0 where
-  pub sizes : Sizes l
-  pub room : readerRoom l u ≡ true
+  pub sizes : LegalLayout l
+  pub room : readerHasRoom l u ≡ true
   pub scan : strict l (take (frameSize l) (u .frame)) ≡ accepted r n
 
 -- there is such a record with this level and boundary
@@ -106,29 +106,29 @@ module _ (l : Layout) (u : ReaderLent) where
     abbrev Got : ReaderLeft → Type 0
     Got x = x .outcome ≡ delivered (level ∷ boundary ∷ n ∷ []) → RecordWith level boundary (λ r. Reads l u r n)
 
-    pub reads : read l u .outcome ≡ delivered (level ∷ boundary ∷ n ∷ []) → RecordWith level boundary (λ r. Reads l u r n)
-    unfolding read
+    pub reads : readFrame l u .outcome ≡ delivered (level ∷ boundary ∷ n ∷ []) → RecordWith level boundary (λ r. Reads l u r n)
+    unfolding readFrame
     reads =
         cond-both Got (not (legalLayout l)) (λ _. refusal)
-        (λ a. cond-both Got (not (readerRoom l u)) (λ _. refusal)
+        (λ a. cond-both Got (not (readerHasRoom l u)) (λ _. refusal)
         (λ b e. let (r, p, q, s) = scanned (strict l (take (frameSize l) (u .frame))) e in
         (r, p, q, record { sizes = legal-sizes l (not-false _ a); room = not-false _ b; scan = s })))
 
-  pub front-length : readerRoom l u ≡ true → length (take (frameSize l) (u .frame)) ≡ frameSize l
+  pub front-length : readerHasRoom l u ≡ true → length (take (frameSize l) (u .frame)) ≡ frameSize l
   front-length m = length-take-le _ _ (room-facts l _ m .frame)
 
   module _ (r : Rec) (n : ℕ) where
-    pub framed-reads : legalLayout l ≡ true → readerRoom l u ≡ true → Framed l r n (take (frameSize l) (u .frame)) → Reads l u r n
+    pub framed-reads : legalLayout l ≡ true → readerHasRoom l u ≡ true → Framed l r n (take (frameSize l) (u .frame)) → Reads l u r n
     framed-reads a m f = record { sizes = legal-sizes l a; room = m; scan = rw (f .bytes, f .ends) (strict-complete l r (f .legal) (f .fits)) }
 
     module _ (h : Reads l u r n) where
-      pub reads-this : read l u ≡ record {
+      pub reads-this : readFrame l u ≡ record {
         outcome = delivered (r .level ∷ r .boundary ∷ n ∷ []);
-        factors = laid (storeFactors l r) (u .factors);
-        side = laid (storeSide l r) (u .side);
-        codes = laid (storeCodes l r) (u .codes);
+        factors = overwrite (storeFactors l r) (u .factors);
+        side = overwrite (storeSide l r) (u .side);
+        codes = overwrite (storeCodes l r) (u .codes);
       }
-      unfolding read scannedLeft
+      unfolding readFrame scannedLeft
       reads-this = rw (legal-true l (h .sizes), h .room, h .scan)
 
       -- the frame is the record's
@@ -136,8 +136,8 @@ module _ (l : Layout) (u : ReaderLent) where
       reads-framed b = strict-sound l (h .sizes) (take (frameSize l) (u .frame)) (bytes-take (frameSize l) (u .frame) b) (front-length (h .room)) r n (h .scan)
 
       -- the record lies in what is left, and everything unwritten there is 0
-      pub reads-record : Legal l r → recOf l (r .level) (r .boundary) (read l u .factors) (read l u .side) (read l u .codes) ≡ r
+      pub reads-record : Legal l r → recOf l (r .level) (r .boundary) (readFrame l u .factors) (readFrame l u .side) (readFrame l u .codes) ≡ r
       reads-record k = rw reads-this (stored l (h .sizes) r k _ _ _)
 
-      pub reads-legal : Legal l r → legalRecord l (r .level) (r .boundary) (read l u .factors) (read l u .side) (read l u .codes) ≡ true
+      pub reads-legal : Legal l r → legalRecord l (r .level) (r .boundary) (readFrame l u .factors) (readFrame l u .side) (readFrame l u .codes) ≡ true
       reads-legal k = rw reads-this (stored-legal l (h .sizes) r k _ _ _)

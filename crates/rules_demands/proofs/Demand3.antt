@@ -11,7 +11,7 @@ use Rattle.bits.specs.Bits.{Bytes, bitsOf, pack}
 use Rattle.bits.proofs.Numbers.{length-bits-of, length-pack, bits-pack, pack-bits, bytes-pack}
 use Rattle.crc.specs.Sealed.{body, sealed, isSealed}
 use Rattle.crc.proofs.Sealed.{length-sealed, body-sealed, bytes-sealed, is-sealed-sealed, is-sealed-only}
-use Rattle.rules.specs.Layout.{Sizes, frameSize}
+use Rattle.rules.specs.Layout.{LegalLayout, frameSize}
 use Rattle.rules.specs.Record.{Rec, Legal}
 use Rattle.rules.specs.Fields.{fields}
 use Rattle.rules.specs.Frame.{fieldEnd, filledFields, frameOf}
@@ -37,7 +37,7 @@ module _ (l : Layout) where
   before : Rec → List ℕ
   before r = pack (frameSize l - 2) (filledFields l r)
 
-  pub frame-length : Sizes l → (r : Rec) → length (frameOf l r) ≡ frameSize l
+  pub frame-length : LegalLayout l → (r : Rec) → length (frameOf l r) ≡ frameSize l
   unfolding frameOf before
   frame-length z r = omega (arith, length-sealed (before r), length-pack (frameSize l - 2) (filledFields l r))
 
@@ -55,7 +55,7 @@ module _ (l : Layout) where
   strict-complete r h f = rw (is-sealed-sealed (before r), body-sealed (before r), before-bits r f) (complete l r h f)
 
   -- what is read was written, of a legal record
-  pub strict-sound : Sizes l → (f : List ℕ) → Bytes f → length f ≡ frameSize l → (r : Rec) (n : ℕ) → strict l f ≡ accepted r n → Framed l r n f
+  pub strict-sound : LegalLayout l → (f : List ℕ) → Bytes f → length f ≡ frameSize l → (r : Rec) (n : ℕ) → strict l f ≡ accepted r n → Framed l r n f
   unfolding strict frameOf
   strict-sound z f b g r n =
       bool-case (λ t. isSealed f ≡ t → cond t (scan l (bitsOf (body f))) (faulty 8 0) ≡ accepted r n → Framed l r n f) (isSealed f)
@@ -72,7 +72,7 @@ module _ (l : Layout) where
       refl
 
   -- THE DEMAND: a frame is accepted, as this record with this end, just where it is this record's
-  pub demand3 : Sizes l → (f : List ℕ) → Bytes f → length f ≡ frameSize l → (r : Rec) (n : ℕ) → (strict l f ≡ accepted r n) ↔ Framed l r n f
+  pub demand3 : LegalLayout l → (f : List ℕ) → Bytes f → length f ≡ frameSize l → (r : Rec) (n : ℕ) → (strict l f ≡ accepted r n) ↔ Framed l r n f
   demand3 z f b g r n = (
     strict-sound z f b g r n,
     (λ h. rw (h .bytes, h .ends) (strict-complete r (h .legal) (h .fits))),
@@ -87,7 +87,7 @@ module _ (l : Layout) where
       cc
 
   -- head, fields, fill and check add up to 8F bits
-  pub add-up : Sizes l → (r : Rec) → length (fields l r) ≤ fieldEnd l
+  pub add-up : LegalLayout l → (r : Rec) → length (fields l r) ≤ fieldEnd l
       → (length (bitsOf (frameOf l r)) ≡ 8 * frameSize l)
       × (length (bitsOf (frameOf l r)) ≡ length (fields l r) + (fieldEnd l - length (fields l r)) + 16)
   add-up z r f =

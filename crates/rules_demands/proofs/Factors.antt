@@ -43,7 +43,8 @@ module _ (e p : ℕ) where
       refl
 
   escape : (l v : ℕ) → v ≡ 2 ^ suc e - 1
-      → Lawful (λ f. (deltaSymbol (suc e) p f ≡ v) × (f < 64)) (λ f. cond (near (suc e) p f) [] (bits 6 f)) (require 12 l (λ f. not (near (suc e) p f)) (number 6))
+      → Lawful (λ f. (deltaSymbol (suc e) p f ≡ v) × (f < 64)) (λ f. cond (near (suc e) p f) [] (bits 6 f))
+      (require 12 l (λ f. not (near (suc e) p f)) (number 6))
   escape l v z =
       iff-fits (λ f. (to f, from f))
       (same-fits (λ f h. rw (far f (h .1)))

@@ -17,14 +17,14 @@ use Rattle.buffers.proofs.Build.{build-at}
 use Rattle.rules.specs.Format.{Each, eachBits, times}
 use Rattle.rules.specs.Tables.{spectrumBits, spectrumValue}
 use Rattle.rules.specs.Signed.{heldZ}
-use Rattle.rules.specs.Layout.{frameSize, codedAt, part}
+use Rattle.rules.specs.Layout.{frameSize, codedCountAt, part}
 use Rattle.rules.specs.Code.{codePlace, magnitudeBits, codeLimit}
 use Rattle.rules.specs.Record.{Rec, codeRange, LegalCode, Legal, resolutions, codesIn, recOf}
 use Rattle.rules.specs.Fields.{smallBits, signBits, codeBits, fields}
 use Rattle.rules.specs.Reading.{codesTo}
 use Rattle.rules.specs.Frame.{fieldEnd, frameOf}
 use Rattle.rules.specs.Refusals.{delivered}
-use Rattle.rules.specs.Writer.{WriterLent, lentRecord, written}
+use Rattle.rules.specs.Writer.{WriterLent, lentRecord, writeRecord}
 use Rattle.rules.specs.declared.Layout.{Layout}
 use Rattle.rules.proofs.Cuts.{by-order}
 use Rattle.rules_formats.proofs.Numbers.{bool-case}
@@ -102,7 +102,8 @@ module _ (rss : List (List ℕ)) where
   subframeBits = eachBits (eachBits codeBits) rss
 
   zeros-legal : (css : List (List ℤ)) → LegalSubframe css → LegalSubframe (map (map none) css)
-  zeros-legal css = each-legal (Each LegalCode) (eachBits codeBits) (map none) (λ rs cs. each-legal LegalCode codeBits none (λ r c _. omega arith) rs cs) rss css
+  zeros-legal css = each-legal (Each LegalCode) (eachBits codeBits) (map none) (λ rs cs. each-legal LegalCode codeBits none (λ r c _. omega arith) rs cs) rss
+      css
 
   zeros-short : (css : List (List ℤ)) → LegalSubframe css → length (subframeBits (map (map none) css)) ≤ length (subframeBits css)
   zeros-short css = each-short (Each LegalCode) (eachBits codeBits) (map none) (λ rs cs. each-short LegalCode codeBits none zero-short rs cs) rss css
@@ -148,18 +149,20 @@ cut-differs l r h f s c b g n e =
     n (ap (λ (x : Rec). getD (getD (getD (x .codes) s []) c []) b (pos 0)) same ∙ silenced-at (r .codes) s c b g)
 
 -- The same of a call of the record writer: what it delivers is not the frame of the cut record.
-pub cut-not-written : (l : Layout) (t : WriterLent) (ns : List ℕ) → written l t .outcome ≡ delivered ns → (c s b : ℕ) → c < l .channels → 0 < s → s < 8 → b < 128
-    → (getD (part 1024 (t .codes) c) (s * 128 + b) (pos 0) ≡ pos 0 → ⊥) → take (frameSize l) (written l t .frame) ≡ frameOf l (firstOnly (lentRecord l t)) → ⊥
+pub cut-not-written : (l : Layout) (t : WriterLent) (ns : List ℕ) → writeRecord l t .outcome ≡ delivered ns → (c s b : ℕ) → c < l .channels → 0 < s → s < 8
+    → b < 128
+    → (getD (part 1024 (t .codes) c) (s * 128 + b) (pos 0) ≡ pos 0 → ⊥) → take (frameSize l) (writeRecord l t .frame) ≡ frameOf l (firstOnly (lentRecord l t))
+    → ⊥
 unfolding lentRecord recOf
 cut-not-written l t ns e c s b h o g k n q =
     let w = writes l t ns e in
     let row = part 1024 (t .codes) c in
-    by-order b (codedAt l c)
+    by-order b (codedCountAt l c)
     (λ lt. cut-differs l (lentRecord l t) (writes-legal l t w) (w .fits) s c b o
     (λ z. n (sym (rw (
       build-at (λ j. build (codesIn l (t .codes) j) (l .channels)) 8 s [] g,
       build-at (codesIn l (t .codes) s) (l .channels) c [] h,
-      getD-take (codedAt l c) (part 128 row s) b (pos 0) lt,
+      getD-take (codedCountAt l c) (part 128 row s) b (pos 0) lt,
     ) (row-code row s b k)) ∙ z))
     (sym (writes-frame l t w) ∙ q))
     (λ ge. n (record-blank l (t .level) (t .boundary) (t .factors) (t .side) (t .codes) (w .legal) .codes c s b h g ge k))

@@ -21,7 +21,8 @@ record Edge (over : ℕ → Bool) (x : ℕ) : Type 0 where
 
 module _ (over : ℕ → Bool) where
   -- where the loop stops, one or two are left
-  last-edge : (low high : ℕ) → low ≤ high → high ≤ low + 1 → low ≤ 126 → high ≤ 127 → (over 0 ≡ false → over low ≡ false) → (high < 127 → over (suc high) ≡ true)
+  last-edge : (low high : ℕ) → low ≤ high → high ≤ low + 1 → low ≤ 126 → high ≤ 127 → (over 0 ≡ false → over low ≡ false)
+      → (high < 127 → over (suc high) ≡ true)
       → Edge over (lastOf over low high)
   unfolding lastOf
   last-edge low high h near few most fits next =
@@ -35,7 +36,8 @@ module _ (over : ℕ → Bool) where
       one-apart t = by-order low high (λ lt. omega arith) (λ ge. absurd (eqb-false low high t (omega arith)))
 
   -- low is 0 or a probe that fits; high is 127 or comes just before a probe that exceeds
-  narrow-edge : (n low high : ℕ) → low ≤ high → high - low ≤ n → low ≤ 126 → high ≤ 127 → (over 0 ≡ false → over low ≡ false) → (high < 127 → over (suc high) ≡ true)
+  narrow-edge : (n low high : ℕ) → low ≤ high → high - low ≤ n → low ≤ 126 → high ≤ 127 → (over 0 ≡ false → over low ≡ false)
+      → (high < 127 → over (suc high) ≡ true)
       → Edge over (narrow over n low high)
   unfolding narrow
   narrow-edge zero low high h enough few most fits next = last-edge low high h (omega arith) few most fits next
@@ -121,7 +123,8 @@ module _ (over other : ℕ → Bool) where
   unfolding lastOf lastProbes
   last-agrees low high h = cond-same (eqb low high) (λ _. refl) (λ t. rw (h high (rw t (List·Memᴰ·head refl))))
 
-  narrow-agrees : (n low high : ℕ) → ((p : ℕ) → List·Memᴰ p (narrowProbes over n low high) → over p ≡ other p) → narrow over n low high ≡ narrow other n low high
+  narrow-agrees : (n low high : ℕ) → ((p : ℕ) → List·Memᴰ p (narrowProbes over n low high) → over p ≡ other p) → narrow over n low high
+      ≡ narrow other n low high
   unfolding narrow narrowProbes
   narrow-agrees zero low high h = last-agrees low high h
   narrow-agrees (suc n) low high h =

@@ -13,8 +13,8 @@ use lib.ListN.{length, getD, set, length-set}
 use lib.Seq.{getD-set-same, getD-set-other}
 use Rattle.buffers.proofs.Tests.{cond-both}
 use Rattle.buffers.proofs.Blocks.{length-blocks}
-use Rattle.rules.specs.Layout.{Sizes, startBand, factorLength, part}
-use Rattle.rules.specs.Level.{levelOf, clearTwo, clearPair, Found, remove, noiseLevel}
+use Rattle.rules.specs.Layout.{LegalLayout, startBand, factorLength, part}
+use Rattle.rules.specs.Level.{levelOf, clearTwo, clearPair, LevelFound, remove, noiseLevel}
 use Rattle.rules.specs.declared.Layout.{Layout}
 use Rattle.rules.proofs.Cuts.{by-order, length-part, block-part, set-keeps}
 use Rattle.rules.proofs.Levels.{level-le}
@@ -23,9 +23,10 @@ use Rattle.rules_demands.specs.Pairs.{afterPairs}
 
 -- ---- the stages
 
--- What a search that has come to stage k finds: it goes no further than to the last stage, (N - 1) / 2; its factors are those of the stage at which it ends, and
+-- What a search that has come to stage k finds: it goes no further than to the last stage, (N - 1) / 2; its factors are those of the stage at which it ends,
+-- and
 -- its level is what the halving finds there; at every stage from k on before it the halving finds none.
-record Staged (l : Layout) (over : List ℕ → ℕ → Bool) (factors : List ℕ) (k : ℕ) (f : Found) : Type 0 where
+record Staged (l : Layout) (over : List ℕ → ℕ → Bool) (factors : List ℕ) (k : ℕ) (f : LevelFound) : Type 0 where
   few : f .pairs ≤ k + (startBand l - 2 * k - 1) / 2
   factors-are : f .factors ≡ afterPairs l factors (f .pairs)
   level-is : f .level ≡ levelOf (over (f .factors))
@@ -37,7 +38,8 @@ module _ (l : Layout) (over : List ℕ → ℕ → Bool) (factors : List ℕ) wh
   ends k = record { few = omega arith; factors-are = refl; level-is = refl; earlier = λ j h q. absurd (omega arith) }
 
   -- it goes on to the next stage, as none is found
-  goes-on : (k : ℕ) (f : Found) → 3 ≤ startBand l - 2 * k → levelOf (over (afterPairs l factors k)) ≡ 255 → Staged l over factors (suc k) f → Staged l over factors k f
+  goes-on : (k : ℕ) (f : LevelFound) → 3 ≤ startBand l - 2 * k → levelOf (over (afterPairs l factors k)) ≡ 255 → Staged l over factors (suc k) f
+      → Staged l over factors k f
   goes-on k f h none s =
       let few : f .pairs ≤ suc k + (startBand l - 2 * suc k - 1) / 2 = s .few in
       record {
@@ -52,13 +54,15 @@ module _ (l : Layout) (over : List ℕ → ℕ → Bool) (factors : List ℕ) wh
   unfolding remove afterPairs
   staged zero k = ends k
   staged (suc n) k =
-      cond-both {A = Found} (Staged l over factors k) (ltb 254 (levelOf (over (afterPairs l factors k))))
-      (λ t. cond-both {A = Found} (Staged l over factors k) (ltb (startBand l - 2 * k) 3)
+      cond-both {A = LevelFound} (Staged l over factors k) (ltb 254 (levelOf (over (afterPairs l factors k))))
+      (λ t. cond-both {A = LevelFound} (Staged l over factors k) (ltb (startBand l - 2 * k) 3)
       (λ _. ends k)
       (λ q. let top : startBand l - 2 * k - 2 ≡ startBand l - 2 * suc k = omega arith in
-      let none : levelOf (over (afterPairs l factors k)) ≡ 255 = omega (arith, ltb-true 254 (levelOf (over (afterPairs l factors k))) t, level-le (over (afterPairs l factors k))) in
+      let none : levelOf (over (afterPairs l factors k))
+      ≡ 255 = omega (arith, ltb-true 254 (levelOf (over (afterPairs l factors k))) t, level-le (over (afterPairs l factors k))) in
       rw (top, add-one k)
-      (goes-on k (remove l over n (startBand l - 2 * suc k) (suc k) (afterPairs l factors (suc k))) (ltb-false (startBand l - 2 * k) 3 q) none (staged n (suc k)))))
+      (goes-on k (remove l over n (startBand l - 2 * suc k) (suc k) (afterPairs l factors (suc k))) (ltb-false (startBand l - 2 * k) 3 q) none
+      (staged n (suc k)))))
       (λ _. ends k)
 
   found : Staged l over factors 0 (noiseLevel l over factors)
@@ -82,11 +86,12 @@ module _ (l : Layout) (over : List ℕ → ℕ → Bool) (factors : List ℕ) wh
   pairs-few = let h : noiseLevel l over factors .pairs ≤ 0 + (startBand l - 2 * 0 - 1) / 2 = found .few in omega arith
 
   -- where no level is found, all of them are removed
-  pub none-all-removed : Sizes l → 254 < noiseLevel l over factors .level → noiseLevel l over factors .pairs ≡ (startBand l - 1) / 2
+  pub none-all-removed : LegalLayout l → 254 < noiseLevel l over factors .level → noiseLevel l over factors .pairs ≡ (startBand l - 1) / 2
   none-all-removed z h = found-none l over factors z (omega (arith, found-level l over factors))
 
   -- no level is found exactly when at every stage up to (N - 1) / 2 the halving finds none
-  pub none-every-stage : Sizes l → (noiseLevel l over factors .level ≡ 255) ↔ ((k : ℕ) → k ≤ (startBand l - 1) / 2 → levelOf (over (afterPairs l factors k)) ≡ 255)
+  pub none-every-stage : LegalLayout l → (noiseLevel l over factors .level ≡ 255)
+      ↔ ((k : ℕ) → k ≤ (startBand l - 1) / 2 → levelOf (over (afterPairs l factors k)) ≡ 255)
   none-every-stage z = (every, here)
     where
       at-end : noiseLevel l over factors .level ≡ levelOf (over (afterPairs l factors (noiseLevel l over factors .pairs)))
@@ -151,7 +156,8 @@ module _ (l : Layout) where
         (clear-two-keeps (part 128 (afterPairs l factors k) c) (startBand l - 2 * suc k) b q ∙ after-keeps k c b h (omega arith))
 
     -- and has 0 in the bands from there up to N
-    pub after-clears : (k c b : ℕ) → 2 * k ≤ startBand l → c < l .channels → startBand l - 2 * k ≤ b → b < startBand l → b < 128 → getD (part 128 (afterPairs l factors k) c) b 0 ≡ 0
+    pub after-clears : (k c b : ℕ) → 2 * k ≤ startBand l → c < l .channels → startBand l - 2 * k ≤ b → b < startBand l → b < 128
+        → getD (part 128 (afterPairs l factors k) c) b 0 ≡ 0
     unfolding afterPairs
     after-clears zero c b few h q r s = absurd (omega arith)
     after-clears (suc k) c b few h q r s =

@@ -93,7 +93,8 @@ module _ (l : Layout) where
   unfolding scan filledFields
   sound s r n z e = go (readFields l s) refl e
     where
-      done : (r′ : Rec) (t : List Bool) → readFields l s ≡ ok r′ t → (o : Option ℕ) → firstOne t ≡ o → afterFill (length s) r′ (length t) o ≡ accepted r n → FramedBits l r n s
+      done : (r′ : Rec) (t : List Bool) → readFields l s ≡ ok r′ t → (o : Option ℕ) → firstOne t ≡ o → afterFill (length s) r′ (length t) o ≡ accepted r n
+          → FramedBits l r n s
       done r′ t q (some k) p a = let y : _≡_ {A = ℕ} 0 1 = cc in absurd (omega arith)
       done r′ t q none p a =
           let (h, b) = fields-fits l .back s r′ t q in

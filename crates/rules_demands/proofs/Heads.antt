@@ -8,14 +8,14 @@ use lib.IntN.{pos}
 use lib.ListN.{length, take, drop, getD, replicate, length-replicate}
 use lib.Pow.{pow-pos}
 use lib.Seq.{getD-take, getD-drop}
-use Rattle.rules.specs.Layout.{legalLayout, Sizes, kindAt, sideWidth, frameSize, spectrumLength, factorLength, sideLength, part}
+use Rattle.rules.specs.Layout.{legalLayout, LegalLayout, kindAt, sideWidth, frameSize, spectrumLength, factorLength, sideLength, part}
 use Rattle.rules.specs.Record.{Rec, Legal, recOf, legalRecord}
 use Rattle.rules.specs.Fields.{fields}
 use Rattle.rules.specs.Frame.{fieldEnd, frameOf}
 use Rattle.rules.specs.Refusals.{delivered}
-use Rattle.rules.specs.Lent.{laid, noFactors, noSide, noCodes}
-use Rattle.rules.specs.Writer.{WriterLent, WriterLeft, writerRoom, written}
-use Rattle.rules.specs.Reader.{ReaderLent, readerRoom, read}
+use Rattle.rules.specs.Lent.{overwrite, noFactors, noSide, noCodes}
+use Rattle.rules.specs.Writer.{WriterLent, WriterLeft, writerHasRoom, writeRecord}
+use Rattle.rules.specs.Reader.{ReaderLent, readerHasRoom, readFrame}
 use Rattle.rules.specs.declared.Layout.{Layout}
 use Rattle.rules.proofs.Layouts.{legal-sizes, sides-le}
 use Rattle.rules.proofs.Layouts.{coded-few}
@@ -35,7 +35,7 @@ same-in d n k c i h = getD-take k (drop (c * k) (replicate n d)) i d h ∙ getD-
 abbrev pub silentRecord : (l : Layout) (level boundary : ℕ) → Rec
 silentRecord l level boundary = recOf l level boundary (noFactors l) (noSide l) (noCodes l)
 
-module _ (l : Layout) (z : Sizes l) (level boundary : ℕ) (h : level ≤ 511) (g : boundary ≤ 127) where
+module _ (l : Layout) (z : LegalLayout l) (level boundary : ℕ) (h : level ≤ 511) (g : boundary ≤ 127) where
   silent-held : Held l level boundary (noFactors l) (noSide l) (noCodes l)
   silent-held = record {
     head = record { levels = h; boundaries = g };
@@ -57,22 +57,22 @@ module _ (l : Layout) (z : Sizes l) (level boundary : ℕ) (h : level ≤ 511) (
 -- a head that is taken: the silent record with it is legal; where it fits it is written, from any buffers that hold it, and read back
 pub record Taken (l : Layout) (level boundary : ℕ) : Type 0 where
   pub legal : Legal l (silentRecord l level boundary)
-  pub writes : (t : WriterLent) → writerRoom l t ≡ true → Holds l t level boundary (noFactors l) (noSide l) (noCodes l)
+  pub writes : (t : WriterLent) → writerHasRoom l t ≡ true → Holds l t level boundary (noFactors l) (noSide l) (noCodes l)
       → length (fields l (silentRecord l level boundary)) ≤ fieldEnd l
-      → written l t ≡ record {
+      → writeRecord l t ≡ record {
         outcome = delivered (level ∷ boundary ∷ length (fields l (silentRecord l level boundary)) ∷ []);
-        frame = laid (frameOf l (silentRecord l level boundary)) (t .frame);
+        frame = overwrite (frameOf l (silentRecord l level boundary)) (t .frame);
       }
-  pub reads : (t : WriterLent) (u : ReaderLent) → writerRoom l t ≡ true → Holds l t level boundary (noFactors l) (noSide l) (noCodes l)
+  pub reads : (t : WriterLent) (u : ReaderLent) → writerHasRoom l t ≡ true → Holds l t level boundary (noFactors l) (noSide l) (noCodes l)
       → length (fields l (silentRecord l level boundary)) ≤ fieldEnd l
-      → readerRoom l u ≡ true → take (frameSize l) (u .frame) ≡ take (frameSize l) (written l t .frame)
-      → read l u ≡ handed l u (level ∷ boundary ∷ length (fields l (silentRecord l level boundary)) ∷ []) (t .factors) (t .side) (t .codes)
+      → readerHasRoom l u ≡ true → take (frameSize l) (u .frame) ≡ take (frameSize l) (writeRecord l t .frame)
+      → readFrame l u ≡ handed l u (level ∷ boundary ∷ length (fields l (silentRecord l level boundary)) ∷ []) (t .factors) (t .side) (t .codes)
 
 -- EVERY HEAD is taken, by any legal layout.
 pub every-head : (l : Layout) (level boundary : ℕ) → legalLayout l ≡ true → level ≤ 511 → boundary ≤ 127 → Taken l level boundary
 every-head l level boundary a h g = record { legal = legal; writes = writes; reads = reads }
   where
-    sizes : Sizes l
+    sizes : LegalLayout l
     sizes = legal-sizes l a
 
     passes : legalRecord l level boundary (noFactors l) (noSide l) (noCodes l) ≡ true
@@ -87,13 +87,17 @@ every-head l level boundary a h g = record { legal = legal; writes = writes; rea
         (omega (arith, length-replicate {A = ℕ} (factorLength l) 0)) (omega (arith, length-replicate {A = ℕ} (sideLength l) 0))
         (omega (arith, length-replicate (spectrumLength l) (pos 0)))
 
-    writes : (t : WriterLent) → writerRoom l t ≡ true → Holds l t level boundary (noFactors l) (noSide l) (noCodes l) → bitCount ≤ fieldEnd l
-        → written l t ≡ record { outcome = delivered (level ∷ boundary ∷ bitCount ∷ []); frame = laid (frameOf l (silentRecord l level boundary)) (t .frame) }
+    writes : (t : WriterLent) → writerHasRoom l t ≡ true → Holds l t level boundary (noFactors l) (noSide l) (noCodes l) → bitCount ≤ fieldEnd l
+        → writeRecord l t ≡ record {
+          outcome = delivered (level ∷ boundary ∷ bitCount ∷ []);
+          frame =
+              overwrite (frameOf l (silentRecord l level boundary)) (t .frame);
+        }
     writes t m o f =
         packed-written l t level boundary (noFactors l) (noSide l) (noCodes l) o bitCount (frameOf l (silentRecord l level boundary)) sizes m passes
         (record { fits = f; ends = refl; bytes = refl })
 
-    reads : (t : WriterLent) (u : ReaderLent) → writerRoom l t ≡ true → Holds l t level boundary (noFactors l) (noSide l) (noCodes l) → bitCount ≤ fieldEnd l
-        → readerRoom l u ≡ true → take (frameSize l) (u .frame) ≡ take (frameSize l) (written l t .frame)
-        → read l u ≡ handed l u (level ∷ boundary ∷ bitCount ∷ []) (t .factors) (t .side) (t .codes)
+    reads : (t : WriterLent) (u : ReaderLent) → writerHasRoom l t ≡ true → Holds l t level boundary (noFactors l) (noSide l) (noCodes l) → bitCount ≤ fieldEnd l
+        → readerHasRoom l u ≡ true → take (frameSize l) (u .frame) ≡ take (frameSize l) (writeRecord l t .frame)
+        → readFrame l u ≡ handed l u (level ∷ boundary ∷ bitCount ∷ []) (t .factors) (t .side) (t .codes)
     reads t u m o f n q = read-after-write l t u (level ∷ boundary ∷ bitCount ∷ []) (ap (λ (x : WriterLeft). x .outcome) (writes t m o f)) n q

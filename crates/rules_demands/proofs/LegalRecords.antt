@@ -15,16 +15,18 @@ use Rattle.buffers.proofs.Tests.{and-fst, and-snd, and-true, cond-both}
 use Rattle.buffers.proofs.Build.{length-build, build-at}
 use Rattle.buffers.proofs.Every.{every-at, every-all}
 use Rattle.rules.specs.Format.{Each}
-use Rattle.rules.specs.Layout.{Sizes, kindAt, kindsOf, codedAt, sidesAt, sideWidth, spectrumLength, factorLength, sideLength, part}
+use Rattle.rules.specs.Layout.{LegalLayout, kindAt, kindsOf, codedCountAt, sideCountAt, sideWidth, spectrumLength, factorLength, sideLength, part}
 use Rattle.rules.specs.Resolution.{resolutionAt, resolutionsOf, channelResolutions}
-use Rattle.rules.specs.Record.{Chan, Rec, LegalHead, LegalCode, LegalChan, resolutions, Legal, chanOf, codesIn, recOf, pad, noChan, storeFactors, storeSide, storeCodes, codeRange, legalHead, legalRow, legalSubframe, legalCodes, legalChannel, legalChannels, legalRecord, CodesInRange}
+use Rattle.rules.specs.Record.{Chan, Rec, LegalHead, LegalCode, LegalChan, resolutions, Legal, chanOf, codesIn, recOf, pad, noChan, storeFactors, storeSide}
+use Rattle.rules.specs.Record.{storeCodes, codeRange, legalHead, legalRow, legalSubframe, legalCodes, legalChannel, legalChannels, legalRecord, CodesInRange}
 use Rattle.rules.specs.declared.Layout.{Layout}
 use Rattle.rules.proofs.Layouts.{sides-le}
 use Rattle.rules.proofs.Legality.{head-legal, legal-head}
 use Rattle.rules.proofs.Bands.{coded-band, blank-band, resolutionsAt, resolutions-part}
 use Rattle.rules.proofs.Cuts.{by-order, blocks-same, length-part, parts-all, pad-back, pad-blank, each-at, each-of, times-at, times-of}
 use Rattle.rules.proofs.Layouts.{coded-few}
-use Rattle.rules_demands.proofs.Stores.{length-resolutions, factors-part, side-part, codes-part, chan-legal, factors-long, side-long, bands-legal, codes-long, stored}
+use Rattle.rules_demands.proofs.Stores.{length-resolutions, factors-part, side-part, codes-part, chan-legal, factors-long, side-long, bands-legal}
+use Rattle.rules_demands.proofs.Stores.{codes-long, stored}
 
 -- ---- the tests, one by one
 
@@ -64,7 +66,8 @@ module _ (level boundary n : ℕ) (fs : List ℕ) (cs : List ℤ) where
   code-within : legalCodes rs cs ≡ true → (s b : ℕ) → s < 8 → b < 128 → natAbs (getD cs (s * 128 + b) (pos 0)) ≤ codeRange (getD rs b 0)
   unfolding legalCodes legalSubframe
   code-within e s b h g =
-      let k : leb (natAbs (getD (part 128 cs s) b (pos 0))) (codeRange (getD rs b 0)) ≡ true = every-at _ 128 b (every-at (λ j. legalSubframe rs (part 128 cs j)) 8 s e h) g in
+      let k : leb (natAbs (getD (part 128 cs s) b (pos 0))) (codeRange (getD rs b 0))
+      ≡ true = every-at _ 128 b (every-at (λ j. legalSubframe rs (part 128 cs j)) 8 s e h) g in
       rw (row-code cs s b g) at (leb-true (natAbs (getD (part 128 cs s) b (pos 0))) (codeRange (getD rs b 0)) k)
 
   codes-within : legalCodes rs cs ≡ true → (s b : ℕ) → s < 8 → b < 128 → b < n → LegalCode (resolutionAt level boundary fs b) (getD cs (s * 128 + b) (pos 0))
@@ -89,22 +92,22 @@ module _ (level boundary n : ℕ) (fs : List ℕ) (cs : List ℤ) where
 -- what is written is in its range
 pub record Held (l : Layout) (level boundary : ℕ) (F S : List ℕ) (C : List ℤ) : Type 0 where
   pub head : LegalHead level boundary
-  pub factors : (c i : ℕ) → c < l .channels → i < codedAt l c → getD (part 128 F c) i 0 < 64
-  pub side : (c i : ℕ) → c < l .channels → i < sidesAt l c → getD (part 8 S c) i 0 < 2 ^ sideWidth (kindAt l c)
+  pub factors : (c i : ℕ) → c < l .channels → i < codedCountAt l c → getD (part 128 F c) i 0 < 64
+  pub side : (c i : ℕ) → c < l .channels → i < sideCountAt l c → getD (part 8 S c) i 0 < 2 ^ sideWidth (kindAt l c)
   pub codes : CodesInRange l level boundary F C
 
 -- everything unwritten is 0
 pub record Blank (l : Layout) (F S : List ℕ) (C : List ℤ) : Type 0 where
-  pub factors : (c i : ℕ) → c < l .channels → codedAt l c ≤ i → i < 128 → getD (part 128 F c) i 0 ≡ 0
-  pub side : (c i : ℕ) → c < l .channels → sidesAt l c ≤ i → i < 8 → getD (part 8 S c) i 0 ≡ 0
-  pub codes : (c s b : ℕ) → c < l .channels → s < 8 → codedAt l c ≤ b → b < 128 → getD (part 1024 C c) (s * 128 + b) (pos 0) ≡ pos 0
+  pub factors : (c i : ℕ) → c < l .channels → codedCountAt l c ≤ i → i < 128 → getD (part 128 F c) i 0 ≡ 0
+  pub side : (c i : ℕ) → c < l .channels → sideCountAt l c ≤ i → i < 8 → getD (part 8 S c) i 0 ≡ 0
+  pub codes : (c s b : ℕ) → c < l .channels → s < 8 → codedCountAt l c ≤ b → b < 128 → getD (part 1024 C c) (s * 128 + b) (pos 0) ≡ pos 0
 
 module _ (l : Layout) (level boundary : ℕ) (F S : List ℕ) (C : List ℤ) where
   abbrev FactorsOk : ℕ → Bool
-  FactorsOk c = legalRow (codedAt l c) 64 128 (part 128 F c)
+  FactorsOk c = legalRow (codedCountAt l c) 64 128 (part 128 F c)
 
   abbrev SideOk : ℕ → Bool
-  SideOk c = legalRow (sidesAt l c) (2 ^ sideWidth (kindAt l c)) 8 (part 8 S c)
+  SideOk c = legalRow (sideCountAt l c) (2 ^ sideWidth (kindAt l c)) 8 (part 8 S c)
 
   abbrev CodesOk : ℕ → Bool
   CodesOk c = legalCodes (resolutionsAt l level boundary F c) (part 1024 C c)
@@ -122,7 +125,7 @@ module _ (l : Layout) (level boundary : ℕ) (F S : List ℕ) (C : List ℤ) whe
   codes-ok : legalRecord l level boundary F S C ≡ true → (c : ℕ) → c < l .channels → CodesOk c ≡ true
   codes-ok e c h = and-snd (SideOk c) _ (and-snd (FactorsOk c) _ (channel-ok e c h))
 
-  pub record-held : Sizes l → legalRecord l level boundary F S C ≡ true → Held l level boundary F S C
+  pub record-held : LegalLayout l → legalRecord l level boundary F S C ≡ true → Held l level boundary F S C
   unfolding legalRecord
   record-held z e = record {
     head = head-legal level boundary (and-fst (legalHead level boundary) _ e);
@@ -144,10 +147,10 @@ module _ (l : Layout) (level boundary : ℕ) (F S : List ℕ) (C : List ℤ) whe
       and-true (legal-head level boundary (h .head))
       (every-all _ (l .channels)
       (λ c k. rw (resolutions-part l level boundary F c k) (and-true
-      (row-of (codedAt l c) 64 128 (part 128 F c) (λ i _ g. h .factors c i k g) (λ i q g. o .factors c i k g q))
+      (row-of (codedCountAt l c) 64 128 (part 128 F c) (λ i _ g. h .factors c i k g) (λ i q g. o .factors c i k g q))
       (and-true
-      (row-of (sidesAt l c) (2 ^ sideWidth (kindAt l c)) 8 (part 8 S c) (λ i _ g. h .side c i k g) (λ i q g. o .side c i k g q))
-      (codes-of level boundary (codedAt l c) (part 128 F c) (part 1024 C c) (λ s b g _ q. h .codes c s b k g q) (λ s b g q p. o .codes c s b k g p q))))))
+      (row-of (sideCountAt l c) (2 ^ sideWidth (kindAt l c)) 8 (part 8 S c) (λ i _ g. h .side c i k g) (λ i q g. o .side c i k g q))
+      (codes-of level boundary (codedCountAt l c) (part 128 F c) (part 1024 C c) (λ s b g _ q. h .codes c s b k g q) (λ s b g q p. o .codes c s b k g p q))))))
 
 -- ---- the record that lies there
 
@@ -173,7 +176,8 @@ module _ (level boundary n : ℕ) (fs : List ℕ) (long : length (take n fs) ≡
         each-of LegalCode 0 (pos 0) (resolutionsOf level boundary (take n fs)) (take n cs) (length-take-le n cs m ∙ sym resolved)
         (λ b g. let h : b < n = omega (arith, resolved) in rw (coded-resolution b h, getD-take n cs b (pos 0) h) (f b h))
 
-    each-code : Each LegalCode (resolutionsOf level boundary (take n fs)) (take n cs) → (b : ℕ) → b < n → LegalCode (resolutionAt level boundary fs b) (getD cs b (pos 0))
+    each-code : Each LegalCode (resolutionsOf level boundary (take n fs)) (take n cs) → (b : ℕ) → b < n
+        → LegalCode (resolutionAt level boundary fs b) (getD cs b (pos 0))
     each-code e b h =
         rw (coded-resolution b h, getD-take n cs b (pos 0) h) at
         (each-at LegalCode 0 (pos 0) (resolutionsOf level boundary (take n fs)) (take n cs) e b (omega (arith, resolved)))
@@ -187,56 +191,60 @@ module _ (l : Layout) (level boundary : ℕ) (F S : List ℕ) (C : List ℤ) whe
   unfolding recOf
   rec-codes s c h g = rw (build-at (λ j. build (codesIn l C j) (l .channels)) 8 s [] h) (build-at (codesIn l C s) (l .channels) c [] g)
 
-module _ (l : Layout) (z : Sizes l) (level boundary : ℕ) (F S : List ℕ) (C : List ℤ) where
+module _ (l : Layout) (z : LegalLayout l) (level boundary : ℕ) (F S : List ℕ) (C : List ℤ) where
   -- from the legal record to what is written
   module _ (h : Legal l (recOf l level boundary F S C)) where
     legal-chan : (c : ℕ) → c < l .channels → LegalChan l (kindAt l c) (chanOf l F S c)
     legal-chan c g = rw (rec-chan l level boundary F S C c g) at (chan-legal l (recOf l level boundary F S C) h c g)
 
-    legal-long : (c : ℕ) → c < l .channels → length (take (codedAt l c) (part 128 F c)) ≡ codedAt l c
+    legal-long : (c : ℕ) → c < l .channels → length (take (codedCountAt l c) (part 128 F c)) ≡ codedCountAt l c
     legal-long c g = rw (rec-chan l level boundary F S C c g) at (factors-long l (recOf l level boundary F S C) h c g)
 
-    legal-bands : (s c : ℕ) → s < 8 → c < l .channels → Each LegalCode (resolutionsOf level boundary (take (codedAt l c) (part 128 F c))) (codesIn l C s c)
+    legal-bands : (s c : ℕ) → s < 8 → c < l .channels → Each LegalCode (resolutionsOf level boundary (take (codedCountAt l c) (part 128 F c))) (codesIn l C s c)
     unfolding recOf
-    legal-bands s c g k = rw (rec-chan l level boundary F S C c k, rec-codes l level boundary F S C s c g k) at (bands-legal l (recOf l level boundary F S C) h s c g k)
+    legal-bands s c g k = rw (rec-chan l level boundary F S C c k, rec-codes l level boundary F S C s c g k)
+        at (bands-legal l (recOf l level boundary F S C) h s c g k)
 
     pub legal-held : Held l level boundary F S C
-    unfolding recOf codedAt sidesAt
+    unfolding recOf codedCountAt sideCountAt
     legal-held = record {
       head = h .head;
-      factors = λ c i g k. rw (getD-take (codedAt l c) (part 128 F c) i 0 k) at
-          (times-at (λ f. f < 64) (codedAt l c) (take (codedAt l c) (part 128 F c)) 0 (legal-chan c g .factors) i k);
-      side = λ c i g k. rw (getD-take (sidesAt l c) (part 8 S c) i 0 k) at
-          (times-at (λ v. v < 2 ^ sideWidth (kindAt l c)) (sidesAt l c) (take (sidesAt l c) (part 8 S c)) 0 (legal-chan c g .side) i k);
+      factors = λ c i g k. rw (getD-take (codedCountAt l c) (part 128 F c) i 0 k) at
+          (times-at (λ f. f < 64) (codedCountAt l c) (take (codedCountAt l c) (part 128 F c)) 0 (legal-chan c g .factors) i k);
+      side = λ c i g k. rw (getD-take (sideCountAt l c) (part 8 S c) i 0 k) at
+          (times-at (λ v. v < 2 ^ sideWidth (kindAt l c)) (sideCountAt l c) (take (sideCountAt l c) (part 8 S c)) 0 (legal-chan c g .side) i k);
       codes = λ c s b g k q. rw (row-code (part 1024 C c) s b (omega (arith, coded-few l z c))) at
-          (each-code level boundary (codedAt l c) (part 128 F c) (legal-long c g) (part 128 (part 1024 C c) s) (legal-bands s c k g) b q);
+          (each-code level boundary (codedCountAt l c) (part 128 F c) (legal-long c g) (part 128 (part 1024 C c) s) (legal-bands s c k g) b q);
     }
 
   -- and back, in buffers that are long enough
   module _ (lf : factorLength l ≤ length F) (ls : sideLength l ≤ length S) (lc : spectrumLength l ≤ length C) (h : Held l level boundary F S C) where
     held-chan : (c : ℕ) → c < l .channels → LegalChan l (kindAt l c) (chanOf l F S c)
-    unfolding codedAt sidesAt
+    unfolding codedCountAt sideCountAt
     held-chan c g = record {
-      factors = times-of (λ f. f < 64) (codedAt l c) (take (codedAt l c) (part 128 F c)) 0
-          (length-take-le (codedAt l c) (part 128 F c) (omega (arith, length-part 128 (l .channels) c F lf g, coded-few l z c)))
-          (λ i k. rw (getD-take (codedAt l c) (part 128 F c) i 0 k) (h .factors c i g k));
-      side = times-of (λ v. v < 2 ^ sideWidth (kindAt l c)) (sidesAt l c) (take (sidesAt l c) (part 8 S c)) 0
-          (length-take-le (sidesAt l c) (part 8 S c) (omega (arith, length-part 8 (l .channels) c S ls g, sides-le l c)))
-          (λ i k. rw (getD-take (sidesAt l c) (part 8 S c) i 0 k) (h .side c i g k));
+      factors = times-of (λ f. f < 64) (codedCountAt l c) (take (codedCountAt l c) (part 128 F c)) 0
+          (length-take-le (codedCountAt l c) (part 128 F c) (omega (arith, length-part 128 (l .channels) c F lf g, coded-few l z c)))
+          (λ i k. rw (getD-take (codedCountAt l c) (part 128 F c) i 0 k) (h .factors c i g k));
+      side = times-of (λ v. v < 2 ^ sideWidth (kindAt l c)) (sideCountAt l c) (take (sideCountAt l c) (part 8 S c)) 0
+          (length-take-le (sideCountAt l c) (part 8 S c) (omega (arith, length-part 8 (l .channels) c S ls g, sides-le l c)))
+          (λ i k. rw (getD-take (sideCountAt l c) (part 8 S c) i 0 k) (h .side c i g k));
     }
 
-    held-bands : (s c : ℕ) → s < 8 → c < l .channels → Each LegalCode (resolutionsOf level boundary (take (codedAt l c) (part 128 F c))) (codesIn l C s c)
+    held-bands : (s c : ℕ) → s < 8 → c < l .channels → Each LegalCode (resolutionsOf level boundary (take (codedCountAt l c) (part 128 F c))) (codesIn l C s c)
     held-bands s c g k =
         let few = coded-few l z c in
         let row = part 1024 C c in
-        codes-each level boundary (codedAt l c) (part 128 F c) (length-take-le (codedAt l c) (part 128 F c) (omega (arith, length-part 128 (l .channels) c F lf k)))
+        codes-each level boundary (codedCountAt l c) (part 128 F c)
+        (length-take-le (codedCountAt l c) (part 128 F c) (omega (arith, length-part 128 (l .channels) c F lf k)))
         (part 128 row s) (omega (arith, length-part 128 8 s row (omega (arith, length-part 1024 (l .channels) c C lc k)) g))
         (λ b q. rw (row-code row s b (omega arith)) (h .codes c s b k g q))
 
-    held-subframe : (s : ℕ) → s < 8 → Each (Each LegalCode) (resolutions level boundary (build (chanOf l F S) (l .channels))) (build (codesIn l C s) (l .channels))
+    held-subframe : (s : ℕ) → s < 8 → Each (Each LegalCode) (resolutions level boundary (build (chanOf l F S) (l .channels)))
+        (build (codesIn l C s) (l .channels))
     held-subframe s g =
         let chans = build (chanOf l F S) (l .channels) in
-        let long : length (resolutions level boundary chans) ≡ l .channels = length-map chans (λ x. resolutionsOf level boundary (x .factors)) ∙ length-build (chanOf l F S) (l .channels) in
+        let long : length (resolutions level boundary chans) ≡ l .channels = length-map chans (λ x. resolutionsOf level boundary (x .factors))
+        ∙ length-build (chanOf l F S) (l .channels) in
         each-of (Each LegalCode) (resolutionsOf level boundary []) [] (resolutions level boundary chans) (build (codesIn l C s) (l .channels))
         (length-build (codesIn l C s) (l .channels) ∙ sym long)
         (λ c q. let k : c < l .channels = omega (arith, long) in
@@ -265,7 +273,8 @@ module _ (l : Layout) (z : Sizes l) (level boundary : ℕ) (F S : List ℕ) (C :
     }
 
   -- the test is that the record is legal and that everything unwritten is 0
-  pub record-legal : legalRecord l level boundary F S C ≡ true → factorLength l ≤ length F → sideLength l ≤ length S → spectrumLength l ≤ length C → Legal l (recOf l level boundary F S C)
+  pub record-legal : legalRecord l level boundary F S C ≡ true → factorLength l ≤ length F → sideLength l ≤ length S → spectrumLength l ≤ length C
+      → Legal l (recOf l level boundary F S C)
   record-legal e lf ls lc = held-legal lf ls lc (record-held l level boundary F S C z e)
 
   pub legal-record : Legal l (recOf l level boundary F S C) → Blank l F S C → legalRecord l level boundary F S C ≡ true
@@ -273,7 +282,7 @@ module _ (l : Layout) (z : Sizes l) (level boundary : ℕ) (F S : List ℕ) (C :
 
 -- ---- what is stored
 
-module _ (l : Layout) (z : Sizes l) (r : Rec) (h : Legal l r) (s t : List ℕ) (u : List ℤ) where
+module _ (l : Layout) (z : LegalLayout l) (r : Rec) (h : Legal l r) (s t : List ℕ) (u : List ℤ) where
   stored-blank : Blank l (storeFactors l r ++ s) (storeSide l r ++ t) (storeCodes l r ++ u)
   stored-blank = record {
     factors = λ c i g k q. rw (factors-part l r s c g) (pad-blank 0 128 ((getD (r .chans) c noChan) .factors) i (omega (arith, factors-long l r h c g)) q);
@@ -287,13 +296,13 @@ module _ (l : Layout) (z : Sizes l) (r : Rec) (h : Legal l r) (s t : List ℕ) (
       legal-record l z (r .level) (r .boundary) (storeFactors l r ++ s) (storeSide l r ++ t) (storeCodes l r ++ u) (rw (stored l z r h s t u) h) stored-blank
 
 -- buffers of the stated lengths that pass the test are what their record is stored as
-module _ (l : Layout) (z : Sizes l) (level boundary : ℕ) (F S : List ℕ) (C : List ℤ) (e : legalRecord l level boundary F S C ≡ true) where
+module _ (l : Layout) (z : LegalLayout l) (level boundary : ℕ) (F S : List ℕ) (C : List ℤ) (e : legalRecord l level boundary F S C ≡ true) where
   factors-restored : length F ≡ factorLength l → storeFactors l (recOf l level boundary F S C) ≡ F
   unfolding storeFactors
   factors-restored n =
       blocks-same _ (part 128 F) (l .channels)
       (λ c g. rw (rec-chan l level boundary F S C c g)
-      (pad-back 0 128 (codedAt l c) (part 128 F c) (length-part 128 (l .channels) c F (omega arith) g) (coded-few l z c)
+      (pad-back 0 128 (codedCountAt l c) (part 128 F c) (length-part 128 (l .channels) c F (omega arith) g) (coded-few l z c)
       (λ i k q. record-blank l level boundary F S C e .factors c i g k q)))
       ∙ parts-all 128 (l .channels) F n
 
@@ -302,13 +311,13 @@ module _ (l : Layout) (z : Sizes l) (level boundary : ℕ) (F S : List ℕ) (C :
   side-restored n =
       blocks-same _ (part 8 S) (l .channels)
       (λ c g. rw (rec-chan l level boundary F S C c g)
-      (pad-back 0 8 (sidesAt l c) (part 8 S c) (length-part 8 (l .channels) c S (omega arith) g) (sides-le l c)
+      (pad-back 0 8 (sideCountAt l c) (part 8 S c) (length-part 8 (l .channels) c S (omega arith) g) (sides-le l c)
       (λ i k q. record-blank l level boundary F S C e .side c i g k q)))
       ∙ parts-all 8 (l .channels) S n
 
   row-restored : (c s : ℕ) → c < l .channels → s < 8 → length (part 1024 C c) ≡ 1024 → pad (pos 0) 128 (codesIn l C s c) ≡ part 128 (part 1024 C c) s
   row-restored c s g k n =
-      pad-back (pos 0) 128 (codedAt l c) (part 128 (part 1024 C c) s) (length-part 128 8 s (part 1024 C c) (omega arith) k) (coded-few l z c)
+      pad-back (pos 0) 128 (codedCountAt l c) (part 128 (part 1024 C c) s) (length-part 128 8 s (part 1024 C c) (omega arith) k) (coded-few l z c)
       (λ b p q. row-code (part 1024 C c) s b q ∙ record-blank l level boundary F S C e .codes c s b g k p q)
 
   codes-restored : length C ≡ spectrumLength l → storeCodes l (recOf l level boundary F S C) ≡ C

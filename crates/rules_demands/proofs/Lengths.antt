@@ -15,7 +15,7 @@ use Rattle.buffers.specs.Walk.{build}
 use Rattle.buffers.proofs.Tests.{and-fst, and-snd, cond-bound, allLe, getD-le}
 use Rattle.rules.specs.Format.{walkBits, stay, eachBits, times}
 use Rattle.rules.specs.Tables.{maxBitTable, spectrumBits, spectrumValue}
-use Rattle.rules.specs.Layout.{Sizes, isSecondary, kindsOf, sideWidth, sideCount, sidesAt, codedCount, codedAt, part}
+use Rattle.rules.specs.Layout.{LegalLayout, isSecondary, kindsOf, sideWidth, sideCount, sideCountAt, codedCount, codedCountAt, part}
 use Rattle.rules.specs.Width.{near, width}
 use Rattle.rules.specs.Code.{codePlace, magnitudeBits}
 use Rattle.rules.specs.Record.{Chan, Rec, chanOf, codesIn, recOf, resolutions}
@@ -89,7 +89,12 @@ factor-short w h (some previous) factor =
 factors-short : (w n : ℕ) (fs : List ℕ) → w ≤ 6 → length (allFactorBits w n fs) ≤ length fs * 11
 factors-short zero n fs h = zero-le
 factors-short (suc w) n fs h =
-    omega (arith, walk-short asPrevious (λ previous _. factorBits (suc w) previous) (λ _. 11) (λ previous _ f. factor-short (suc w) h previous f) none (times n) fs, total-same 11 fs)
+    omega (
+      arith,
+      walk-short asPrevious (λ previous _. factorBits (suc w) previous) (λ _. 11) (λ previous _ f. factor-short (suc w) h previous f) none (times n)
+          fs,
+      total-same 11 fs,
+    )
 
 abbrev chanMost : Chan → ℕ
 chanMost c = 3 + length (c .factors) * 11 + length (c .side) * 6
@@ -132,7 +137,12 @@ magnitude-short r = omega (arith, getD-le 12 maxBitTable refl r)
 small-short : (r : ℕ) (c : ℤ) → length (smallBits r c) ≤ 12
 unfolding smallBits spectrumBits allRows allLe
 small-short r c =
-    omega (arith, length-bits (getD (getD spectrumBits r []) (codePlace c) 0) (getD (getD spectrumValue r []) (codePlace c) 0), rows-le 4 spectrumBits refl r (codePlace c))
+    omega (
+      arith,
+      length-bits (getD (getD spectrumBits r []) (codePlace c) 0) (getD (getD spectrumValue r []) (codePlace c) 0),
+      rows-le 4 spectrumBits refl r
+          (codePlace c),
+    )
 
 sign-short : (c : ℤ) → length (signBits c) ≤ 1
 sign-short (pos zero) = zero-le
@@ -145,7 +155,14 @@ code-short r c =
     let wide = bits (magnitudeBits r) (natAbs c) ++ signBits c in
     cond-short 12 (eqb r 0) [] (cond (ltb r 8) (smallBits r c) wide) (λ _. zero-le)
     (λ _. cond-short 12 (ltb r 8) (smallBits r c) wide (λ _. small-short r c)
-    (λ _. omega (arith, length-append (bits (magnitudeBits r) (natAbs c)) (signBits c), length-bits (magnitudeBits r) (natAbs c), magnitude-short r, sign-short c)))
+    (λ _. omega (
+      arith,
+      length-append (bits (magnitudeBits r) (natAbs c)) (signBits c),
+      length-bits (magnitudeBits r) (natAbs c),
+      magnitude-short r,
+      sign-short
+          c,
+    )))
 
 -- ---- the whole record
 
@@ -158,7 +175,7 @@ rowMost cs = length cs * 12
 subframe-short : (rss : List (List ℕ)) (css : List (List ℤ)) → length (eachBits (eachBits codeBits) rss css) ≤ total rowMost css
 subframe-short = walk-short stay (λ _. eachBits codeBits) rowMost (λ _ rs cs. row-short rs cs) tt
 
-module _ (l : Layout) (z : Sizes l) (level boundary : ℕ) (factors side : List ℕ) (codes : List ℤ) where
+module _ (l : Layout) (z : LegalLayout l) (level boundary : ℕ) (factors side : List ℕ) (codes : List ℤ) where
   abbrev r : Rec
   r = recOf l level boundary factors side codes
 
@@ -167,7 +184,7 @@ module _ (l : Layout) (z : Sizes l) (level boundary : ℕ) (factors side : List 
   channels-short =
       let a = walk-short stay (λ _. channelFields l) chanMost (λ _ k c. channel-short l k c) tt (kindsOf l) (build (chanOf l factors side) (l .channels)) in
       let b = total-build chanMost (chanOf l factors side) 1459
-      (λ c. omega (arith, part-short (codedAt l c) 128 c factors, part-short (sidesAt l c) 8 c side)) (l .channels) in
+      (λ c. omega (arith, part-short (codedCountAt l c) 128 c factors, part-short (sideCountAt l c) 8 c side)) (l .channels) in
       omega arith
 
   codes-short : length (eachBits (λ _. eachBits (eachBits codeBits) (resolutions level boundary (r .chans))) (times 8) (r .codes)) ≤ 8 * (l .channels * 1536)
@@ -177,7 +194,7 @@ module _ (l : Layout) (z : Sizes l) (level boundary : ℕ) (factors side : List 
       let row : ℕ → List (List ℤ) = λ s. build (codesIn l codes s) (l .channels) in
       let a = walk-short stay (λ _ _. eachBits (eachBits codeBits) rss) (total rowMost) (λ _ _ css. subframe-short rss css) tt (times 8) (build row 8) in
       let b = total-build (total rowMost) row (l .channels * 1536)
-      (λ s. total-build rowMost (codesIn l codes s) 1536 (λ c. omega (arith, part-short (codedAt l c) 128 s (part 1024 codes c))) (l .channels)) 8 in
+      (λ s. total-build rowMost (codesIn l codes s) 1536 (λ c. omega (arith, part-short (codedCountAt l c) 128 s (part 1024 codes c))) (l .channels)) 8 in
       omega arith
 
   -- The fields of any record that lies in buffers: 32 + 16 x 1,459 + 196,608 bits at most.

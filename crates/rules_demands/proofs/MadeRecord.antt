@@ -14,17 +14,18 @@ use Rattle.buffers.specs.Walk.{firstFrom, first, blocks}
 use Rattle.buffers.proofs.Build.{length-build, build-at}
 use Rattle.buffers.proofs.Blocks.{length-blocks}
 use Rattle.buffers.proofs.Tests.{cond-both}
-use Rattle.rules.specs.Layout.{Sizes, startBand, kindAt, isSecondary, secondaryAt, groupCount, codedAt, sideWidth, sidesAt, spectrumLength, factorLength, sideLength, part}
+use Rattle.rules.specs.Layout.{LegalLayout, startBand, kindAt, isSecondary, secondaryAt, groupCount, codedCountAt, sideWidth, sideCountAt, spectrumLength}
+use Rattle.rules.specs.Layout.{factorLength, sideLength, part}
 use Rattle.rules.specs.Factor.{bandFactor, channelFactors, allFactors}
 use Rattle.rules.specs.Scaling.{allScaled}
-use Rattle.rules.specs.Hfr.{hfrScale, intensitySide, scaleSide, channelSide, sideAt, allSide}
+use Rattle.rules.specs.Hfr.{hfrScale, intensitySide, scaleSide, channelSide, sideOf, allSide}
 use Rattle.rules.specs.Level.{clearTwo, clearPair}
 use Rattle.rules.specs.Resolution.{allResolutions}
 use Rattle.rules.specs.Code.{recordedCode, codeAt, subframeCodes, channelCodes, allCodes}
 use Rattle.rules.specs.Record.{legalRecord, CodesInRange}
 use Rattle.rules.specs.Fields.{fields}
 use Rattle.rules.specs.Refusals.{delivered}
-use Rattle.rules.specs.Stage.{Made, badIntensity, madeFrom, made, madeRecord, finished}
+use Rattle.rules.specs.Stage.{Analysis, badIntensity, analysisFrom, analysis, stageRecord, delivery}
 use Rattle.rules.specs.declared.Layout.{Layout}
 use Rattle.rules.proofs.Layouts.{sides-le}
 use Rattle.rules.proofs.Made.{factor-le, factors-size, band-held, side-size}
@@ -41,11 +42,11 @@ use Rattle.rules_demands.proofs.Searches.{boundary-silent, found-level,
 record Factors (l : Layout) (F : List ℕ) : Type 0 where
   long : length F ≡ factorLength l
   held : (c i : ℕ) → c < l .channels → i < 128 → getD (part 128 F c) i 0 ≤ 63
-  blank : (c i : ℕ) → c < l .channels → i < 128 → codedAt l c ≤ i → getD (part 128 F c) i 0 ≡ 0
+  blank : (c i : ℕ) → c < l .channels → i < 128 → codedCountAt l c ≤ i → getD (part 128 F c) i 0 ≡ 0
 
 -- such are factors that are made channel by channel
 factors-of : (l : Layout) (g : ℕ → List ℕ) → ((c : ℕ) → c < l .channels → length (g c) ≡ 128) → ((c i : ℕ) → c < l .channels → i < 128 → getD (g c) i 0 ≤ 63)
-    → ((c i : ℕ) → c < l .channels → i < 128 → codedAt l c ≤ i → getD (g c) i 0 ≡ 0) → Factors l (blocks g (l .channels))
+    → ((c i : ℕ) → c < l .channels → i < 128 → codedCountAt l c ≤ i → getD (g c) i 0 ≡ 0) → Factors l (blocks g (l .channels))
 factors-of l g size h o = record {
   long = length-blocks g 128 (l .channels) size (l .channels) (omega arith);
   held = λ c i k q. rw (block-part g 128 (l .channels) c size k) (h c i k q);
@@ -67,8 +68,8 @@ module _ (xs : List Float) (coded i : ℕ) (h : i < 128) where
 all-factors : (l : Layout) (spectra : List Float) → Factors l (allFactors l spectra)
 unfolding allFactors
 all-factors l spectra =
-    factors-of l (λ c. channelFactors (part 1024 spectra c) (codedAt l c)) (λ c _. factors-size _ _)
-    (λ c i _ h. channel-held (part 1024 spectra c) (codedAt l c) i h) (λ c i _ h k. channel-blank (part 1024 spectra c) (codedAt l c) i h k)
+    factors-of l (λ c. channelFactors (part 1024 spectra c) (codedCountAt l c)) (λ c _. factors-size _ _)
+    (λ c i _ h. channel-held (part 1024 spectra c) (codedCountAt l c) i h) (λ c i _ h k. channel-blank (part 1024 spectra c) (codedCountAt l c) i h k)
 
 -- clearing keeps what 0 has
 clear-keeps : (P : ℕ → Type 0) → P 0 → (xs : List ℕ) (b i : ℕ) → P (getD xs i 0) → P (getD (clearTwo xs b) i 0)
@@ -146,24 +147,26 @@ side-value false l xs sc is j h = build-at _ 8 j 0 h
 module _ (l : Layout) (spectra scaled : List Float) (is : List ℕ) where
   side-long : length (allSide l spectra scaled is) ≡ sideLength l
   unfolding allSide
-  side-long = length-blocks (sideAt l spectra scaled is) 8 (l .channels) (λ c _. side-size l c _ _ _) (l .channels) (omega arith)
+  side-long = length-blocks (sideOf l spectra scaled is) 8 (l .channels) (λ c _. side-size l c _ _ _) (l .channels) (omega arith)
 
   pub side-at : (c j : ℕ) → c < l .channels → j < 8 → getD (part 8 (allSide l spectra scaled is) c) j 0
       ≡ cond (secondaryAt l c) (getD (part 8 is c) j 0) (cond (ltb j (groupCount l)) (hfrScale l (part 1024 spectra c) (part 1024 scaled c) j) 0)
   unfolding allSide channelSide
   side-at c j h g =
-      rw (block-part (sideAt l spectra scaled is) 8 (l .channels) c (λ i _. side-size l i (part 1024 spectra i) (part 1024 scaled i) (part 8 is i)) h)
+      rw (block-part (sideOf l spectra scaled is) 8 (l .channels) c (λ i _. side-size l i (part 1024 spectra i) (part 1024 scaled i) (part 8 is i)) h)
       (side-value (secondaryAt l c) l (part 1024 spectra c) (part 1024 scaled c) (part 8 is c) j g)
 
-  side-below : Intensities l is → (c j : ℕ) → c < l .channels → j < sidesAt l c → getD (part 8 (allSide l spectra scaled is) c) j 0 < 2 ^ sideWidth (kindAt l c)
+  side-below : Intensities l is → (c j : ℕ) → c < l .channels → j < sideCountAt l c
+      → getD (part 8 (allSide l spectra scaled is) c) j 0 < 2 ^ sideWidth (kindAt l c)
   unfolding secondaryAt hfrScale
   side-below h c j k g =
       let few : j < 8 = omega (arith, sides-le l c) in
       rw (side-at c j k few)
-      (side-held (isSecondary (kindAt l c)) (getD (part 8 is c) j 0) (hfrScale l (part 1024 spectra c) (part 1024 scaled c) j) j (groupCount l) (h .small c j k few) (factor-le _))
+      (side-held (isSecondary (kindAt l c)) (getD (part 8 is c) j 0) (hfrScale l (part 1024 spectra c) (part 1024 scaled c) j) j (groupCount l)
+      (h .small c j k few) (factor-le _))
 
-  side-zero : (c j : ℕ) → c < l .channels → sidesAt l c ≤ j → j < 8 → getD (part 8 (allSide l spectra scaled is) c) j 0 ≡ 0
-  unfolding secondaryAt sidesAt
+  side-zero : (c j : ℕ) → c < l .channels → sideCountAt l c ≤ j → j < 8 → getD (part 8 (allSide l spectra scaled is) c) j 0 ≡ 0
+  unfolding secondaryAt sideCountAt
   side-zero c j k g q = side-at c j k q ∙ side-blank (isSecondary (kindAt l c)) _ _ j (groupCount l) q g
 
 -- ---- codes and scaled values
@@ -187,60 +190,63 @@ module _ (l : Layout) (rs : List ℕ) (scaled : List Float) where
   code-at c s b h g k =
       rw (block-part codesOf 1024 (l .channels) c codes-size h)
       (sym (row-code (codesOf c) s b k)
-      ∙ rw (block-part (subframeCodes (part 128 rs c) (part 1024 scaled c)) 128 8 s (λ j _. length-build _ 128) g) (build-at (codeAt (part 128 rs c) (part 1024 scaled c) s) 128 b (pos 0) k))
+      ∙ rw (block-part (subframeCodes (part 128 rs c) (part 1024 scaled c)) 128 8 s (λ j _. length-build _ 128) g)
+      (build-at (codeAt (part 128 rs c) (part 1024 scaled c) s) 128 b (pos 0) k))
 
 -- past the coded count there is none
-codes-zero : (l : Layout) (level boundary : ℕ) (scaled : List Float) (F : List ℕ) (c s b : ℕ) → c < l .channels → s < 8 → codedAt l c ≤ b → b < 128
+codes-zero : (l : Layout) (level boundary : ℕ) (scaled : List Float) (F : List ℕ) (c s b : ℕ) → c < l .channels → s < 8 → codedCountAt l c ≤ b → b < 128
     → getD (part 1024 (allCodes l (allResolutions l level boundary F) scaled) c) (s * 128 + b) (pos 0) ≡ pos 0
 unfolding codeAt recordedCode
 codes-zero l level boundary scaled F c s b h g q k =
     code-at l (allResolutions l level boundary F) scaled c s b h g k
-    ∙ rw (resolutions-part l level boundary F c h, blank-band level boundary (part 128 F c) (codedAt l c) b k q)
+    ∙ rw (resolutions-part l level boundary F c h, blank-band level boundary (part 128 F c) (codedCountAt l c) b k q)
 
 -- ---- what is made
 
 module _ (l : Layout) (spectra : List Float) (is : List ℕ) where
-  made-fine : Factors l (made l spectra is .found .factors)
-  unfolding made madeFrom
+  made-fine : Factors l (analysis l spectra is .found .factors)
+  unfolding analysis analysisFrom
   made-fine = found-keeps l _ (Factors l) (clear-factors l) (allFactors l spectra) (all-factors l spectra)
 
-  pub made-factors : length (made l spectra is .found .factors) ≡ factorLength l
+  pub made-factors : length (analysis l spectra is .found .factors) ≡ factorLength l
   made-factors = made-fine .long
 
-  pub made-side : length (made l spectra is .side) ≡ sideLength l
-  unfolding made madeFrom
+  pub made-side : length (analysis l spectra is .side) ≡ sideLength l
+  unfolding analysis analysisFrom
   made-side = side-long l spectra (allScaled l spectra (allFactors l spectra)) is
 
-  pub made-codes : length (made l spectra is .codes) ≡ spectrumLength l
-  unfolding made madeFrom
+  pub made-codes : length (analysis l spectra is .codes) ≡ spectrumLength l
+  unfolding analysis analysisFrom
   made-codes = codes-long l _ _
 
-  pub made-level : made l spectra is .found .level ≤ 255
-  unfolding made madeFrom
+  pub made-level : analysis l spectra is .found .level ≤ 255
+  unfolding analysis analysisFrom
   made-level = found-level l _ _
 
-  pub made-pairs : Sizes l → made l spectra is .found .pairs ≤ 63
-  unfolding made madeFrom
+  pub made-pairs : LegalLayout l → analysis l spectra is .found .pairs ≤ 63
+  unfolding analysis analysisFrom
   made-pairs z = found-few l _ _ z
 
   -- refusal 5's number
-  pub made-none : Sizes l → made l spectra is .found .level ≡ 255 → made l spectra is .found .pairs ≡ (startBand l - 1) / 2
-  unfolding made madeFrom
+  pub made-none : LegalLayout l → analysis l spectra is .found .level ≡ 255 → analysis l spectra is .found .pairs ≡ (startBand l - 1) / 2
+  unfolding analysis analysisFrom
   made-none z e = found-none l _ _ z e
 
-  pub made-boundary : made l spectra is .boundary ≤ 127
-  unfolding made madeFrom
+  pub made-boundary : analysis l spectra is .boundary ≤ 127
+  unfolding analysis analysisFrom
   made-boundary = boundary-of-le _ _
 
   -- the stage's habit, which a legal record need not have
-  pub made-silent : made l spectra is .found .level ≡ 0 → made l spectra is .boundary ≡ 0
-  unfolding made madeFrom
+  pub made-silent : analysis l spectra is .found .level ≡ 0 → analysis l spectra is .boundary ≡ 0
+  unfolding analysis analysisFrom
   made-silent e = boundary-silent _ _ e
 
-  made-held : Sizes l → Intensities l is → made l spectra is .found .level ≤ 254
-      → CodesInRange l (made l spectra is .found .level) (made l spectra is .boundary) (made l spectra is .found .factors) (made l spectra is .codes)
-      → Held l (made l spectra is .found .level) (made l spectra is .boundary) (made l spectra is .found .factors) (made l spectra is .side) (made l spectra is .codes)
-  unfolding made madeFrom
+  made-held : LegalLayout l → Intensities l is → analysis l spectra is .found .level ≤ 254
+      → CodesInRange l (analysis l spectra is .found .level) (analysis l spectra is .boundary) (analysis l spectra is .found .factors)
+      (analysis l spectra is .codes)
+      → Held l (analysis l spectra is .found .level) (analysis l spectra is .boundary) (analysis l spectra is .found .factors) (analysis l spectra is .side)
+      (analysis l spectra is .codes)
+  unfolding analysis analysisFrom
   made-held z small h codes = record {
     head = record { levels = omega arith; boundaries = made-boundary };
     factors = λ c i k g. let q = coded-few l z c in let v = made-fine .held c i k (omega arith) in omega arith;
@@ -248,8 +254,8 @@ module _ (l : Layout) (spectra : List Float) (is : List ℕ) where
     codes = codes;
   }
 
-  made-blank : Blank l (made l spectra is .found .factors) (made l spectra is .side) (made l spectra is .codes)
-  unfolding made madeFrom
+  made-blank : Blank l (analysis l spectra is .found .factors) (analysis l spectra is .side) (analysis l spectra is .codes)
+  unfolding analysis analysisFrom
   made-blank = record {
     factors = λ c i k g q. made-fine .blank c i k q g;
     side = side-zero l spectra _ is;
@@ -257,13 +263,15 @@ module _ (l : Layout) (spectra : List Float) (is : List ℕ) where
   }
 
   -- **Legal record**: the stage's record is one where each code is in its range
-  pub made-legal : Sizes l → Intensities l is → made l spectra is .found .level ≤ 254
-      → CodesInRange l (made l spectra is .found .level) (made l spectra is .boundary) (made l spectra is .found .factors) (made l spectra is .codes)
-      → legalRecord l (made l spectra is .found .level) (made l spectra is .boundary) (made l spectra is .found .factors) (made l spectra is .side) (made l spectra is .codes) ≡ true
+  pub made-legal : LegalLayout l → Intensities l is → analysis l spectra is .found .level ≤ 254
+      → CodesInRange l (analysis l spectra is .found .level) (analysis l spectra is .boundary) (analysis l spectra is .found .factors)
+      (analysis l spectra is .codes)
+      → legalRecord l (analysis l spectra is .found .level) (analysis l spectra is .boundary) (analysis l spectra is .found .factors)
+      (analysis l spectra is .side) (analysis l spectra is .codes) ≡ true
   made-legal z small h codes = held-record l _ _ _ _ _ (made-held z small h codes) made-blank
 
 -- the bits told are those that the fields take, as the estimate's are not
-pub finished-outcome : (l : Layout) (m : Made) →
-    finished l m .outcome ≡ delivered (m .found .level ∷ m .boundary ∷ m .found .pairs ∷ length (fields l (madeRecord l m)) ∷ [])
-unfolding finished
+pub finished-outcome : (l : Layout) (m : Analysis) →
+    delivery l m .outcome ≡ delivered (m .found .level ∷ m .boundary ∷ m .found .pairs ∷ length (fields l (stageRecord l m)) ∷ [])
+unfolding delivery
 finished-outcome l m = refl

@@ -10,9 +10,9 @@ use Rattle.rules.specs.Record.{Rec, Legal, recOf, legalRecord, storeFactors, st
 use Rattle.rules.specs.Fields.{fields}
 use Rattle.rules.specs.Frame.{fieldEnd, frameOf}
 use Rattle.rules.specs.Refusals.{delivered}
-use Rattle.rules.specs.Lent.{laid}
-use Rattle.rules.specs.Writer.{WriterLent, writerRoom, written}
-use Rattle.rules.specs.Reader.{ReaderLent, read}
+use Rattle.rules.specs.Lent.{overwrite}
+use Rattle.rules.specs.Writer.{WriterLent, writerHasRoom, writeRecord}
+use Rattle.rules.specs.Reader.{ReaderLent, readFrame}
 use Rattle.rules.specs.declared.Layout.{Layout}
 use Rattle.rules.proofs.Layouts.{legal-sizes}
 use Rattle.rules_demands.proofs.Stores.{stored, record-front}
@@ -21,23 +21,24 @@ use Rattle.rules_demands.proofs.Deliveries.{reads, reads-framed, reads-
 use Rattle.rules_demands.proofs.Calls.{Holds, packed-written}
 
 -- At least one: a legal record whose fields fit, stored in any buffers with room, is delivered as its frame, with the sum of its field lengths.
-pub legal-written : (l : Layout) (r : Rec) (t : WriterLent) → legalLayout l ≡ true → Legal l r → length (fields l r) ≤ fieldEnd l → writerRoom l t ≡ true
+pub legal-written : (l : Layout) (r : Rec) (t : WriterLent) → legalLayout l ≡ true → Legal l r → length (fields l r) ≤ fieldEnd l → writerHasRoom l t ≡ true
     → Holds l t (r .level) (r .boundary) (storeFactors l r) (storeSide l r) (storeCodes l r)
-    → written l t ≡ record { outcome = delivered (r .level ∷ r .boundary ∷ length (fields l r) ∷ []); frame = laid (frameOf l r) (t .frame) }
+    → writeRecord l t ≡ record { outcome = delivered (r .level ∷ r .boundary ∷ length (fields l r) ∷ []); frame = overwrite (frameOf l r) (t .frame) }
 legal-written l r t a h f m holds =
     let z = legal-sizes l a in
     let is : recOf l (r .level) (r .boundary) (storeFactors l r) (storeSide l r) (storeCodes l r) ≡ r = simp append-nil at (stored l z r h [] [] []) in
-    let legal : legalRecord l (r .level) (r .boundary) (storeFactors l r) (storeSide l r) (storeCodes l r) ≡ true = simp append-nil at (stored-legal l z r h [] [] []) in
+    let legal : legalRecord l (r .level) (r .boundary) (storeFactors l r) (storeSide l r) (storeCodes l r)
+    ≡ true = simp append-nil at (stored-legal l z r h [] [] []) in
     packed-written l t (r .level) (r .boundary) (storeFactors l r) (storeSide l r) (storeCodes l r) holds (length (fields l r)) (frameOf l r) z m legal
     (record { fits = rw is f; ends = rw is; bytes = rw is })
 
 -- At most one: two frames that the reader takes to the same record are equal over F bytes.
 module _ (l : Layout) (u u′ : ReaderLent) (level boundary n n′ : ℕ) where
   pub same-record : Bytes (u .frame) → Bytes (u′ .frame)
-      → read l u .outcome ≡ delivered (level ∷ boundary ∷ n ∷ []) → read l u′ .outcome ≡ delivered (level ∷ boundary ∷ n′ ∷ [])
-      → take (factorLength l) (read l u .factors) ≡ take (factorLength l) (read l u′ .factors)
-      → take (sideLength l) (read l u .side) ≡ take (sideLength l) (read l u′ .side)
-      → take (spectrumLength l) (read l u .codes) ≡ take (spectrumLength l) (read l u′ .codes)
+      → readFrame l u .outcome ≡ delivered (level ∷ boundary ∷ n ∷ []) → readFrame l u′ .outcome ≡ delivered (level ∷ boundary ∷ n′ ∷ [])
+      → take (factorLength l) (readFrame l u .factors) ≡ take (factorLength l) (readFrame l u′ .factors)
+      → take (sideLength l) (readFrame l u .side) ≡ take (sideLength l) (readFrame l u′ .side)
+      → take (spectrumLength l) (readFrame l u .codes) ≡ take (spectrumLength l) (readFrame l u′ .codes)
       → take (frameSize l) (u .frame) ≡ take (frameSize l) (u′ .frame)
   same-record b b′ e e′ f s c =
       let (r, p, q, k) = reads l u level boundary n e in
@@ -45,6 +46,8 @@ module _ (l : Layout) (u u′ : ReaderLent) (level boundary n n′ : ℕ) where
       let h = reads-framed l u r n k b in
       let h′ = reads-framed l u′ r′ n′ k′ b′ in
       let same : r ≡ r′ =
-      sym (rw (p, q) at (reads-record l u r n k (h .legal))) ∙ sym (record-front l level boundary (read l u .factors) (read l u .side) (read l u .codes))
-      ∙ rw (f, s, c) (record-front l level boundary (read l u′ .factors) (read l u′ .side) (read l u′ .codes)) ∙ (rw (p′, q′) at (reads-record l u′ r′ n′ k′ (h′ .legal))) in
+      sym (rw (p, q) at (reads-record l u r n k (h .legal)))
+      ∙ sym (record-front l level boundary (readFrame l u .factors) (readFrame l u .side) (readFrame l u .codes))
+      ∙ rw (f, s, c) (record-front l level boundary (readFrame l u′ .factors) (readFrame l u′ .side) (readFrame l u′ .codes))
+      ∙ (rw (p′, q′) at (reads-record l u′ r′ n′ k′ (h′ .legal))) in
       h .bytes ∙ ap (frameOf l) same ∙ sym (h′ .bytes)

@@ -21,7 +21,8 @@ probes over (suc n) low high =
 unfoldable pub levelProbes : (ℕ → Bool) → List ℕ
 levelProbes over = probes over 255 0 255
 
-mem-cond : {p : ℕ} {xs ys : List ℕ} {P : Type 0} (t : Bool) → (t ≡ true → List·Memᴰ p xs → P) → (t ≡ false → List·Memᴰ p ys → P) → List·Memᴰ p (cond t xs ys) → P
+mem-cond : {p : ℕ} {xs ys : List ℕ} {P : Type 0} (t : Bool) → (t ≡ true → List·Memᴰ p xs → P) → (t ≡ false → List·Memᴰ p ys → P) → List·Memᴰ p (cond t xs ys)
+    → P
 mem-cond true f g m = f refl m
 mem-cond false f g m = g refl m
 
@@ -53,14 +54,16 @@ module _ (over : ℕ → Bool) where
   ended-probed (suc n) low high z enough e =
       let mid = (low + high) / 2 in
       rw (lt-ltb low high z)
-      (step (over mid) refl (rw (lt-ltb low high z) at e) (λ more done. ended-probed n (mid + 1) high more (omega arith) done) (halve-le over n low mid (omega arith)))
+      (step (over mid) refl (rw (lt-ltb low high z) at e) (λ more done. ended-probed n (mid + 1) high more (omega arith) done)
+      (halve-le over n low mid (omega arith)))
     where
       step : (t : Bool) → over ((low + high) / 2) ≡ t →
           cond t (halve over n ((low + high) / 2 + 1) high) (halve over n low ((low + high) / 2)) ≡ high →
           ((low + high) / 2 + 1 < high → halve over n ((low + high) / 2 + 1) high ≡ high →
           List·Memᴰ (high - 1) (probes over n ((low + high) / 2 + 1) high) × (over (high - 1) ≡ true)) →
           halve over n low ((low + high) / 2) ≤ (low + high) / 2 →
-          List·Memᴰ (high - 1) ((low + high) / 2 ∷ cond t (probes over n ((low + high) / 2 + 1) high) (probes over n low ((low + high) / 2))) × (over (high - 1) ≡ true)
+          List·Memᴰ (high - 1) ((low + high) / 2 ∷ cond t (probes over n ((low + high) / 2 + 1) high) (probes over n low ((low + high) / 2)))
+          × (over (high - 1) ≡ true)
       step true q e f b =
           let middle : (low + high) / 2 + 1 ≤ high = omega arith in
           ⊎-elim
@@ -70,7 +73,8 @@ module _ (over : ℕ → Bool) where
       step false q e f b = absurd (omega arith)
 
   probed-turn : (n low high : ℕ) → low < high → over (high - 1) ≡ true →
-      List·Memᴰ (high - 1) ((low + high) / 2 ∷ cond (over ((low + high) / 2)) (probes over n ((low + high) / 2 + 1) high) (probes over n low ((low + high) / 2))) →
+      List·Memᴰ (high - 1) ((low + high) / 2 ∷ cond (over ((low + high) / 2)) (probes over n ((low + high) / 2 + 1) high)
+      (probes over n low ((low + high) / 2))) →
       (List·Memᴰ (high - 1) (probes over n ((low + high) / 2 + 1) high) → halve over n ((low + high) / 2 + 1) high ≡ high) →
       cond (over ((low + high) / 2)) (halve over n ((low + high) / 2 + 1) high) (halve over n low ((low + high) / 2)) ≡ high
   probed-turn n low high z e m f =

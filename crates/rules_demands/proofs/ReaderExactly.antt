@@ -16,8 +16,8 @@ use Rattle.crc.specs.Sealed.{body, isSealed}
 use Rattle.rules.specs.Layout.{legalLayout, frameSize}
 use Rattle.rules.specs.Refusals.{Outcome, refused}
 use Rattle.rules.specs.Reading.{Scanned, accepted, faulty, scan, strict}
-use Rattle.rules.specs.Lent.{laid, noCodes, noFactors, noSide}
-use Rattle.rules.specs.Reader.{ReaderLent, ReaderLeft, readerRoom, scannedLeft, read}
+use Rattle.rules.specs.Lent.{overwrite, noCodes, noFactors, noSide}
+use Rattle.rules.specs.Reader.{ReaderLent, ReaderLeft, readerHasRoom, scannedLeft, readFrame}
 use Rattle.rules.specs.declared.Layout.{Layout}
 use Rattle.rules.proofs.Layouts.{legal-sizes}
 use Rattle.rules_formats.proofs.Numbers.{eqb-case}
@@ -62,35 +62,37 @@ module _ (l : Layout) (u : ReaderLent) where
   abbrev sync : ℕ
   sync = value (take 16 (bitsOf (body bytesOf)))
 
-  body-long : legalLayout l ≡ true → readerRoom l u ≡ true → length (body bytesOf) ≡ frameSize l - 2
+  body-long : legalLayout l ≡ true → readerHasRoom l u ≡ true → length (body bytesOf) ≡ frameSize l - 2
   body-long a m = length-take-le (length bytesOf - 2) bytesOf (omega arith) ∙ ap (λ n. n - 2) (front-length l u m)
 
-  bits-long : legalLayout l ≡ true → readerRoom l u ≡ true → 16 ≤ length (bitsOf (body bytesOf))
+  bits-long : legalLayout l ≡ true → readerHasRoom l u ≡ true → 16 ≤ length (bitsOf (body bytesOf))
   bits-long a m = let z = legal-sizes l a in omega (arith, length-bits-of (body bytesOf), body-long a m, z .small)
 
   -- the answer is one of five
-  judged : (P : Outcome → Type 0) → (legalLayout l ≡ false → P (refused 1 0)) → (legalLayout l ≡ true → readerRoom l u ≡ false → P (refused 2 0))
-      → (legalLayout l ≡ true → readerRoom l u ≡ true → isSealed bytesOf ≡ false → P (refused 8 0))
-      → (legalLayout l ≡ true → readerRoom l u ≡ true → isSealed bytesOf ≡ true → (sync ≡ 0xFFFF → ⊥) → P (refused 9 0))
-      → (legalLayout l ≡ true → readerRoom l u ≡ true → (x : Scanned) → From 11 x → P (scannedLeft l x .outcome)) → P (read l u .outcome)
-  unfolding read strict scannedLeft
+  judged : (P : Outcome → Type 0) → (legalLayout l ≡ false → P (refused 1 0)) → (legalLayout l ≡ true → readerHasRoom l u ≡ false → P (refused 2 0))
+      → (legalLayout l ≡ true → readerHasRoom l u ≡ true → isSealed bytesOf ≡ false → P (refused 8 0))
+      → (legalLayout l ≡ true → readerHasRoom l u ≡ true → isSealed bytesOf ≡ true → (sync ≡ 0xFFFF → ⊥) → P (refused 9 0))
+      → (legalLayout l ≡ true → readerHasRoom l u ≡ true → (x : Scanned) → From 11 x → P (scannedLeft l x .outcome)) → P (readFrame l u .outcome)
+  unfolding readFrame strict scannedLeft
   judged P one two eight nine rest =
       let Q : ReaderLeft → Type 0 = λ x. P (x .outcome) in
       let R : Scanned → Type 0 = λ x. P (scannedLeft l x .outcome) in
       cond-both Q (not (legalLayout l)) (λ a. one (not-true _ a))
-      (λ a. cond-both Q (not (readerRoom l u)) (λ m. two (not-false _ a) (not-true _ m))
+      (λ a. cond-both Q (not (readerHasRoom l u)) (λ m. two (not-false _ a) (not-true _ m))
       (λ m. cond-both R (isSealed bytesOf)
       (λ c. eqb-case (λ _. R (scan l (bitsOf (body bytesOf)))) sync 0xFFFF
-      (λ e. rest (not-false _ a) (not-false _ m) (scan l (bitsOf (body bytesOf))) (scan-sync l (bitsOf (body bytesOf)) (bits-long (not-false _ a) (not-false _ m)) e))
+      (λ e. rest (not-false _ a) (not-false _ m) (scan l (bitsOf (body bytesOf)))
+      (scan-sync l (bitsOf (body bytesOf)) (bits-long (not-false _ a) (not-false _ m)) e))
       (λ e. rw (scan-no-sync l (bitsOf (body bytesOf)) (bits-long (not-false _ a) (not-false _ m)) e) (nine (not-false _ a) (not-false _ m) c e)))
       (λ c. eight (not-false _ a) (not-false _ m) c)))
 
-  later-differs : {A : Type 0} (n k : ℕ) → n ≤ 9 → legalLayout l ≡ true → readerRoom l u ≡ true → (x : Scanned) → From 11 x → scannedLeft l x .outcome ≡ refused n k → A
+  later-differs : {A : Type 0} (n k : ℕ) → n ≤ 9 → legalLayout l ≡ true → readerHasRoom l u ≡ true → (x : Scanned) → From 11 x → scannedLeft l x .outcome
+      ≡ refused n k → A
   later-differs n k h _ _ x w e = absurd (omega (arith, scanned-number l x w n k e))
 
   -- Refusal 1: the layout is outside the limits.
-  pub read-one-exactly : (p : ℕ) → (read l u .outcome ≡ refused 1 p) ↔ ((legalLayout l ≡ false) × (p ≡ 0))
-  unfolding read
+  pub read-one-exactly : (p : ℕ) → (readFrame l u .outcome ≡ refused 1 p) ↔ ((legalLayout l ≡ false) × (p ≡ 0))
+  unfolding readFrame
   read-one-exactly p = (
     judged (λ o. o ≡ refused 1 p → (legalLayout l ≡ false) × (p ≡ 0)) (λ a e. (a, sym (ap besideOf e))) (λ _ _ e. differ e (λ z. omega arith))
         (λ _ _ _ e. differ e (λ z. omega arith)) (λ _ _ _ _ e. differ e (λ z. omega arith)) (later-differs 1 p (omega arith)),
@@ -98,65 +100,77 @@ module _ (l : Layout) (u : ReaderLent) where
   )
 
   -- Refusal 2: a lent buffer is too short.
-  pub read-two-exactly : (p : ℕ) → (read l u .outcome ≡ refused 2 p) ↔ ((legalLayout l ≡ true) × (readerRoom l u ≡ false) × (p ≡ 0))
-  unfolding read
+  pub read-two-exactly : (p : ℕ) → (readFrame l u .outcome ≡ refused 2 p) ↔ ((legalLayout l ≡ true) × (readerHasRoom l u ≡ false) × (p ≡ 0))
+  unfolding readFrame
   read-two-exactly p = (
-    judged (λ o. o ≡ refused 2 p → (legalLayout l ≡ true) × (readerRoom l u ≡ false) × (p ≡ 0)) (λ _ e. differ e (λ z. omega arith)) (λ a m e. (a, m, sym (ap besideOf e)))
+    judged (λ o. o ≡ refused 2 p → (legalLayout l ≡ true) × (readerHasRoom l u ≡ false) × (p ≡ 0)) (λ _ e. differ e (λ z. omega arith))
+        (λ a m e. (a, m, sym (ap besideOf e)))
         (λ _ _ _ e. differ e (λ z. omega arith)) (λ _ _ _ _ e. differ e (λ z. omega arith)) (later-differs 2 p (omega arith)),
     (λ x. let (a, m, q) = x in rw (a, m, q)),
   )
 
   -- Refusal 8: the check is wrong.
-  pub eight-exactly : (p : ℕ) → (read l u .outcome ≡ refused 8 p)
-      ↔ ((legalLayout l ≡ true) × (readerRoom l u ≡ true) × (isSealed (take (frameSize l) (u .frame)) ≡ false) × (p ≡ 0))
-  unfolding read strict scannedLeft
+  pub eight-exactly : (p : ℕ) → (readFrame l u .outcome ≡ refused 8 p)
+      ↔ ((legalLayout l ≡ true) × (readerHasRoom l u ≡ true) × (isSealed (take (frameSize l) (u .frame)) ≡ false) × (p ≡ 0))
+  unfolding readFrame strict scannedLeft
   eight-exactly p = (
-    judged (λ o. o ≡ refused 8 p → (legalLayout l ≡ true) × (readerRoom l u ≡ true) × (isSealed bytesOf ≡ false) × (p ≡ 0)) (λ _ e. differ e (λ z. omega arith))
-        (λ _ _ e. differ e (λ z. omega arith)) (λ a m c e. (a, m, c, sym (ap besideOf e))) (λ _ _ _ _ e. differ e (λ z. omega arith)) (later-differs 8 p (omega arith)),
+    judged (λ o. o ≡ refused 8 p → (legalLayout l ≡ true) × (readerHasRoom l u ≡ true) × (isSealed bytesOf ≡ false) × (p ≡ 0))
+        (λ _ e. differ e (λ z. omega arith))
+        (λ _ _ e. differ e (λ z. omega arith)) (λ a m c e. (a, m, c, sym (ap besideOf e))) (λ _ _ _ _ e. differ e (λ z. omega arith))
+        (later-differs 8 p (omega arith)),
     (λ x. let (a, m, c, q) = x in rw (a, m, c, q)),
   )
 
-  sync-lent : legalLayout l ≡ true → readerRoom l u ≡ true → Bytes (u .frame) → (sync ≡ 0xFFFF) ↔ (take 2 (u .frame) ≡ 0xFF ∷ 0xFF ∷ [])
+  sync-lent : legalLayout l ≡ true → readerHasRoom l u ≡ true → Bytes (u .frame) → (sync ≡ 0xFFFF) ↔ (take 2 (u .frame) ≡ 0xFF ∷ 0xFF ∷ [])
   sync-lent a m b =
       let z = legal-sizes l a in
       let front : take 2 (body bytesOf) ≡ take 2 (u .frame) =
       take-take 2 (length bytesOf - 2) bytesOf (omega (arith, front-length l u m, z .small)) ∙ take-take 2 (frameSize l) (u .frame) (omega (arith, z .small)) in
-      rw front at (sync-bytes (body bytesOf) (bytes-take (length bytesOf - 2) bytesOf (bytes-take (frameSize l) (u .frame) b)) (omega (arith, body-long a m, z .small)))
+      rw front at (sync-bytes (body bytesOf) (bytes-take (length bytesOf - 2) bytesOf (bytes-take (frameSize l) (u .frame) b))
+      (omega (arith, body-long a m, z .small)))
 
   -- Refusal 9: the check is right, and the sync is not FFFF.
-  pub nine-exactly : (p : ℕ) → Bytes (u .frame) → (read l u .outcome ≡ refused 9 p)
-      ↔ ((legalLayout l ≡ true) × (readerRoom l u ≡ true) × (isSealed (take (frameSize l) (u .frame)) ≡ true) × (take 2 (u .frame) ≡ 0xFF ∷ 0xFF ∷ [] → ⊥) × (p ≡ 0))
-  unfolding read strict scannedLeft
+  pub nine-exactly : (p : ℕ) → Bytes (u .frame) → (readFrame l u .outcome ≡ refused 9 p)
+      ↔ ((legalLayout l ≡ true) × (readerHasRoom l u ≡ true) × (isSealed (take (frameSize l) (u .frame)) ≡ true) × (take 2 (u .frame) ≡ 0xFF ∷ 0xFF ∷ [] → ⊥)
+      × (p ≡ 0))
+  unfolding readFrame strict scannedLeft
   nine-exactly p b = (
-    judged (λ o. o ≡ refused 9 p → (legalLayout l ≡ true) × (readerRoom l u ≡ true) × (isSealed bytesOf ≡ true) × (take 2 (u .frame) ≡ 0xFF ∷ 0xFF ∷ [] → ⊥) × (p ≡ 0))
+    judged (λ o. o ≡ refused 9 p → (legalLayout l ≡ true) × (readerHasRoom l u ≡ true) × (isSealed bytesOf ≡ true) × (take 2 (u .frame) ≡ 0xFF ∷ 0xFF ∷ [] → ⊥)
+        × (p ≡ 0))
         (λ _ e. differ e (λ z. omega arith)) (λ _ _ e. differ e (λ z. omega arith)) (λ _ _ _ e. differ e (λ z. omega arith))
         (λ a m c h e. (a, m, c, (λ f. h (sync-lent a m b .1 f)), sym (ap besideOf e))) (later-differs 9 p (omega arith)),
     (λ x. let (a, m, c, h, q) = x in rw (a, m, c, scan-no-sync l (bitsOf (body bytesOf)) (bits-long a m) (λ e. h (sync-lent a m b .0 e)), q)),
   )
 
   -- Every refusal is 1, 2, 8, 9 or one of 11 to 14.
-  pub read-numbers : (n k : ℕ) → read l u .outcome ≡ refused n k → (n ≡ 1) ⊎ ((n ≡ 2) ⊎ ((8 ≤ n) × (n ≤ 14) × (n ≡ 10 → ⊥)))
+  pub read-numbers : (n k : ℕ) → readFrame l u .outcome ≡ refused n k → (n ≡ 1) ⊎ ((n ≡ 2) ⊎ ((8 ≤ n) × (n ≤ 14) × (n ≡ 10 → ⊥)))
   read-numbers n k =
-      judged (λ o. o ≡ refused n k → (n ≡ 1) ⊎ ((n ≡ 2) ⊎ ((8 ≤ n) × (n ≤ 14) × (n ≡ 10 → ⊥)))) (λ _ e. inl (sym (ap numberOf e))) (λ _ _ e. inr (inl (sym (ap numberOf e))))
-      (λ _ _ _ e. let z = ap numberOf e in inr (inr (omega arith, omega arith, λ q. omega arith))) (λ _ _ _ _ e. let z = ap numberOf e in inr (inr (omega arith, omega arith, λ q. omega arith)))
+      judged (λ o. o ≡ refused n k → (n ≡ 1) ⊎ ((n ≡ 2) ⊎ ((8 ≤ n) × (n ≤ 14) × (n ≡ 10 → ⊥)))) (λ _ e. inl (sym (ap numberOf e)))
+      (λ _ _ e. inr (inl (sym (ap numberOf e))))
+      (λ _ _ _ e. let z = ap numberOf e in inr (inr (omega arith, omega arith, λ q. omega arith)))
+      (λ _ _ _ _ e. let z = ap numberOf e in inr (inr (omega arith, omega arith, λ q. omega arith)))
       (λ _ _ x w e. let (h, g) = scanned-number l x w n k e in inr (inr (omega arith, g, λ q. omega arith)))
 
   -- 1 and 2 keep every buffer; 8 to 14 clear the stated lengths of all three.
-  pub read-leaves : (n k : ℕ) → read l u .outcome ≡ refused n k
-      → (n ≤ 2 → (read l u .factors ≡ u .factors) × (read l u .side ≡ u .side) × (read l u .codes ≡ u .codes))
-      × (8 ≤ n → (read l u .factors ≡ laid (noFactors l) (u .factors)) × (read l u .side ≡ laid (noSide l) (u .side)) × (read l u .codes ≡ laid (noCodes l) (u .codes)))
+  pub read-leaves : (n k : ℕ) → readFrame l u .outcome ≡ refused n k
+      → (n ≤ 2 → (readFrame l u .factors ≡ u .factors) × (readFrame l u .side ≡ u .side) × (readFrame l u .codes ≡ u .codes))
+      × (8 ≤ n → (readFrame l u .factors ≡ overwrite (noFactors l) (u .factors)) × (readFrame l u .side ≡ overwrite (noSide l) (u .side))
+      × (readFrame l u .codes ≡ overwrite (noCodes l) (u .codes)))
   read-leaves n k e = ((λ h. read-keeps l u (shut e h)), (λ h. let (a, m) = entered e h in read-clears l u a m n k e))
     where
-      shut : read l u .outcome ≡ refused n k → n ≤ 2 → (legalLayout l && readerRoom l u) ≡ false
+      shut : readFrame l u .outcome ≡ refused n k → n ≤ 2 → (legalLayout l && readerHasRoom l u) ≡ false
       shut =
-          judged (λ o. o ≡ refused n k → n ≤ 2 → (legalLayout l && readerRoom l u) ≡ false) (λ a _ _. rw a) (λ a m _ _. rw (a, m))
-          (λ _ _ _ e h. differ e (λ z. omega arith)) (λ _ _ _ _ e h. differ e (λ z. omega arith)) (λ _ _ x w e h. absurd (omega (arith, scanned-number l x w n k e)))
+          judged (λ o. o ≡ refused n k → n ≤ 2 → (legalLayout l && readerHasRoom l u) ≡ false) (λ a _ _. rw a) (λ a m _ _. rw (a, m))
+          (λ _ _ _ e h. differ e (λ z. omega arith)) (λ _ _ _ _ e h. differ e (λ z. omega arith))
+          (λ _ _ x w e h. absurd (omega (arith, scanned-number l x w n k e)))
 
-      entered : read l u .outcome ≡ refused n k → 8 ≤ n → (legalLayout l ≡ true) × (readerRoom l u ≡ true)
+      entered : readFrame l u .outcome ≡ refused n k → 8 ≤ n → (legalLayout l ≡ true) × (readerHasRoom l u ≡ true)
       entered =
-          judged (λ o. o ≡ refused n k → 8 ≤ n → (legalLayout l ≡ true) × (readerRoom l u ≡ true)) (λ _ e h. differ e (λ z. omega arith)) (λ _ _ e h. differ e (λ z. omega arith))
+          judged (λ o. o ≡ refused n k → 8 ≤ n → (legalLayout l ≡ true) × (readerHasRoom l u ≡ true)) (λ _ e h. differ e (λ z. omega arith))
+          (λ _ _ e h. differ e (λ z. omega arith))
           (λ a m _ _ _. (a, m)) (λ a m _ _ _ _. (a, m)) (λ a m _ _ _ _. (a, m))
 
   -- no refusal has the number 0
-  pub read-number : (n k : ℕ) → read l u .outcome ≡ refused n k → 0 < n
-  read-number n k e = ⊎-elim (λ (z : n ≡ 1). omega arith) (λ x. ⊎-elim (λ (z : n ≡ 2). omega arith) (λ (z : (8 ≤ n) × (n ≤ 14) × (n ≡ 10 → ⊥)). omega (arith, z .0)) x) (read-numbers n k e)
+  pub read-number : (n k : ℕ) → readFrame l u .outcome ≡ refused n k → 0 < n
+  read-number n k e = ⊎-elim (λ (z : n ≡ 1). omega arith)
+      (λ x. ⊎-elim (λ (z : n ≡ 2). omega arith) (λ (z : (8 ≤ n) × (n ≤ 14) × (n ≡ 10 → ⊥)). omega (arith, z .0)) x) (read-numbers n k e)

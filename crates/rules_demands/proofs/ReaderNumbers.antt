@@ -18,7 +18,8 @@ use Rattle.rules.specs.Width.{near, width}
 use Rattle.rules.specs.Code.{magnitudeBits}
 use Rattle.rules.specs.Record.{Chan, Rec, resolutions}
 use Rattle.rules.specs.Fields.{asPrevious, smallBits}
-use Rattle.rules.specs.Reading.{deltaFactor, readDelta, readFactor, readFactors, readWidth, readChannel, codesTo, signed, readCode, readRecord, readFields, firstOne, Scanned, accepted, faulty, afterFill, afterFields, scan}
+use Rattle.rules.specs.Reading.{deltaFactor, readDelta, readFactor, readFactors, readWidth, readChannel, codesTo, signed, readCode, readRecord, readFields}
+use Rattle.rules.specs.Reading.{firstOne, Scanned, accepted, faulty, afterFill, afterFields, scan}
 use Rattle.rules.specs.declared.ChannelType.{ChannelType}
 use Rattle.rules.specs.declared.Layout.{Layout}
 
@@ -50,7 +51,8 @@ module _ (a : ℕ) where
   from-within l (ok x t) h = tt
   from-within l (bad n k) h = h
 
-  walk-refuses : {S X A : Type 0} (next : S → A → S) (f : S → X → Reader A) → ((s : S) (x : X) → Refuses a (f s x)) → (s : S) (xs : List X) → Refuses a (walk next f s xs)
+  walk-refuses : {S X A : Type 0} (next : S → A → S) (f : S → X → Reader A) → ((s : S) (x : X) → Refuses a (f s x)) → (s : S) (xs : List X)
+      → Refuses a (walk next f s xs)
   walk-refuses next f h s [] = λ _. tt
   walk-refuses next f h s (x ∷ xs) =
       bind-refuses (f s x) (λ y. walk next f (next s y) xs >>= λ ys. pure (y ∷ ys)) (h s x)
@@ -86,7 +88,8 @@ delta-refuses d previous s =
     bind-refuses 11 (number d) _ (number-refuses 11 few d)
     (λ v. cond-both {A = Reader ℕ} (Refuses 11) (eqb v (2 ^ d - 1))
     (λ _. require-refuses 11 12 (length s) (λ f. not (near d previous f)) (number 6) (omega arith) (omega arith) (number-refuses 11 few 6))
-    (λ _. keep-refuses 11 12 (length s) (leZ (pos 0) (deltaFactor d previous v) && leZ (deltaFactor d previous v) (pos 63)) (natAbs (deltaFactor d previous v)) (omega arith) (omega arith))) s
+    (λ _. keep-refuses 11 12 (length s) (leZ (pos 0) (deltaFactor d previous v) && leZ (deltaFactor d previous v) (pos 63)) (natAbs (deltaFactor d previous v))
+    (omega arith) (omega arith))) s
 
 factor-refuses : (w : ℕ) (previous : Option ℕ) → Refuses 11 (readFactor w previous)
 factor-refuses w none = number-refuses 11 few 6
@@ -118,7 +121,8 @@ unfolding readCode
 code-refuses r =
     cond-both {A = Reader ℤ} (Refuses 11) (eqb r 0) (λ _ _. tt)
     (λ _. cond-both {A = Reader ℤ} (Refuses 11) (ltb r 8) (λ _. one-of-refuses 11 few (smallBits r) (codesTo r))
-    (λ _ s. from-within 11 (length s) ((number (magnitudeBits r) >>= signed) s) (bind-refuses 11 (number (magnitudeBits r)) signed (number-refuses 11 few (magnitudeBits r)) signed-refuses s)))
+    (λ _ s. from-within 11 (length s) ((number (magnitudeBits r) >>= signed) s)
+    (bind-refuses 11 (number (magnitudeBits r)) signed (number-refuses 11 few (magnitudeBits r)) signed-refuses s)))
 
 -- what follows the level, the boundary and the channels
 abbrev codesNext : ℕ → ℕ → List Chan → Reader (List (List (List ℤ)))

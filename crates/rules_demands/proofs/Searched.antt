@@ -9,7 +9,7 @@ use Rattle.rules.specs.Estimate.{exceeds}
 use Rattle.rules.specs.Level.{levelOf}
 use Rattle.rules.specs.Boundary.{searchBoundary, boundaryOf}
 use Rattle.rules.specs.Refusals.{delivered}
-use Rattle.rules.specs.Stage.{StageLent, made, madeFrom, stage}
+use Rattle.rules.specs.Stage.{StageLent, analysis, analysisFrom, encodeFrame}
 use Rattle.rules.specs.declared.Layout.{Layout}
 use Rattle.rules_demands.specs.Pairs.{afterPairs}
 use Rattle.rules_demands.proofs.FoundLevel.{level-fits, level-before-exceeds}
@@ -23,11 +23,12 @@ abbrev pub exceedsAfter : Layout → StageLent → ℕ → ℕ → ℕ → Bool
 exceedsAfter l t pairs = exceeds l (scaledOf l t) (afterPairs l (factorsOf l t) pairs)
 
 made-boundary : (l : Layout) (t : StageLent) → boundaryBy l t ≡ boundaryOf (levelBy l t) (exceedsAfter l t (pairsBy l t) (levelBy l t))
-unfolding made madeFrom
+unfolding analysis analysisFrom
 made-boundary l t =
-    ap (λ fs. boundaryOf (levelBy l t) (exceeds l (scaledOf l t) fs (levelBy l t))) (factors-after-pairs l (λ fs v. exceeds l (scaledOf l t) fs v 0) (factorsOf l t))
+    ap (λ fs. boundaryOf (levelBy l t) (exceeds l (scaledOf l t) fs (levelBy l t)))
+    (factors-after-pairs l (λ fs v. exceeds l (scaledOf l t) fs v 0) (factorsOf l t))
 
-module _ (l : Layout) (t : StageLent) (level boundary pairs n : ℕ) (e : stage l t .outcome ≡ delivered (level ∷ boundary ∷ pairs ∷ n ∷ [])) where
+module _ (l : Layout) (t : StageLent) (level boundary pairs n : ℕ) (e : encodeFrame l t .outcome ≡ delivered (level ∷ boundary ∷ pairs ∷ n ∷ [])) where
   -- LEVEL: it fits at boundary 0, and the level before it exceeds.
   pub level-answered : (exceedsAfter l t pairs level 0 ≡ false) × (0 < level → exceedsAfter l t pairs (level - 1) 0 ≡ true)
   level-answered =

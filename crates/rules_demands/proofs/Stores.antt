@@ -9,9 +9,11 @@ use Rattle.buffers.specs.Walk.{build, blocks}
 use Rattle.buffers.proofs.Build.{length-build, build-at, build-of}
 use Rattle.buffers.proofs.Blocks.{length-blocks, blocks-at}
 use Rattle.rules.specs.Format.{Each}
-use Rattle.rules.specs.Layout.{Sizes, kindAt, kindsOf, codedCount, codedAt, sideCount, sidesAt, sideWidth, spectrumLength, factorLength, sideLength, part}
+use Rattle.rules.specs.Layout.{LegalLayout, kindAt, kindsOf, codedCount, codedCountAt, sideCount, sideCountAt, sideWidth, spectrumLength, factorLength}
+use Rattle.rules.specs.Layout.{sideLength, part}
 use Rattle.rules.specs.Resolution.{resolutionAt, resolutionsOf, allResolutions}
-use Rattle.rules.specs.Record.{Chan, Rec, LegalCode, LegalChan, resolutions, Legal, chanOf, codesIn, recOf, pad, noChan, storeFactors, storeSide, storeCodes, legalChannel, legalChannels, legalRecord}
+use Rattle.rules.specs.Record.{Chan, Rec, LegalCode, LegalChan, resolutions, Legal, chanOf, codesIn, recOf, pad, noChan, storeFactors, storeSide, storeCodes}
+use Rattle.rules.specs.Record.{legalChannel, legalChannels, legalRecord}
 use Rattle.rules.specs.declared.Layout.{Layout}
 use Rattle.rules.proofs.Layouts.{sides-le, coded-few}
 use Rattle.rules.proofs.Bands.{resolutions-front}
@@ -67,7 +69,8 @@ module _ (l : Layout) (r : Rec) where
   unfolding storeSide
   side-part t c h = blocks-at _ 8 (l .channels) (λ i _. length-pad 0 8 ((getD (r .chans) i noChan) .side)) (l .channels) c t (omega arith) h
 
-  pub codes-part : (u : List ℤ) (c s : ℕ) → c < l .channels → s < 8 → part 128 (part 1024 (storeCodes l r ++ u) c) s ≡ pad (pos 0) 128 (getD (getD (r .codes) s []) c [])
+  pub codes-part : (u : List ℤ) (c s : ℕ) → c < l .channels → s < 8 → part 128 (part 1024 (storeCodes l r ++ u) c) s
+      ≡ pad (pos 0) 128 (getD (getD (r .codes) s []) c [])
   unfolding storeCodes
   codes-part u c s h g =
       ap (λ xs. part 128 xs s) (blocks-at (rowsOf r) 1024 (l .channels) (λ i _. rows-size r i) (l .channels) c u (omega arith) h)
@@ -82,12 +85,12 @@ module _ (l : Layout) (r : Rec) (h : Legal l r) where
   pub chan-legal : (c : ℕ) → c < l .channels → LegalChan l (kindAt l c) (getD (r .chans) c noChan)
   chan-legal c g = rw (kind-of l c g) at (each-at (LegalChan l) (kindAt l c) noChan (kindsOf l) (r .chans) (h .chans) c (omega (arith, length-kinds l)))
 
-  pub factors-long : (c : ℕ) → c < l .channels → length ((getD (r .chans) c noChan) .factors) ≡ codedAt l c
-  unfolding codedAt
+  pub factors-long : (c : ℕ) → c < l .channels → length ((getD (r .chans) c noChan) .factors) ≡ codedCountAt l c
+  unfolding codedCountAt
   factors-long c g = times-length (λ f. f < 64) (codedCount l (kindAt l c)) _ (chan-legal c g .factors)
 
-  pub side-long : (c : ℕ) → c < l .channels → length ((getD (r .chans) c noChan) .side) ≡ sidesAt l c
-  unfolding sidesAt
+  pub side-long : (c : ℕ) → c < l .channels → length ((getD (r .chans) c noChan) .side) ≡ sideCountAt l c
+  unfolding sideCountAt
   side-long c g = times-length (λ v. v < 2 ^ sideWidth (kindAt l c)) (sideCount l (kindAt l c)) _ (chan-legal c g .side)
 
   abbrev Resolved : List (List ℕ)
@@ -109,9 +112,10 @@ module _ (l : Layout) (r : Rec) (h : Legal l r) where
       Each LegalCode (resolutionsOf (r .level) (r .boundary) ((getD (r .chans) c noChan) .factors)) (getD (getD (r .codes) s []) c [])
   bands-legal s c g k =
       rw (List·getD-map (λ (x : Chan). resolutionsOf (r .level) (r .boundary) (x .factors)) (r .chans) c noChan) at
-      (each-at (Each LegalCode) (resolutionsOf (r .level) (r .boundary) []) [] Resolved (getD (r .codes) s []) (subframe-legal s g) c (omega (arith, resolved-long)))
+      (each-at (Each LegalCode) (resolutionsOf (r .level) (r .boundary) []) [] Resolved (getD (r .codes) s []) (subframe-legal s g) c
+      (omega (arith, resolved-long)))
 
-  pub codes-long : (s c : ℕ) → s < 8 → c < l .channels → length (getD (getD (r .codes) s []) c []) ≡ codedAt l c
+  pub codes-long : (s c : ℕ) → s < 8 → c < l .channels → length (getD (getD (r .codes) s []) c []) ≡ codedCountAt l c
   codes-long s c g k =
       let fs = (getD (r .chans) c noChan) .factors in
       each-length LegalCode (resolutionsOf (r .level) (r .boundary) fs) (getD (getD (r .codes) s []) c []) (bands-legal s c g k)
@@ -119,19 +123,20 @@ module _ (l : Layout) (r : Rec) (h : Legal l r) where
 
 -- ---- what a legal record is stored as is that record, whatever stands after it in the buffers
 
-module _ (l : Layout) (z : Sizes l) (r : Rec) (h : Legal l r) (s t : List ℕ) (u : List ℤ) where
+module _ (l : Layout) (z : LegalLayout l) (r : Rec) (h : Legal l r) (s t : List ℕ) (u : List ℤ) where
   chan-back : (c : ℕ) → c < l .channels → getD (r .chans) c noChan ≡ chanOf l (storeFactors l r ++ s) (storeSide l r ++ t) c
   chan-back c g =
       let x = getD (r .chans) c noChan in
-      let f : take (codedAt l c) (part 128 (storeFactors l r ++ s) c) ≡ x .factors =
-      rw (factors-part l r s c g) (pad-take 0 128 (codedAt l c) (x .factors) (factors-long l r h c g) (coded-few l z c)) in
-      let v : take (sidesAt l c) (part 8 (storeSide l r ++ t) c) ≡ x .side =
-      rw (side-part l r t c g) (pad-take 0 8 (sidesAt l c) (x .side) (side-long l r h c g) (sides-le l c)) in
+      let f : take (codedCountAt l c) (part 128 (storeFactors l r ++ s) c) ≡ x .factors =
+      rw (factors-part l r s c g) (pad-take 0 128 (codedCountAt l c) (x .factors) (factors-long l r h c g) (coded-few l z c)) in
+      let v : take (sideCountAt l c) (part 8 (storeSide l r ++ t) c) ≡ x .side =
+      rw (side-part l r t c g) (pad-take 0 8 (sideCountAt l c) (x .side) (side-long l r h c g) (sides-le l c)) in
       λ i. record { factors = sym f i; side = sym v i }
 
   codes-back : (j c : ℕ) → j < 8 → c < l .channels → getD (getD (r .codes) j []) c [] ≡ codesIn l (storeCodes l r ++ u) j c
   codes-back j c g k =
-      sym (rw (codes-part l r u c j k g) (pad-take (pos 0) 128 (codedAt l c) (getD (getD (r .codes) j []) c []) (codes-long l r h j c g k) (coded-few l z c)))
+      sym (rw (codes-part l r u c j k g) (pad-take (pos 0) 128 (codedCountAt l c) (getD (getD (r .codes) j []) c []) (codes-long l r h j c g k)
+      (coded-few l z c)))
 
   pub stored : recOf l (r .level) (r .boundary) (storeFactors l r ++ s) (storeSide l r ++ t) (storeCodes l r ++ u) ≡ r
   unfolding recOf
@@ -149,20 +154,22 @@ module _ (l : Layout) (level boundary : ℕ) (F S : List ℕ) (C : List ℤ) whe
   record-front =
       let a = build-same (chanOf l (take (factorLength l) F) (take (sideLength l) S)) (chanOf l F S) (l .channels)
       (λ c g. λ i. record {
-        factors = take (codedAt l c) (part-of-front 128 (l .channels) c F g i);
-        side = take (sidesAt l c) (part-of-front 8 (l .channels) c S g i);
+        factors = take (codedCountAt l c) (part-of-front 128 (l .channels) c F g i);
+        side = take (sideCountAt l c) (part-of-front 8 (l .channels) c S g i);
       }) in
       let b = build-same (λ s. build (codesIn l (take (spectrumLength l) C) s) (l .channels)) (λ s. build (codesIn l C s) (l .channels)) 8
       (λ s _. build-same (codesIn l (take (spectrumLength l) C) s) (codesIn l C s) (l .channels)
-      (λ c g. ap (λ xs. take (codedAt l c) (part 128 xs s)) (part-of-front 1024 (l .channels) c C g))) in
+      (λ c g. ap (λ xs. take (codedCountAt l c) (part 128 xs s)) (part-of-front 1024 (l .channels) c C g))) in
       λ i. record { level = level; boundary = boundary; chans = a i; codes = b i }
 
-  pub legal-front : legalRecord l level boundary (take (factorLength l) F) (take (sideLength l) S) (take (spectrumLength l) C) ≡ legalRecord l level boundary F S C
+  pub legal-front : legalRecord l level boundary (take (factorLength l) F) (take (sideLength l) S) (take (spectrumLength l) C)
+      ≡ legalRecord l level boundary F S C
   unfolding legalRecord legalChannels
   legal-front =
       rw (
         resolutions-front l level boundary F,
-        every-same (λ c. legalChannel l c (part 128 (take (factorLength l) F) c) (part 8 (take (sideLength l) S) c) (part 1024 (take (spectrumLength l) C) c) (part 128 (allResolutions l level boundary F) c))
+        every-same (λ c. legalChannel l c (part 128 (take (factorLength l) F) c) (part 8 (take (sideLength l) S) c) (part 1024 (take (spectrumLength l) C) c)
+            (part 128 (allResolutions l level boundary F) c))
             (λ c. legalChannel l c (part 128 F c) (part 8 S c) (part 1024 C c) (part 128 (allResolutions l level boundary F) c)) (l .channels)
             (λ c g. rw (part-of-front 128 (l .channels) c F g, part-of-front 8 (l .channels) c S g, part-of-front 1024 (l .channels) c C g)),
       )

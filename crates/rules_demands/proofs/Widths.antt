@@ -33,7 +33,8 @@ module _ {costs : ℕ → ℕ} {six : ℕ} where
   pub chosen-once : {k w c w′ c′ : ℕ} → Chosen costs six k w c → Chosen costs six k w′ c′ → k ≤ 5 → (w ≡ w′) × (c ≡ c′)
   chosen-once {k} {w} {c} {w′} {c′} h g q =
       ⊎-elim
-      (λ x. ⊎-elim (λ y. (omega (arith, x .0, y .0), omega (arith, x .1, y .1))) (λ y. absurd (omega (arith, h .least w′ (y .0) (y .1), x .1, y .2, y .3))) (g .right))
+      (λ x. ⊎-elim (λ y. (omega (arith, x .0, y .0), omega (arith, x .1, y .1))) (λ y. absurd (omega (arith, h .least w′ (y .0) (y .1), x .1, y .2, y .3)))
+      (g .right))
       (λ x. ⊎-elim
       (λ y. absurd (omega (arith, g .least w (x .0) (x .1), y .1, x .2, x .3)))
       (λ y. let e : w ≡ w′ = meet (λ z. omega (arith, h .smallest w′ (y .0) z (x .1), g .least w (x .0) (x .1), x .2, y .2))

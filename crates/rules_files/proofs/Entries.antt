@@ -146,5 +146,6 @@ module _ (list : List ℕ) where
       ∙ ap (λ xs. entryAt xs 0) (block-part (λ i. entryNumbers (entryIn list i)) 4 (framesIn list) i (λ _ _. refl) h)
 
   -- one of them read and judged
-  pub entry-judged : (n i : ℕ) → n ≡ framesIn list → i < n → (e : Entry) (b : Bool) → e ≡ entryIn list i → b ≡ legalEntry e → legalEntry (entryAt (entriesOf list) i) ≡ b
+  pub entry-judged : (n i : ℕ) → n ≡ framesIn list → i < n → (e : Entry) (b : Bool) → e ≡ entryIn list i → b ≡ legalEntry e
+      → legalEntry (entryAt (entriesOf list) i) ≡ b
   entry-judged n i k h e b q r = ap legalEntry (entries-at i (rw k at h) ∙ sym q) ∙ sym r

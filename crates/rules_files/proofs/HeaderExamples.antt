@@ -17,7 +17,7 @@ use Rattle.rules_files.specs.declared.header.LoopPoints.the-variants.{Ab
 use Rattle.rules_files.specs.declared.header.Stream.{Stream}
 use Rattle.rules_files.specs.FileHeader.{channelMapping, validMappings, loopFields, loopPieces, afterLoop, pieces, byteOf, headerOf}
 use Rattle.rules_files.specs.declared.header.HeaderAnswer.the-variants as answers
-use Rattle.rules_files.specs.FileHeader.{headerOutcome, fitsPoints, fitsHeader, headerWritten}
+use Rattle.rules_files.specs.FileHeader.{headerOutcome, fitsPoints, fitsHeader, writeHeader}
 
 -- base 64, total 100, 170 bytes a frame
 abbrev pub voices : (channels : ℕ) → Layout
@@ -45,9 +45,9 @@ worked-header = refl
 
 -- seventeen channels are no layout; nine are one, and 95 bytes are refused before them
 pub one-two-sixteen :
-    (headerWritten (voices 17) looped (replicate 95 0) .outcome ≡ refused 1 0)
-    × (headerWritten (voices 9) looped (replicate 95 0) .outcome ≡ refused 2 0) × (headerWritten (voices 9) looped (replicate 96 0) .outcome ≡ refused 16 0)
-unfolding headerWritten fitsHeader fitsPoints legalLayout
+    (writeHeader (voices 17) looped (replicate 95 0) .outcome ≡ refused 1 0)
+    × (writeHeader (voices 9) looped (replicate 95 0) .outcome ≡ refused 2 0) × (writeHeader (voices 9) looped (replicate 96 0) .outcome ≡ refused 16 0)
+unfolding writeHeader fitsHeader fitsPoints legalLayout
 one-two-sixteen = (refl, refl, refl)
 
 -- the largest points; and the largest end on an edge
@@ -106,7 +106,8 @@ sixteen-row = refl
 
 -- the number of each answer
 pub header-numbers :
-    map headerOutcome (answers.Delivered ∷ answers.BadLayout ∷ answers.ShortBuffer ∷ answers.BadHeader ∷ []) ≡ delivered [] ∷ refused 1 0 ∷ refused 2 0 ∷ refused 16 0 ∷ []
+    map headerOutcome (answers.Delivered ∷ answers.BadLayout ∷ answers.ShortBuffer ∷ answers.BadHeader ∷ [])
+    ≡ delivered [] ∷ refused 1 0 ∷ refused 2 0 ∷ refused 16 0 ∷ []
 unfolding headerOutcome
 header-numbers = refl
 

@@ -15,7 +15,7 @@ use Rattle.crc.specs.Sealed.{check, sealed}
 use Rattle.crc.proofs.Sealed.{length-sealed}
 use Rattle.numbers.specs.Numbers.{highFirst, ofHigh}
 use Rattle.numbers.proofs.HighFirst.{high-length, high-back}
-use Rattle.rules.specs.Layout.{legalLayout, Sizes, bandsPerGroup, ceilDiv}
+use Rattle.rules.specs.Layout.{legalLayout, LegalLayout, bandsPerGroup, ceilDiv}
 use Rattle.rules.specs.declared.Layout.{Layout}
 use Rattle.rules.proofs.Layouts.{legal-sizes}
 use Rattle.rules_files.specs.declared.header.LoopPoints.{LoopPoints}
@@ -79,7 +79,7 @@ fit-at [] k f h = absurd (omega arith)
 fit-at (p ∷ ps) zero f h = f .0
 fit-at (p ∷ ps) (suc k) f h = fit-at ps k (f .1) (omega arith)
 
-per-group-small : (l : Layout) → Sizes l → bandsPerGroup l ≤ 255
+per-group-small : (l : Layout) → LegalLayout l → bandsPerGroup l ≤ 255
 unfolding bandsPerGroup ceilDiv
 per-group-small l s = omega arith
 
@@ -111,7 +111,7 @@ loop-fits (Given start end) h =
     let b : end + 128 ≤ 0xFFFFFFFF = h .1 in
     (omega arith, (omega arith, (omega arith, (omega (arith, m .delay), (omega (arith, m .padding), tt)))))
 
-module _ (l : Layout) (st : Stream) (s : Sizes l) (h : HeaderFits l st) where
+module _ (l : Layout) (st : Stream) (s : LegalLayout l) (h : HeaderFits l st) where
   format-fits : AllFit (formatPieces (l .channels) st)
   unfolding AllFit
   format-fits = (omega arith, (omega arith, (omega arith, (omega arith, (omega arith, (omega arith, tt))))))

@@ -18,7 +18,7 @@ use Rattle.crc.specs.Sealed.{isSealed}
 use Rattle.crc.proofs.Sealed.{length-sealed, is-sealed-sealed, bytes-sealed}
 use Rattle.numbers.proofs.HighFirst.{high-bytes}
 use Rattle.rules.specs.Layout.{legalLayout}
-use Rattle.rules.specs.Lent.{laid}
+use Rattle.rules.specs.Lent.{overwrite}
 use Rattle.rules.specs.Refusals.{Outcome, delivered, refused}
 use Rattle.rules.specs.declared.Layout.{Layout}
 use Rattle.rules.proofs.Answers.{never, Numbered, numbered, unnumbered}
@@ -30,7 +30,7 @@ use Rattle.rules_files.specs.declared.header.HeaderAnswer.{HeaderAnswer}
 use Rattle.rules_files.specs.declared.header.HeaderAnswer.the-variants as answers
 use Rattle.rules_files.specs.FileHeader.{Piece, covers, pieceBytes, byteOf, pieces, piecesWith, loopPieces, afterLoop, headerByte, headerOf}
 use Rattle.rules_files.specs.FileHeader.{loopFields, channelMapping, validMappings, channelConfig, fitsHeader, HeaderFits}
-use Rattle.rules_files.specs.FileHeader.{headerOutcome, HeaderLeft, headerLeft, headerWritten}
+use Rattle.rules_files.specs.FileHeader.{headerOutcome, HeaderLeft, headerLeft, writeHeader}
 use Rattle.rules_files.proofs.HeaderFitting.{fits-true, fits-false}
 
 -- ---- the bytes
@@ -128,9 +128,9 @@ module _ (l : Layout) (st : Stream) (h : List ℕ) where
       → (legalLayout l ≡ false → P (record { outcome = refused 1 0; header = h }))
       → (legalLayout l ≡ true → length h < 96 → P (record { outcome = refused 2 0; header = h }))
       → (legalLayout l ≡ true → 96 ≤ length h → fitsHeader l st ≡ false → P (record { outcome = refused 16 0; header = h }))
-      → (legalLayout l ≡ true → 96 ≤ length h → fitsHeader l st ≡ true → P (record { outcome = delivered []; header = laid (headerOf l st) h }))
-      → P (headerWritten l st h)
-  unfolding headerWritten
+      → (legalLayout l ≡ true → 96 ≤ length h → fitsHeader l st ≡ true → P (record { outcome = delivered []; header = overwrite (headerOf l st) h }))
+      → P (writeHeader l st h)
+  unfolding writeHeader
   header-case P one two sixteen done =
       cond-both P (not (legalLayout l)) (λ a. one (not-true _ a))
       (λ a. cond-both P (ltb (length h) 96) (λ b. two (not-false _ a) (ltb-true _ _ b))
@@ -138,28 +138,28 @@ module _ (l : Layout) (st : Stream) (h : List ℕ) where
       (λ c. done (not-false _ a) (ltb-false _ _ b) (not-false _ c))))
 
   -- a refusal is 1, 2 or 16
-  pub header-numbers : Numbered (1 ∷ 2 ∷ 16 ∷ []) (headerWritten l st h .outcome)
+  pub header-numbers : Numbered (1 ∷ 2 ∷ 16 ∷ []) (writeHeader l st h .outcome)
   header-numbers =
       header-case (λ x. Numbered (1 ∷ 2 ∷ 16 ∷ []) (x .outcome)) (λ _. numbered (1 ∷ 2 ∷ 16 ∷ []) 1 0 tt) (λ _ _. numbered (1 ∷ 2 ∷ 16 ∷ []) 2 0 tt)
       (λ _ _ _. numbered (1 ∷ 2 ∷ 16 ∷ []) 16 0 tt) (λ _ _ _. unnumbered (1 ∷ 2 ∷ 16 ∷ []) [])
 
   -- and leaves the buffer, 0 beside it
-  pub header-refused : (n k : ℕ) → headerWritten l st h .outcome ≡ refused n k → (k ≡ 0) × (headerWritten l st h .header ≡ h)
+  pub header-refused : (n k : ℕ) → writeHeader l st h .outcome ≡ refused n k → (k ≡ 0) × (writeHeader l st h .header ≡ h)
   header-refused =
       header-case (λ x. (n k : ℕ) → x .outcome ≡ refused n k → (k ≡ 0) × (x .header ≡ h)) (λ _ n k e. (cc e, refl)) (λ _ _ n k e. (cc e, refl))
       (λ _ _ _ n k e. (cc e, refl)) (λ _ _ _ n k e. never e)
 
   -- 1 exactly where the layout is outside the limits
-  pub header-one-exactly : (headerWritten l st h .outcome ≡ refused 1 0) ↔ (legalLayout l ≡ false)
-  unfolding headerWritten
+  pub header-one-exactly : (writeHeader l st h .outcome ≡ refused 1 0) ↔ (legalLayout l ≡ false)
+  unfolding writeHeader
   header-one-exactly = (
     header-case (λ x. x .outcome ≡ refused 1 0 → legalLayout l ≡ false) (λ a _. a) (λ _ _ e. other e refl) (λ _ _ _ e. other e refl) (λ _ _ _ e. never e),
     (λ a. rw a),
   )
 
   -- 2 exactly where it is legal and the buffer is short
-  pub header-two-exactly : (headerWritten l st h .outcome ≡ refused 2 0) ↔ ((legalLayout l ≡ true) × (length h < 96))
-  unfolding headerWritten
+  pub header-two-exactly : (writeHeader l st h .outcome ≡ refused 2 0) ↔ ((legalLayout l ≡ true) × (length h < 96))
+  unfolding writeHeader
   header-two-exactly = (
     header-case (λ x. x .outcome ≡ refused 2 0 → (legalLayout l ≡ true) × (length h < 96)) (λ _ e. other e refl) (λ a b _. (a, b)) (λ _ _ _ e. other e refl)
         (λ _ _ _ e. never e),
@@ -167,8 +167,8 @@ module _ (l : Layout) (st : Stream) (h : List ℕ) where
   )
 
   -- 16 exactly where both are right and a number does not fit
-  pub header-sixteen-exactly : (headerWritten l st h .outcome ≡ refused 16 0) ↔ ((legalLayout l ≡ true) × (96 ≤ length h) × (HeaderFits l st → ⊥))
-  unfolding headerWritten
+  pub header-sixteen-exactly : (writeHeader l st h .outcome ≡ refused 16 0) ↔ ((legalLayout l ≡ true) × (96 ≤ length h) × (HeaderFits l st → ⊥))
+  unfolding writeHeader
   header-sixteen-exactly = (
     header-case (λ x. x .outcome ≡ refused 16 0 → (legalLayout l ≡ true) × (96 ≤ length h) × (HeaderFits l st → ⊥))
         (λ _ e. other e refl) (λ _ _ e. other e refl)
@@ -181,15 +181,15 @@ headerAnswer : Outcome → HeaderAnswer
 headerAnswer (delivered xs) = answers.Delivered
 headerAnswer (refused n k) = getD (answers.BadLayout ∷ answers.ShortBuffer ∷ []) (n - 1) answers.BadHeader
 
-header-told : (a : HeaderAnswer) → headerAnswer (headerOutcome a) ≡ a
+header-said : (a : HeaderAnswer) → headerAnswer (headerOutcome a) ≡ a
 unfolding headerAnswer headerOutcome
-header-told answers.Delivered = refl
-header-told answers.BadLayout = refl
-header-told answers.ShortBuffer = refl
-header-told answers.BadHeader = refl
+header-said answers.Delivered = refl
+header-said answers.BadLayout = refl
+header-said answers.ShortBuffer = refl
+header-said answers.BadHeader = refl
 
 pub header-once : (l : Layout) (st : Stream) (h g g′ : List ℕ) (a b : HeaderAnswer)
-    → headerLeft a g ≡ headerWritten l st h → headerLeft b g′ ≡ headerWritten l st h → (a ≡ b) × (g ≡ g′)
+    → headerLeft a g ≡ writeHeader l st h → headerLeft b g′ ≡ writeHeader l st h → (a ≡ b) × (g ≡ g′)
 header-once l st h g g′ a b p q =
     let z : headerLeft a g ≡ headerLeft b g′ = p ∙ sym q in
-    (sym (header-told a) ∙ ap (λ (x : HeaderLeft). headerAnswer (x .outcome)) z ∙ header-told b, ap (λ (x : HeaderLeft). x .header) z)
+    (sym (header-said a) ∙ ap (λ (x : HeaderLeft). headerAnswer (x .outcome)) z ∙ header-said b, ap (λ (x : HeaderLeft). x .header) z)

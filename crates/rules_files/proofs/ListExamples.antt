@@ -8,7 +8,8 @@ use lib.ListN.{length, replicate}
 use Rattle.buffers.specs.Walk.{sumTo, blocks, every}
 use Rattle.numbers.specs.Numbers.{highFirst, ofHigh}
 use Rattle.rules.specs.Refusals.{Outcome, delivered, refused}
-use Rattle.rules_files.specs.List.{entryBytes, entryFrom, entryAt, legalEntry, legalEntries, listHead, listOf, framesIn, entriesOf, isMarked, judgedList, maxTo, summaryOf, ListLeft, listWritten, readAs, listRead, lookedAs, looked, summedAs, summed}
+use Rattle.rules_files.specs.List.{entryBytes, entryFrom, entryAt, legalEntry, legalEntries, listHead, listOf, framesIn, entriesOf, isMarked, judgedList}
+use Rattle.rules_files.specs.List.{maxTo, summaryOf, ListLeft, writeList, readListAs, readList, listEntryAs, listEntry, listSummaryAs, listSummary}
 use Rattle.rules_files.specs.List.{listWrittenOutcome, listReadOutcome, entryOutcome, summaryOutcome}
 use Rattle.rules_files.specs.declared.list.Judgement.{Judgement}
 use Rattle.rules_files.specs.declared.list.ListWritten.the-variants as write
@@ -32,12 +33,12 @@ unfolding threeEntries threeBytes listOf listHead blocks entryBytes entryAt high
 three-written = refl
 
 -- its head, lookups of the second frame and past the last, and its summary
-pub three-found : (looked threeBytes 1 ≡ delivered (254 ∷ 127 ∷ 63 ∷ 4294967295 ∷ [])) × (looked threeBytes 3 ≡ refused 31 0)
-unfolding threeBytes looked lookedAs judgedList isMarked legalEntries legalEntry every entriesOf blocks entryAt entryFrom ofHigh
+pub three-found : (listEntry threeBytes 1 ≡ delivered (254 ∷ 127 ∷ 63 ∷ 4294967295 ∷ [])) × (listEntry threeBytes 3 ≡ refused 31 0)
+unfolding threeBytes listEntry listEntryAs judgedList isMarked legalEntries legalEntry every entriesOf blocks entryAt entryFrom ofHigh
 three-found = (refl, refl)
 
-pub three-summed : summed threeBytes ≡ delivered (511 ∷ 63 ∷ 4294968609 ∷ [])
-unfolding threeBytes summed summedAs summaryOf maxTo sumTo judgedList isMarked legalEntries legalEntry every entriesOf blocks entryAt entryFrom ofHigh
+pub three-summed : listSummary threeBytes ≡ delivered (511 ∷ 63 ∷ 4294968609 ∷ [])
+unfolding threeBytes listSummary listSummaryAs summaryOf maxTo sumTo judgedList isMarked legalEntries legalEntry every entriesOf blocks entryAt entryFrom ofHigh
 three-summed = refl
 
 -- no frames
@@ -45,13 +46,13 @@ pub none-written : listOf 0 [] ≡ 0x56 ∷ 0x46 ∷ 0x49 ∷ 0x00 ∷ 0x01 ∷ 
 unfolding listOf listHead blocks highFirst
 none-written = refl
 
-pub none-summed : summed (0x56 ∷ 0x46 ∷ 0x49 ∷ 0x00 ∷ 0x01 ∷ 0x00 ∷ 0x00 ∷ 0x00 ∷ 0x00 ∷ []) ≡ delivered (0 ∷ 0 ∷ 0 ∷ [])
-unfolding summed summedAs summaryOf maxTo sumTo judgedList isMarked legalEntries every entriesOf blocks ofHigh
+pub none-summed : listSummary (0x56 ∷ 0x46 ∷ 0x49 ∷ 0x00 ∷ 0x01 ∷ 0x00 ∷ 0x00 ∷ 0x00 ∷ 0x00 ∷ []) ≡ delivered (0 ∷ 0 ∷ 0 ∷ [])
+unfolding listSummary listSummaryAs summaryOf maxTo sumTo judgedList isMarked legalEntries every entriesOf blocks ofHigh
 none-summed = refl
 
 -- version 2, and a byte too many: 19 comes before 20
-pub version-first : summed (0x56 ∷ 0x46 ∷ 0x49 ∷ 0x00 ∷ 0x02 ∷ 0x00 ∷ 0x00 ∷ 0x00 ∷ 0x00 ∷ 0x00 ∷ []) ≡ refused 19 0
-unfolding summed summedAs judgedList isMarked legalEntries every entriesOf blocks ofHigh
+pub version-first : listSummary (0x56 ∷ 0x46 ∷ 0x49 ∷ 0x00 ∷ 0x02 ∷ 0x00 ∷ 0x00 ∷ 0x00 ∷ 0x00 ∷ 0x00 ∷ []) ≡ refused 19 0
+unfolding listSummary listSummaryAs judgedList isMarked legalEntries every entriesOf blocks ofHigh
 version-first = refl
 
 -- level 512 in the last of three, looked up is the first; and of a frame that is not there: 21 comes before 31
@@ -61,13 +62,13 @@ badBytes =
     ++ ((0x00 ∷ 0x0c ∷ 0x28 ∷ 0x00 ∷ 0x00 ∷ 0x00 ∷ 0x05 ∷ 0x22 ∷ [])
     ++ ((0x00 ∷ 0xfe ∷ 0x7f ∷ 0x3f ∷ 0xff ∷ 0xff ∷ 0xff ∷ 0xff ∷ []) ++ (0x02 ∷ 0x00 ∷ 0x00 ∷ 0x07 ∷ 0x00 ∷ 0x00 ∷ 0x00 ∷ 0x00 ∷ [])))
 
-pub whole-list-first : (looked badBytes 0 ≡ refused 21 0) × (looked badBytes 3 ≡ refused 21 0)
-unfolding badBytes looked lookedAs judgedList isMarked legalEntries legalEntry every entriesOf blocks entryAt entryFrom ofHigh
+pub whole-list-first : (listEntry badBytes 0 ≡ refused 21 0) × (listEntry badBytes 3 ≡ refused 21 0)
+unfolding badBytes listEntry listEntryAs judgedList isMarked legalEntries legalEntry every entriesOf blocks entryAt entryFrom ofHigh
 whole-list-first = (refl, refl)
 
 -- 2 stands between 20 and 21: for three frames eleven places are short, though an entry is bad
-pub short-first : listRead badBytes (0 ∷ 0 ∷ 0 ∷ 0 ∷ 0 ∷ 0 ∷ 0 ∷ 0 ∷ 0 ∷ 0 ∷ 0 ∷ []) .outcome ≡ refused 2 0
-unfolding badBytes listRead readAs judgedList isMarked legalEntries legalEntry every entriesOf blocks entryAt entryFrom ofHigh
+pub short-first : readList badBytes (0 ∷ 0 ∷ 0 ∷ 0 ∷ 0 ∷ 0 ∷ 0 ∷ 0 ∷ 0 ∷ 0 ∷ 0 ∷ []) .outcome ≡ refused 2 0
+unfolding badBytes readList readListAs judgedList isMarked legalEntries legalEntry every entriesOf blocks entryAt entryFrom ofHigh
 short-first = refl
 
 -- a count of 0x20000001 on seventeen bytes: in 32 bits eight times the count would wrap to 8
@@ -86,10 +87,10 @@ wrap-long : length wrapBytes ≡ 17
 unfolding wrapBytes
 wrap-long = refl
 
-pub never-wraps : summed wrapBytes ≡ refused 20 0
-unfolding summed summedAs
+pub never-wraps : listSummary wrapBytes ≡ refused 20 0
+unfolding listSummary listSummaryAs
 never-wraps =
-    ap (λ (j : Judgement). summedAs j wrapBytes) (sym (judged-length wrapBytes 0x20000001 wrap-marked (sym wrap-frames) (λ e. omega (arith, wrap-long))))
+    ap (λ (j : Judgement). listSummaryAs j wrapBytes) (sym (judged-length wrapBytes 0x20000001 wrap-marked (sym wrap-frames) (λ e. omega (arith, wrap-long))))
 
 -- refusal 21's three limits are legal, and the next numbers are not
 abbrev heard : (level boundary pairs : ℕ) → Bool
@@ -114,41 +115,42 @@ abbrev their-numbers : List Outcome
 their-numbers = refused 19 0 ∷ refused 19 0 ∷ refused 19 0 ∷ refused 20 0 ∷ refused 20 0 ∷ refused 21 0 ∷ []
 
 -- looked up, summed, and read into seven places, which stay
-pub bad-looked : map (λ list. looked list 0) badLists ≡ their-numbers
-unfolding badLists looked lookedAs judgedList isMarked legalEntries legalEntry every entriesOf blocks entryAt entryFrom ofHigh
-bad-looked = refl
+pub bad-entry : map (λ list. listEntry list 0) badLists ≡ their-numbers
+unfolding badLists listEntry listEntryAs judgedList isMarked legalEntries legalEntry every entriesOf blocks entryAt entryFrom ofHigh
+bad-entry = refl
 
-pub bad-summed : map summed badLists ≡ their-numbers
-unfolding badLists summed summedAs judgedList isMarked legalEntries legalEntry every entriesOf blocks entryAt entryFrom ofHigh
+pub bad-summed : map listSummary badLists ≡ their-numbers
+unfolding badLists listSummary listSummaryAs judgedList isMarked legalEntries legalEntry every entriesOf blocks entryAt entryFrom ofHigh
 bad-summed = refl
 
-pub bad-read : (map (λ list. listRead list (replicate 7 5) .outcome) badLists ≡ their-numbers) × (map (λ list. listRead list (replicate 7 5) .entries) badLists ≡ replicate 6 (replicate 7 5))
-unfolding badLists listRead readAs judgedList isMarked legalEntries legalEntry every entriesOf blocks entryAt entryFrom ofHigh
+pub bad-read : (map (λ list. readList list (replicate 7 5) .outcome) badLists ≡ their-numbers)
+    × (map (λ list. readList list (replicate 7 5) .entries) badLists ≡ replicate 6 (replicate 7 5))
+unfolding badLists readList readListAs judgedList isMarked legalEntries legalEntry every entriesOf blocks entryAt entryFrom ofHigh
 bad-read = (refl, refl)
 
 -- the writer: three numbers for one frame, whether its bytes have room or not; sixteen bytes; a level of 512. What is lent stays. Then a longer buffer, whose
 -- rest stays
-abbrev wrote : (entries : List ℕ) (bytes : ℕ) → ListLeft
-wrote entries bytes = listWritten 1 entries (replicate bytes 5)
+abbrev writing : (entries : List ℕ) (bytes : ℕ) → ListLeft
+writing entries bytes = writeList 1 entries (replicate bytes 5)
 
 abbrev kept : (number bytes : ℕ) → ListLeft
 kept number bytes = record { outcome = refused number 0; list = replicate bytes 5 }
 
 pub bad-written :
-    wrote (512 ∷ 0 ∷ 0 ∷ []) 16 ∷ wrote (0 ∷ 0 ∷ 0 ∷ []) 17 ∷ wrote (512 ∷ 0 ∷ 0 ∷ 0 ∷ []) 16 ∷ wrote (512 ∷ 0 ∷ 0 ∷ 0 ∷ []) 17 ∷ []
+    writing (512 ∷ 0 ∷ 0 ∷ []) 16 ∷ writing (0 ∷ 0 ∷ 0 ∷ []) 17 ∷ writing (512 ∷ 0 ∷ 0 ∷ 0 ∷ []) 16 ∷ writing (512 ∷ 0 ∷ 0 ∷ 0 ∷ []) 17 ∷ []
     ≡ kept 2 16 ∷ kept 2 17 ∷ kept 2 16 ∷ kept 21 17 ∷ []
-unfolding listWritten legalEntries legalEntry every entryAt
+unfolding writeList legalEntries legalEntry every entryAt
 bad-written = refl
 
-pub one-written : wrote (0x102 ∷ 3 ∷ 4 ∷ 0x5060708 ∷ []) 18
+pub one-written : writing (0x102 ∷ 3 ∷ 4 ∷ 0x5060708 ∷ []) 18
     ≡ record { outcome = delivered []; list = 0x56 ∷ 0x46 ∷ 0x49 ∷ 0 ∷ 1 ∷ 0 ∷ 0 ∷ 0 ∷ 1 ∷ 1 ∷ 2 ∷ 3 ∷ 4 ∷ 5 ∷ 6 ∷ 7 ∷ 8 ∷ 5 ∷ [] }
-unfolding listWritten legalEntries legalEntry every entryAt listOf listHead blocks entryBytes highFirst
+unfolding writeList legalEntries legalEntry every entryAt listOf listHead blocks entryBytes highFirst
 one-written = refl
 
 -- read back: four numbers, and the rest stays
-pub one-read : listRead (0x56 ∷ 0x46 ∷ 0x49 ∷ 0 ∷ 1 ∷ 0 ∷ 0 ∷ 0 ∷ 1 ∷ 1 ∷ 2 ∷ 3 ∷ 4 ∷ 5 ∷ 6 ∷ 7 ∷ 8 ∷ []) (replicate 5 9)
+pub one-read : readList (0x56 ∷ 0x46 ∷ 0x49 ∷ 0 ∷ 1 ∷ 0 ∷ 0 ∷ 0 ∷ 1 ∷ 1 ∷ 2 ∷ 3 ∷ 4 ∷ 5 ∷ 6 ∷ 7 ∷ 8 ∷ []) (replicate 5 9)
     ≡ record { outcome = delivered (1 ∷ []); entries = 0x102 ∷ 3 ∷ 4 ∷ 0x5060708 ∷ 9 ∷ [] }
-unfolding listRead readAs judgedList isMarked legalEntries legalEntry every entriesOf blocks entryAt entryFrom ofHigh
+unfolding readList readListAs judgedList isMarked legalEntries legalEntry every entriesOf blocks entryAt entryFrom ofHigh
 one-read = refl
 
 -- the number of each answer

@@ -20,10 +20,12 @@ use Rattle.numbers.specs.Numbers.{highFirst, ofHigh}
 use Rattle.numbers.proofs.HighFirst.{high-back, high-below}
 use Rattle.rules.specs.Layout.{part}
 use Rattle.rules.proofs.Cuts.{blocks-same, parts-all, block-part, length-part}
-use Rattle.rules_files.specs.List.{entryBytes, entryFrom, entryNumbers, entryAt, legalEntry, legalEntries, listHead, listOf, framesIn, entryIn, entriesOf, isMarked, judgedList}
+use Rattle.rules_files.specs.List.{entryBytes, entryFrom, entryNumbers, entryAt, legalEntry, legalEntries, listHead, listOf, framesIn, entryIn, entriesOf}
+use Rattle.rules_files.specs.List.{isMarked, judgedList}
 use Rattle.rules_files.specs.declared.list.Judgement.{Judgement}
 use Rattle.rules_files.specs.declared.list.Judgement.the-variants as found
-use Rattle.rules_files.proofs.Entries.{legal-limits, entry-length, entry-back, bytes-part, field-restored, next-field, entry-restored, entry-front, legal-front, entries-front, entries-at}
+use Rattle.rules_files.proofs.Entries.{legal-limits, entry-length, entry-back, bytes-part, field-restored, next-field, entry-restored, entry-front}
+use Rattle.rules_files.proofs.Entries.{legal-front, entries-front, entries-at}
 
 -- ---- the list of n entries
 

@@ -105,7 +105,8 @@ divided (fin t m e) s n k v =
 pub sample-exact : (z : ℤ) (k : ℕ) → natAbs z < 16777216 → k ≤ 149 → div binary32 (ofInt binary32 z) (fin false 1 (pos k)) ≡ overPower z k
 unfolding ofInt overPower
 sample-exact (pos n) k h g = divided (round binary32 false n 1) false n k (round-whole binary32 false n (le-of-lt h)) ∙ over-odd false n k h g
-sample-exact (negsuc n) k h g = divided (round binary32 true (suc n) 1) true (suc n) k (round-whole binary32 true (suc n) (le-of-lt h)) ∙ over-odd true (suc n) k h g
+sample-exact (negsuc n) k h g = divided (round binary32 true (suc n) 1) true (suc n) k (round-whole binary32 true (suc n) (le-of-lt h))
+    ∙ over-odd true (suc n) k h g
 
 -- The value itself: z / 2 ^ k, with z's sign.
 abbrev pub isBelow : ℤ → Bool
@@ -153,7 +154,8 @@ fields-finite s (suc x) t = go (eqb (suc x) 255) (eqb t 0)
 -- a float is finite where its exponent's bits are not all ones
 pub pattern-finite : (p : ℕ) → ltb (p % 2147483648) 2139095040 ≡ finite (ofBits binary32 p)
 unfolding ofBits
-pattern-finite p = exponent (p % 2147483648) (mod-lt p (zero-lt-suc 2147483647)) ∙ sym (fields-finite (leb 2147483648 p) (p % 2147483648 / 8388608) (p % 8388608))
+pattern-finite p = exponent (p % 2147483648) (mod-lt p (zero-lt-suc 2147483647))
+    ∙ sym (fields-finite (leb 2147483648 p) (p % 2147483648 / 8388608) (p % 8388608))
   where
     exponent : (r : ℕ) → r < 2147483648 → ltb r 2139095040 ≡ not (eqb (r / 8388608) 255)
     exponent r h = go (ltb r 2139095040) refl

@@ -8,7 +8,7 @@ use Rattle.buffers.specs.Walk.{build}
 use Rattle.crc.specs.Sealed.{sealed}
 use Rattle.numbers.specs.Numbers.{highFirst, replaced}
 use Rattle.rules.specs.Layout.{legalLayout, frameSize, bandsPerGroup}
-use Rattle.rules.specs.Lent.{laid}
+use Rattle.rules.specs.Lent.{overwrite}
 use Rattle.rules.specs.Refusals.{Outcome, delivered, refused}
 use Rattle.rules.specs.declared.Layout.{Layout}
 use Rattle.rules_files.specs.declared.header.LoopPoints.{LoopPoints}
@@ -189,9 +189,9 @@ abbrev pub headerLeft : (answer : HeaderAnswer) (header : List ℕ) → HeaderLe
 headerLeft answer header = record { outcome = headerOutcome answer; header = header }
 
 -- what the call answers and leaves, refused ones too: a refusal leaves the buffer, and a longer buffer's rest stays
-unfoldable pub headerWritten : (l : Layout) (st : Stream) (header : List ℕ) → HeaderLeft
-headerWritten l st header =
+unfoldable pub writeHeader : (l : Layout) (st : Stream) (header : List ℕ) → HeaderLeft
+writeHeader l st header =
     cond (not (legalLayout l)) (record { outcome = refused 1 0; header = header })
     (cond (ltb (length header) headerSize) (record { outcome = refused 2 0; header = header })
     (cond (not (fitsHeader l st)) (record { outcome = refused 16 0; header = header })
-    (record { outcome = delivered []; header = laid (headerOf l st) header })))
+    (record { outcome = delivered []; header = overwrite (headerOf l st) header })))

@@ -7,7 +7,7 @@ use lib.ListN.{length, getD, take, drop}
 use Rattle.buffers.specs.Walk.{sumTo, blocks, every}
 use Rattle.numbers.specs.Numbers.{highFirst, ofHigh}
 use Rattle.rules.specs.Layout.{part}
-use Rattle.rules.specs.Lent.{laid}
+use Rattle.rules.specs.Lent.{overwrite}
 use Rattle.rules.specs.Refusals.{Outcome, delivered, refused}
 use Rattle.rules_files.specs.declared.list.Entry.{Entry}
 use Rattle.rules_files.specs.declared.list.Summary.{Summary}
@@ -24,7 +24,7 @@ use Rattle.rules_files.specs.declared.list.SummaryAnswer.the-variants as
 
 -- AN ENTRY: level (16 bits), boundary (8), pairs removed (8) and bits written (32), high byte first
 unfoldable pub entryBytes : (entry : Entry) → List ℕ
-entryBytes e = highFirst 2 (e .level) ++ (highFirst 1 (e .boundary) ++ (highFirst 1 (e .pairs) ++ highFirst 4 (e .bits)))
+entryBytes entry = highFirst 2 (entry .level) ++ (highFirst 1 (entry .boundary) ++ (highFirst 1 (entry .pairs) ++ highFirst 4 (entry .bits)))
 
 -- and back, of its eight bytes
 unfoldable pub entryFrom : (bytes : List ℕ) → Entry
@@ -37,36 +37,36 @@ entryFrom bytes = record {
 
 -- in memory: four numbers a frame, frame after frame, as the stage answers them
 abbrev pub entryNumbers : (entry : Entry) → List ℕ
-entryNumbers e = e .level ∷ e .boundary ∷ e .pairs ∷ e .bits ∷ []
+entryNumbers entry = entry .level ∷ entry .boundary ∷ entry .pairs ∷ entry .bits ∷ []
 
 unfoldable pub entryAt : (entries : List ℕ) (frame : ℕ) → Entry
-entryAt entries i = record {
-  level = getD entries (i * 4) 0;
-  boundary = getD entries (i * 4 + 1) 0;
-  pairs = getD entries (i * 4 + 2) 0;
-  bits = getD entries (i * 4 + 3) 0;
+entryAt entries frame = record {
+  level = getD entries (frame * 4) 0;
+  boundary = getD entries (frame * 4 + 1) 0;
+  pairs = getD entries (frame * 4 + 2) 0;
+  bits = getD entries (frame * 4 + 3) 0;
 }
 
 -- refusal 21 is a level above 511, a boundary above 127 or pairs above 63, in any of the frames
 unfoldable pub legalEntry : (entry : Entry) → Bool
-legalEntry e = leb (e .level) 511 && (leb (e .boundary) 127 && leb (e .pairs) 63)
+legalEntry entry = leb (entry .level) 511 && (leb (entry .boundary) 127 && leb (entry .pairs) 63)
 
 unfoldable pub legalEntries : (frames : ℕ) (entries : List ℕ) → Bool
-legalEntries n entries = every (λ i. legalEntry (entryAt entries i)) n
+legalEntries frames entries = every (λ i. legalEntry (entryAt entries i)) frames
 
 -- THE LIST: `VFI`, a 16-bit version 1, a 32-bit frame count; then the entries
 unfoldable pub listHead : (frames : ℕ) → List ℕ
-listHead n = highFirst 3 0x564649 ++ (highFirst 2 1 ++ highFirst 4 n)
+listHead frames = highFirst 3 0x564649 ++ (highFirst 2 1 ++ highFirst 4 frames)
 
 unfoldable pub listOf : (frames : ℕ) (entries : List ℕ) → List ℕ
-listOf n entries = listHead n ++ blocks (λ i. entryBytes (entryAt entries i)) n
+listOf frames entries = listHead frames ++ blocks (λ i. entryBytes (entryAt entries i)) frames
 
 -- and back: the frames that its head counts, and their 4n numbers
 abbrev pub framesIn : (list : List ℕ) → ℕ
 framesIn list = ofHigh (take 4 (drop 5 list))
 
 abbrev pub entryIn : (list : List ℕ) (frame : ℕ) → Entry
-entryIn list i = entryFrom (part 8 (drop 9 list) i)
+entryIn list frame = entryFrom (part 8 (drop 9 list) frame)
 
 unfoldable pub entriesOf : (list : List ℕ) → List ℕ
 entriesOf list = blocks (λ i. entryNumbers (entryIn list i)) (framesIn list)
@@ -89,10 +89,10 @@ maxTo f zero = 0
 maxTo f (suc n) = max (maxTo f n) (f n)
 
 unfoldable pub summaryOf : (frames : ℕ) (entries : List ℕ) → Summary
-summaryOf n entries = record {
-  level = maxTo (λ i. (entryAt entries i) .level) n;
-  pairs = maxTo (λ i. (entryAt entries i) .pairs) n;
-  bits = sumTo (λ i. (entryAt entries i) .bits) n;
+summaryOf frames entries = record {
+  level = maxTo (λ i. (entryAt entries i) .level) frames;
+  pairs = maxTo (λ i. (entryAt entries i) .pairs) frames;
+  bits = sumTo (λ i. (entryAt entries i) .bits) frames;
 }
 
 abbrev pub summaryNumbers : (s : Summary) → List ℕ
@@ -137,12 +137,12 @@ abbrev pub listLeft : (answer : ListWritten) (list : List ℕ) → ListLeft
 listLeft answer list = record { outcome = listWrittenOutcome answer; list = list }
 
 -- the writer: 2 for the numbers, 2 for the bytes, 21
-unfoldable pub listWritten : (frames : ℕ) (entries list : List ℕ) → ListLeft
-listWritten n entries list =
-    cond (ltb (length entries) (n * 4)) (record { outcome = refused 2 0; list = list })
-    (cond (ltb (length list) (9 + n * 8)) (record { outcome = refused 2 0; list = list })
-    (cond (not (legalEntries n entries)) (record { outcome = refused 21 0; list = list })
-    (record { outcome = delivered []; list = laid (listOf n entries) list })))
+unfoldable pub writeList : (frames : ℕ) (entries list : List ℕ) → ListLeft
+writeList frames entries list =
+    cond (ltb (length entries) (frames * 4)) (record { outcome = refused 2 0; list = list })
+    (cond (ltb (length list) (9 + frames * 8)) (record { outcome = refused 2 0; list = list })
+    (cond (not (legalEntries frames entries)) (record { outcome = refused 21 0; list = list })
+    (record { outcome = delivered []; list = overwrite (listOf frames entries) list })))
 
 pub record EntriesLeft : Type 0 where
   pub outcome : Outcome
@@ -152,32 +152,32 @@ abbrev pub entriesLeft : (answer : ListAnswer) (entries : List ℕ) → EntriesL
 entriesLeft answer entries = record { outcome = listReadOutcome answer; entries = entries }
 
 -- the reader: 2 stands between 20, where the count is known, and 21
-unfoldable pub readAs : (judgement : Judgement) (list entries : List ℕ) → EntriesLeft
-readAs found.BadMark list entries = record { outcome = refused 19 0; entries = entries }
-readAs found.BadLength list entries = record { outcome = refused 20 0; entries = entries }
-readAs (found.BadEntry n) list entries = record { outcome = cond (ltb (length entries) (n * 4)) (refused 2 0) (refused 21 0); entries = entries }
-readAs (found.Good n) list entries =
+unfoldable pub readListAs : (judgement : Judgement) (list entries : List ℕ) → EntriesLeft
+readListAs found.BadMark list entries = record { outcome = refused 19 0; entries = entries }
+readListAs found.BadLength list entries = record { outcome = refused 20 0; entries = entries }
+readListAs (found.BadEntry n) list entries = record { outcome = cond (ltb (length entries) (n * 4)) (refused 2 0) (refused 21 0); entries = entries }
+readListAs (found.Good n) list entries =
     cond (ltb (length entries) (n * 4)) (record { outcome = refused 2 0; entries = entries })
-    (record { outcome = delivered (n ∷ []); entries = laid (entriesOf list) entries })
+    (record { outcome = delivered (n ∷ []); entries = overwrite (entriesOf list) entries })
 
-unfoldable pub listRead : (list entries : List ℕ) → EntriesLeft
-listRead list entries = readAs (judgedList list) list entries
+unfoldable pub readList : (list entries : List ℕ) → EntriesLeft
+readList list entries = readListAs (judgedList list) list entries
 
 -- the lookup: 31 comes after the whole list was judged
-unfoldable pub lookedAs : (judgement : Judgement) (list : List ℕ) (frame : ℕ) → Outcome
-lookedAs found.BadMark list frame = refused 19 0
-lookedAs found.BadLength list frame = refused 20 0
-lookedAs (found.BadEntry n) list frame = refused 21 0
-lookedAs (found.Good n) list frame = cond (ltb frame n) (delivered (entryNumbers (entryIn list frame))) (refused 31 0)
+unfoldable pub listEntryAs : (judgement : Judgement) (list : List ℕ) (frame : ℕ) → Outcome
+listEntryAs found.BadMark list frame = refused 19 0
+listEntryAs found.BadLength list frame = refused 20 0
+listEntryAs (found.BadEntry n) list frame = refused 21 0
+listEntryAs (found.Good n) list frame = cond (ltb frame n) (delivered (entryNumbers (entryIn list frame))) (refused 31 0)
 
-unfoldable pub looked : (list : List ℕ) (frame : ℕ) → Outcome
-looked list frame = lookedAs (judgedList list) list frame
+unfoldable pub listEntry : (list : List ℕ) (frame : ℕ) → Outcome
+listEntry list frame = listEntryAs (judgedList list) list frame
 
-unfoldable pub summedAs : (judgement : Judgement) (list : List ℕ) → Outcome
-summedAs found.BadMark list = refused 19 0
-summedAs found.BadLength list = refused 20 0
-summedAs (found.BadEntry n) list = refused 21 0
-summedAs (found.Good n) list = delivered (summaryNumbers (summaryOf n (entriesOf list)))
+unfoldable pub listSummaryAs : (judgement : Judgement) (list : List ℕ) → Outcome
+listSummaryAs found.BadMark list = refused 19 0
+listSummaryAs found.BadLength list = refused 20 0
+listSummaryAs (found.BadEntry n) list = refused 21 0
+listSummaryAs (found.Good n) list = delivered (summaryNumbers (summaryOf n (entriesOf list)))
 
-unfoldable pub summed : (list : List ℕ) → Outcome
-summed list = summedAs (judgedList list) list
+unfoldable pub listSummary : (list : List ℕ) → Outcome
+listSummary list = listSummaryAs (judgedList list) list

@@ -10,7 +10,7 @@ use lib.Ieee.Scale.{finite}
 use Rattle.buffers.specs.Walk.{build, every}
 use Rattle.floats.specs.Single.{zeroF, maxAbs, noAverage, withOne, mean}
 use Rattle.numbers.specs.Numbers.{ofLow}
-use Rattle.rules.specs.Lent.{laid}
+use Rattle.rules.specs.Lent.{overwrite}
 use Rattle.rules.specs.Refusals.{Outcome, delivered, refused}
 use Rattle.rules_files.specs.declared.wav.WavFormat.{WavFormat}
 use Rattle.rules_files.specs.declared.wav.WavData.{WavData}
@@ -24,7 +24,7 @@ use Rattle.rules_files.specs.declared.wav.WavAnswer.the-variants as wav-
 
 -- the number in so many bytes from a place on
 abbrev pub lowAt : (wav : List ℕ) (place width : ℕ) → ℕ
-lowAt wav at n = ofLow (take n (drop at wav))
+lowAt wav place width = ofLow (take width (drop place wav))
 
 -- a name is its four bytes as a number: `RIFF`, `WAVE`, `fmt ` and `data`
 abbrev pub riffName : ℕ
@@ -55,15 +55,15 @@ abbrev pub chunkSize : (wav : List ℕ) (at : ℕ) → ℕ
 chunkSize wav at = lowAt wav (at + 4) 4
 
 -- a `fmt ` chunk of 16 bytes or more; a shorter one is skipped
-unfoldable pub tellsFormat : (name size : ℕ) → Bool
-tellsFormat name size = eqb name fmtName && leb 16 size
+unfoldable pub givesFormat : (name size : ℕ) → Bool
+givesFormat name size = eqb name fmtName && leb 16 size
 
 unfoldable pub formatIn : (wav : List ℕ) (body : ℕ) → WavFormat
 formatIn wav body = record { channels = lowAt wav (body + 2) 2; rate = lowAt wav (body + 4) 4; depth = lowAt wav (body + 14) 2 }
 
 -- the format after a chunk
 unfoldable pub formatAfter : (wav : List ℕ) (name size body : ℕ) (f : WavFormat) → WavFormat
-formatAfter wav name size body f = cond (tellsFormat name size) (formatIn wav body) f
+formatAfter wav name size body f = cond (givesFormat name size) (formatIn wav body) f
 
 -- where the next chunk stands: The walk skips odd bytes
 abbrev pub nextChunk : (wav : List ℕ) (at : ℕ) → ℕ
@@ -103,11 +103,11 @@ overPower (negsuc n) k = odd 24 true (suc n) 0 k
 
 -- the integer that a pattern stands for: from half of the patterns on it is negative
 unfoldable pub signedSample : (half pattern : ℕ) → ℤ
-signedSample half p = cond (ltb p half) (pos p) (negℤ (pos (half + half - p)))
+signedSample half pattern = cond (ltb pattern half) (pos pattern) (negℤ (pos (half + half - pattern)))
 
 -- A sample's value is exact: the integer divided by 32,768 or 8,388,608, or the stored float's bits
 unfoldable pub sampleOf : (depth pattern : ℕ) → Float
-sampleOf depth p = cond (eqb depth 32) (ofBits binary32 p) (overPower (signedSample (2 ^ (depth - 1)) p) (depth - 1))
+sampleOf depth pattern = cond (eqb depth 32) (ofBits binary32 pattern) (overPower (signedSample (2 ^ (depth - 1)) pattern) (depth - 1))
 
 -- sample k of a body
 unfoldable pub sampleAt : (wav : List ℕ) (depth body k : ℕ) → Float
@@ -124,7 +124,7 @@ samplesOf wav d = build (sampleAt wav (d .format .depth) (d .body)) (wholeSample
 
 -- the largest magnitude from 0.0 on; the magnitudes summed in order from 0.0 on, over their count; both 0.0 of no sample
 unfoldable pub noteOf : (samples : List Float) → LevelNote
-noteOf xs = record { peak = foldl maxAbs zeroF xs; mean = mean (foldl withOne noAverage xs) }
+noteOf samples = record { peak = foldl maxAbs zeroF samples; mean = mean (foldl withOne noAverage samples) }
 
 -- ---- The whole call
 
@@ -164,7 +164,7 @@ unfoldable pub wavTaken : (wav : List ℕ) (d : WavData) (samples : List Float) 
 wavTaken wav d samples = record {
   outcome = delivered (d .format .channels ∷ d .format .rate ∷ d .format .depth ∷ wholeSamples wav d ∷ []);
   note = noteOf (samplesOf wav d) .peak ∷ noteOf (samplesOf wav d) .mean ∷ [];
-  samples = laid (samplesOf wav d) samples;
+  samples = overwrite (samplesOf wav d) samples;
 }
 
 -- refusals 23 to 25 of a data chunk that was found
@@ -181,5 +181,5 @@ unfoldable pub walkRead : (wav : List ℕ) (end : WavWalk) (samples : List Float
 walkRead wav (at-end.Found d) samples = dataRead wav d samples
 walkRead wav at-end.Ended samples = wavRefused 23 samples
 
-unfoldable pub wavRead : (wav : List ℕ) (samples : List Float) → WavLeft
-wavRead wav samples = cond (not (isWave wav)) (wavRefused 22 samples) (walkRead wav (walked wav) samples)
+unfoldable pub readWav : (wav : List ℕ) (samples : List Float) → WavLeft
+readWav wav samples = cond (not (isWave wav)) (wavRefused 22 samples) (walkRead wav (walked wav) samples)

@@ -100,7 +100,8 @@ sign-fits (suc n) = record { there = there; back = back }
     there (pos (suc k)) t h = let e : k ≡ n = omega arith in rw (number-fits 1 .there 0 t (omega arith)) (ap (λ x. ok (pos (suc x)) t) (sym e))
     there (negsuc k) t h = let e : k ≡ n = omega arith in rw (number-fits 1 .there 1 t (omega arith)) (ap (λ x. ok (negsuc x) t) (sym e))
 
-    go : (s u : List Bool) (a : ℤ) (t : List Bool) (b : ℕ) → b < 2 → s ≡ bits 1 b ++ u → ok (cond (eqb b 0) (pos (suc n)) (negsuc n)) u ≡ ok a t → Signed (suc n) s t a
+    go : (s u : List Bool) (a : ℤ) (t : List Bool) (b : ℕ) → b < 2 → s ≡ bits 1 b ++ u → ok (cond (eqb b 0) (pos (suc n)) (negsuc n)) u ≡ ok a t
+        → Signed (suc n) s t a
     go s u a t zero l q e = let z : pos (suc n) ≡ a = cc in subst (Signed (suc n) s t) z ((refl, tt), cc)
     go s u a t (suc zero) l q e = let z : negsuc n ≡ a = cc in subst (Signed (suc n) s t) z ((refl, tt), cc)
     go s u a t (suc (suc b)) l q e = absurd (omega arith)
@@ -134,4 +135,5 @@ code-fits r =
     (λ c. cond b (smallBits r c) (bits (magnitudeBits r) (natAbs c) ++ signBits c))
     (cond b (oneOf (smallBits r) (codesTo r)) (asOne (number (magnitudeBits r) >>= signed)))) (ltb r 8)
     (λ h. word-fits r (ltb-true r 8 h))
-    (λ h. whole-fits (iff-fits (λ c. ((λ x. omega arith), (λ x. (omega (arith, pow-pos (magnitudeBits r)), tt)))) (bind-fits natAbs (number-fits (magnitudeBits r)) (λ m _. sign-fits m)))))
+    (λ h. whole-fits (iff-fits (λ c. ((λ x. omega arith), (λ x. (omega (arith, pow-pos (magnitudeBits r)), tt))))
+    (bind-fits natAbs (number-fits (magnitudeBits r)) (λ m _. sign-fits m)))))

@@ -100,7 +100,8 @@ module _ {A : Type 0} (w : A → List Bool) where
       pass none r g = g
       pass (some v) r g = tt
 
-      go : (o : Option (List Bool)) → strip (w c) s ≡ o → T (isRead (orElse o c (oneOf w cs s))) → (T (isRead (oneOf w cs s)) → T (isRead (oneOf w cs (s ++ t))))
+      go : (o : Option (List Bool)) → strip (w c) s ≡ o → T (isRead (orElse o c (oneOf w cs s)))
+          → (T (isRead (oneOf w cs s)) → T (isRead (oneOf w cs (s ++ t))))
           → T (isRead (orElse (strip (w c) (s ++ t)) c (oneOf w cs (s ++ t))))
       go none e g f = pass (strip (w c) (s ++ t)) (oneOf w cs (s ++ t)) (f g)
       go (some r) e g f = rw (strip-more (w c) s r t e) tt

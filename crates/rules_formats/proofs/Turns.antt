@@ -29,7 +29,8 @@ module _ {S X A : Type 0} (next : S → A → S) (f : S → X → Reader A) (don
 
 -- the same with no state, where i values of a list are read
 module _ {X A : Type 0} (f : X → Reader A) (xs : List X) (d : X) (done : List A) (i : ℕ) (b : List Bool) where
-  pub each-turn : (a : A) (t : List Bool) → i < length xs → f (getD xs i d) b ≡ ok a t → onto done (each f (drop i xs) b) ≡ onto (done ++ (a ∷ [])) (each f (drop (i + 1) xs) t)
+  pub each-turn : (a : A) (t : List Bool) → i < length xs → f (getD xs i d) b ≡ ok a t → onto done (each f (drop i xs) b)
+      ≡ onto (done ++ (a ∷ [])) (each f (drop (i + 1) xs) t)
   each-turn a t h e = rw (drop-cons xs i d h, add-one i) (walk-turn stay (λ _. f) done tt (getD xs i d) (drop (suc i) xs) b a t e)
 
   pub each-stop : (n l : ℕ) → i < length xs → f (getD xs i d) b ≡ bad n l → onto done (each f (drop i xs) b) ≡ bad n l

@@ -7,7 +7,7 @@ use native.Mathlib.Omega.{arith}
 use types.Run.{OneOf, miss}
 use denote.Enum.Declared.{tagOf}
 use lib.ListN.{length, getD, set}
-use Rattle.rules.specs.Lent.{laid}
+use Rattle.rules.specs.Lent.{overwrite}
 use Rattle.rules.specs.Refusals.{Outcome, delivered, refused, stageOutcome}
 use Rattle.rules.specs.declared.StageAnswer.{StageAnswer}
 use Rattle.rules.specs.declared.StageAnswer.the-variants as stage
@@ -33,7 +33,7 @@ not-counted : (t : Tally) (o : Outcome) → Refuses o → t ≡ tallyAfter t o
 unfolding tallyAfter
 not-counted t o (refuses number beside) = refl
 
-not-stored : (xs : List ℕ) (o : Outcome) → Refuses o → xs ≡ laid (answersOf o) xs
+not-stored : (xs : List ℕ) (o : Outcome) → Refuses o → xs ≡ overwrite (answersOf o) xs
 unfolding answersOf
 not-stored xs o (refuses number beside) = refl
 
@@ -45,18 +45,18 @@ module _ (a : StageAnswer) (h : OneOf (1 ∷ 2 ∷ 3 ∷ 4 ∷ 5 ∷ 6 ∷ []) (
   pub refused-counted : (t : Tally) → t ≡ tallyAfter t (stageOutcome a)
   refused-counted t = not-counted t (stageOutcome a) (stage-refuses a h)
 
-  pub refused-stored : (xs : List ℕ) → xs ≡ laid (answersOf (stageOutcome a)) xs
+  pub refused-stored : (xs : List ℕ) → xs ≡ overwrite (answersOf (stageOutcome a)) xs
   refused-stored xs = not-stored xs (stageOutcome a) (stage-refuses a h)
 
-  pub refused-told : (k : ℕ) → (stageOutcome a ≡ turnOutcome (stageOutcome a)) × (some k ≡ turnIndex k (stageOutcome a))
-  refused-told k = ends-line k (stageOutcome a) (stage-refuses a h)
+  pub refused-said : (k : ℕ) → (stageOutcome a ≡ turnOutcome (stageOutcome a)) × (some k ≡ turnIndex k (stageOutcome a))
+  refused-said k = ends-line k (stageOutcome a) (stage-refuses a h)
 
 -- each of four answers fits
 pub four-fit : (a b c d : ℕ) → AnswersFit (delivered (a ∷ b ∷ c ∷ d ∷ [])) → (a < 2 ^ 32) × (b < 2 ^ 32) × (c < 2 ^ 32) × (d < 2 ^ 32)
 unfolding AnswersFit answersOf
 four-fit a b c d h = (h 0, h 1, h 2, h 3)
 
-pub four-stored : (xs : List ℕ) (a b c d : ℕ) → 4 ≤ length xs → set (set (set (set xs 0 a) 1 b) 2 c) 3 d ≡ laid (a ∷ b ∷ c ∷ d ∷ []) xs
+pub four-stored : (xs : List ℕ) (a b c d : ℕ) → 4 ≤ length xs → set (set (set (set xs 0 a) 1 b) 2 c) 3 d ≡ overwrite (a ∷ b ∷ c ∷ d ∷ []) xs
 four-stored [] a b c d h = absurd (omega arith)
 four-stored (x ∷ []) a b c d h = absurd (omega arith)
 four-stored (x ∷ y ∷ []) a b c d h = absurd (omega arith)

@@ -7,12 +7,12 @@ use native.Mathlib.Omega.{arith}
 use borrow.Author.Tests.{le-leb, leb-true}
 use lib.Dec.{leb}
 use Rattle.buffers.proofs.Tests.{and-fst, and-snd}
-use Rattle.rules.specs.Layout.{legalLayout, Sizes, frameSize, spectrumLength, factorLength, sideLength}
+use Rattle.rules.specs.Layout.{legalLayout, LegalLayout, frameSize, spectrumLength, factorLength, sideLength}
 use Rattle.rules.specs.Refusals.{Outcome, delivered, refused}
 use Rattle.rules.specs.declared.Layout.{Layout}
 use Rattle.rules.specs.declared.StageRoom.{StageRoom}
 use Rattle.rules.proofs.Layouts.{legal-true, legal-sizes}
-use Rattle.rules_line.specs.Line.{batchFits, lineRoom, lineGate, Batch, LineRoom}
+use Rattle.rules_line.specs.Line.{batchFits, lineHasRoom, lineGate, Batch, LineHasRoom}
 use Rattle.rules_line.specs.declared.Tally.{Tally}
 
 module _ (count : ℕ) (t : Tally) where
@@ -33,13 +33,22 @@ module _ (count : ℕ) (t : Tally) where
       }
 
 module _ (l : Layout) (count : ℕ) (r : StageRoom) (answers : ℕ) where
-  pub room-true : LineRoom l count r answers → lineRoom l count r answers ≡ true
-  unfolding lineRoom
+  pub room-true : LineHasRoom l count r answers → lineHasRoom l count r answers ≡ true
+  unfolding lineHasRoom
   room-true k =
-      rw (le-leb _ _ (k .spectra), le-leb _ _ (k .intensities), le-leb _ _ (k .scaled), le-leb _ _ (k .factors), le-leb _ _ (k .side), le-leb _ _ (k .codes), le-leb _ _ (k .frames), le-leb _ _ (k .answers))
+      rw (
+        le-leb _ _ (k .spectra),
+        le-leb _ _ (k .intensities),
+        le-leb _ _ (k .scaled),
+        le-leb _ _ (k .factors),
+        le-leb _ _ (k .side),
+        le-leb _ _ (k .codes),
+        le-leb _ _ (k .frames),
+        le-leb _ _ (k .answers),
+      )
 
-  pub room-facts : lineRoom l count r answers ≡ true → LineRoom l count r answers
-  unfolding lineRoom
+  pub room-facts : lineHasRoom l count r answers ≡ true → LineHasRoom l count r answers
+  unfolding lineHasRoom
   room-facts e₁ =
       let e₂ = and-snd (leb (count * spectrumLength l) (r .spectra)) _ e₁ in
       let e₃ = and-snd (leb (count * sideLength l) (r .intensities)) _ e₂ in
@@ -72,17 +81,18 @@ open-by false b c e = absurd (shut e)
 
 -- what an open gate grants
 pub record Admitted (l : Layout) (count : ℕ) (r : StageRoom) (places : ℕ) (tally : Tally) : Type 0 where
-  pub layout : Sizes l
+  pub layout : LegalLayout l
   pub batch : Batch count tally
-  pub room : LineRoom l count r places
+  pub room : LineHasRoom l count r places
 
 pub gate-open : (l : Layout) (count : ℕ) (r : StageRoom) (answers : ℕ) (t : Tally) → lineGate l count r answers t ≡ delivered [] → Admitted l count r answers t
 unfolding lineGate
 gate-open l count r answers t e =
-    let (a, b, c) = open-by (legalLayout l) (batchFits count t) (lineRoom l count r answers) e in
+    let (a, b, c) = open-by (legalLayout l) (batchFits count t) (lineHasRoom l count r answers) e in
     record { layout = legal-sizes l a; batch = batch-facts count t b; room = room-facts l count r answers c }
 
-pub gate-grants : (l : Layout) (count : ℕ) (r : StageRoom) (answers : ℕ) (t : Tally) → Admitted l count r answers t → lineGate l count r answers t ≡ delivered []
+pub gate-grants : (l : Layout) (count : ℕ) (r : StageRoom) (answers : ℕ) (t : Tally) → Admitted l count r answers t → lineGate l count r answers t
+    ≡ delivered []
 unfolding lineGate
 gate-grants l count r answers t a = rw (legal-true l (a .layout), batch-true count t (a .batch), room-true l count r answers (a .room))
 
@@ -90,9 +100,10 @@ gate-grants l count r answers t a = rw (legal-true l (a .layout), batch-true cou
 pub gate-case : (l : Layout) (count : ℕ) (r : StageRoom) (answers : ℕ) (t : Tally) (P : Outcome → Type 0) → P (refused 1 0) → P (refused 18 0) → P (refused 2 0)
     → (lineGate l count r answers t ≡ delivered [] → P (delivered [])) → P (lineGate l count r answers t)
 unfolding lineGate
-gate-case l count r answers t P one batch two rest = by-tests (legalLayout l) (batchFits count t) (lineRoom l count r answers) rest
+gate-case l count r answers t P one batch two rest = by-tests (legalLayout l) (batchFits count t) (lineHasRoom l count r answers) rest
   where
-    by-tests : (a b c : Bool) → (cond (not a) (refused 1 0) (cond (not b) (refused 18 0) (cond (not c) (refused 2 0) (delivered []))) ≡ delivered [] → P (delivered []))
+    by-tests : (a b c : Bool) → (cond (not a) (refused 1 0) (cond (not b) (refused 18 0) (cond (not c) (refused 2 0) (delivered []))) ≡ delivered []
+        → P (delivered []))
         → P (cond (not a) (refused 1 0) (cond (not b) (refused 18 0) (cond (not c) (refused 2 0) (delivered []))))
     by-tests true true true f = f refl
     by-tests true true false f = two

@@ -1,5 +1,5 @@
 -- Request A5, **a whole line in one call**: what a line of frames answers and leaves in every lent buffer, for every call, refused ones too.
--- A batch is a map of the stage: each frame in its turn is `stage` on its own parts, until one is refused. The work buffers are used again.
+-- A batch is a map of the stage: each frame in its turn is `encodeFrame` on its own parts, until one is refused. The work buffers are used again.
 use mathlib.Core.List.{List, [], _∷_, _++_}
 use mathlib.Core.Bool.{Bool, cond, not, _&&_}
 use mathlib.Core.Option.{Option, none, some}
@@ -9,9 +9,9 @@ use lib.IntN.{ℤ}
 use lib.Ieee.{Float}
 use lib.ListN.{length, getD, take, drop}
 use Rattle.rules.specs.Layout.{legalLayout, frameSize, spectrumLength, factorLength, sideLength, roomOf, part}
-use Rattle.rules.specs.Lent.{laid}
+use Rattle.rules.specs.Lent.{overwrite}
 use Rattle.rules.specs.Refusals.{Outcome, delivered, refused, stageOutcome}
-use Rattle.rules.specs.Stage.{StageLent, StageLeft, stageLent, stageRoom, stage}
+use Rattle.rules.specs.Stage.{StageLent, StageLeft, stageLent, stageRoomOf, encodeFrame}
 use Rattle.rules.specs.declared.Layout.{Layout}
 use Rattle.rules.specs.declared.StageRoom.{StageRoom}
 use Rattle.rules_line.specs.declared.LineAnswer.{LineAnswer}
@@ -97,13 +97,13 @@ unfoldable pub batchFits : (count : ℕ) (tally : Tally) → Bool
 batchFits count tally = leb count 65535 && (leb (tally .frames) (2 ^ 63) && (leb (tally .bits) (2 ^ 63) && leb (tally .pairs) (2 ^ 63)))
 
 -- the lengths of the lent buffers, those of the answers apart: where the stage has one frame, here are all
-abbrev pub lineLengths : (t : LineLent) → StageRoom
-lineLengths t =
-    stageRoom (length (t .spectra)) (length (t .intensities)) (length (t .scaled))
+abbrev pub lineRoom : (t : LineLent) → StageRoom
+lineRoom t =
+    stageRoomOf (length (t .spectra)) (length (t .intensities)) (length (t .scaled))
     (roomOf (length (t .factors)) (length (t .side)) (length (t .codes)) (length (t .frames)))
 
-unfoldable pub lineRoom : (l : Layout) (count : ℕ) (room : StageRoom) (answers : ℕ) → Bool
-lineRoom l count room answers =
+unfoldable pub lineHasRoom : (l : Layout) (count : ℕ) (room : StageRoom) (answers : ℕ) → Bool
+lineHasRoom l count room answers =
     leb (count * spectrumLength l) (room .spectra) && (leb (count * sideLength l) (room .intensities) && (leb (spectrumLength l) (room .scaled)
     && (leb (factorLength l) (room .stored .factors) && (leb (sideLength l) (room .stored .side) && (leb (spectrumLength l) (room .stored .codes)
     && (leb (count * frameSize l) (room .stored .frame) && leb (count * 4) answers))))))
@@ -113,14 +113,14 @@ unfoldable pub lineGate : (l : Layout) (count : ℕ) (room : StageRoom) (answers
 lineGate l count room answers tally =
     cond (not (legalLayout l)) (refused 1 0)
     (cond (not (batchFits count tally)) (refused 18 0)
-    (cond (not (lineRoom l count room answers)) (refused 2 0)
+    (cond (not (lineHasRoom l count room answers)) (refused 2 0)
     (delivered [])))
 
 -- ONE FRAME
 
 -- part k of a buffer with n values a part, with new values laid over it
-abbrev pub partLaid : {A : Type 0} (n : ℕ) (new old : List A) (k : ℕ) → List A
-partLaid n new old k = take (k * n) old ++ laid new (drop (k * n) old)
+abbrev pub partOverwrite : {A : Type 0} (n : ℕ) (new old : List A) (k : ℕ) → List A
+partOverwrite n new old k = take (k * n) old ++ overwrite new (drop (k * n) old)
 
 -- frame k's own parts; the work buffers are lent to every frame
 abbrev pub frameLent : (l : Layout) (k : ℕ) (t : StageLent) → StageLent
@@ -136,12 +136,12 @@ framePlaced l k frames x = record {
   codes = x .codes;
   factors = x .factors;
   side = x .side;
-  frame = partLaid (frameSize l) (x .frame) frames k;
+  frame = partOverwrite (frameSize l) (x .frame) frames k;
 }
 
 -- the single call on frame k
 unfoldable pub stageAt : (l : Layout) (k : ℕ) (t : StageLent) → StageLeft
-stageAt l k t = framePlaced l k (t .frame) (stage l (frameLent l k t))
+stageAt l k t = framePlaced l k (t .frame) (encodeFrame l (frameLent l k t))
 
 -- what is stored of a frame's answer: level, boundary, pairs and bits of a delivered one, nothing of a refused one
 unfoldable pub answersOf : (o : Outcome) → List ℕ
@@ -176,7 +176,7 @@ lineTurn k x answers tally = record {
   factors = x .factors;
   side = x .side;
   frames = x .frame;
-  answers = partLaid 4 (answersOf (x .outcome)) answers k;
+  answers = partOverwrite 4 (answersOf (x .outcome)) answers k;
   tally = tallyAfter tally (x .outcome);
 }
 
@@ -213,12 +213,12 @@ lineAfter l t (suc k) =
     onward (x .index) x (lineTurn k (stageAt l k (turnLent t x)) (x .answers) (x .tally))
 
 -- 1, 18 and 2 change nothing
-unfoldable pub lineGated : (g : Outcome) (t : LineLent) (x : LineLeft) → LineLeft
-lineGated (refused number beside) t x = lineKept t (refused number beside)
-lineGated (delivered ns) t x = x
+unfoldable pub lineBehindGate : (g : Outcome) (t : LineLent) (x : LineLeft) → LineLeft
+lineBehindGate (refused number beside) t x = lineKept t (refused number beside)
+lineBehindGate (delivered ns) t x = x
 
-unfoldable pub line : (l : Layout) (count : ℕ) (t : LineLent) → LineLeft
-line l count t = lineGated (lineGate l count (lineLengths t) (length (t .answers)) (t .tally)) t (lineAfter l t count)
+unfoldable pub encodeLine : (l : Layout) (count : ℕ) (t : LineLent) → LineLeft
+encodeLine l count t = lineBehindGate (lineGate l count (lineRoom t) (length (t .answers)) (t .tally)) t (lineAfter l t count)
 
 -- WHAT THE CODE ASKS
 
@@ -232,14 +232,14 @@ pub record OnTheWay (tally : Tally) : Type 0 where
 unfoldable pub AnswersFit : (o : Outcome) → Type 0
 AnswersFit o = (i : ℕ) → getD (answersOf o) i 0 < 2 ^ 32
 
--- `batchFits` and `lineRoom` as facts
+-- `batchFits` and `lineHasRoom` as facts
 pub record Batch (count : ℕ) (tally : Tally) : Type 0 where
   pub few : count ≤ 65535
   pub frames : tally .frames ≤ 2 ^ 63
   pub bits : tally .bits ≤ 2 ^ 63
   pub pairs : tally .pairs ≤ 2 ^ 63
 
-pub record LineRoom (l : Layout) (count : ℕ) (room : StageRoom) (places : ℕ) : Type 0 where
+pub record LineHasRoom (l : Layout) (count : ℕ) (room : StageRoom) (places : ℕ) : Type 0 where
   pub spectra : count * spectrumLength l ≤ room .spectra
   pub intensities : count * sideLength l ≤ room .intensities
   pub scaled : spectrumLength l ≤ room .scaled

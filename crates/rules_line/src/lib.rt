@@ -2,7 +2,7 @@
 ghost use mathlib.Core.Path.{_≡_};
 ghost use Prim.Native.Nat.{_^_, _≤_, _<_};
 ghost use lib.ListN.{length};
-ghost use Rattle.rules.specs.Lent.{laid};
+ghost use Rattle.rules.specs.Lent.{overwrite};
 ghost use Rattle.rules.specs.Refusals.{stageOutcome};
 ghost use Rattle.rules_line.specs.Line.{lineOutcome, lineIndex, answersOf, gained, tallyAfter, turnOutcome, turnIndex, OnTheWay, AnswersFit};
 use rules::StageAnswer;
@@ -71,7 +71,7 @@ pub fn line_answer(k: usize, answer: StageAnswer) -> LineAnswer
 pub fn store_answers(answer: StageAnswer, answers: &mut [u32])
     requires { ⌜ AnswersFit (stageOutcome answer) ⌝ }
     requires { ⌜ 4 ≤ length (now answers) ⌝ }
-    ensures { λ _. ⌜ now (answers .exit) ≡ laid (answersOf (stageOutcome answer)) (now (answers .entry)) ⌝ }
+    ensures { λ _. ⌜ now (answers .exit) ≡ overwrite (answersOf (stageOutcome answer)) (now (answers .entry)) ⌝ }
 {
     let StageAnswer::Delivered(level, boundary, pairs, bits) = answer else {
         return;

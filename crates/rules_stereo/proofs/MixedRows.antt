@@ -8,7 +8,8 @@ use lib.ListN.{getD, set, replicate}
 use Rattle.buffers.specs.Walk.{firstFrom}
 use Rattle.floats.specs.Single.{absF, heldF, zeroF}
 use Rattle.rules.specs.Layout.{kindAt}
-use Rattle.rules_stereo.specs.Mixed.{ratioBounds, Signal, signal, loudness, energies, combinedOf, storedOf, boundOf, intensityOf, ratioOf, bandMixed, bandsMixed, energiesAt, subframeMixed, subframesMixed, pairMixed, pairedAt, channelMixed, channelsMixed, mixed}
+use Rattle.rules_stereo.specs.Mixed.{ratioBounds, Signal, signal, loudness, energies, combinedOf, storedOf, boundOf, intensityOf, ratioOf, bandMixed}
+use Rattle.rules_stereo.specs.Mixed.{bandsMixed, energiesAt, subframeMixed, subframesMixed, pairMixed, pairedAt, channelMixed, channelsMixed, mixed}
 use Rattle.rules_stereo.specs.Stereo.{tooLoud, stereoOutcome, stereoLeft}
 use lib.IntN.{ℤ}
 use Rattle.rules.specs.Refusals.{refused}
@@ -49,18 +50,21 @@ three = record {
 abbrev lent : Signal
 lent =
     signal
-    (set (set (set (set (set (set (replicate 3072 zeroF) 1 (float 0x3F800000)) 2 (float 0x40000000)) 1025 (float 0x40400000)) 1026 (float 0xBF800000)) 2049 (float 0x3F000000)) 2050 (float 0x3E800000))
+    (set (set (set (set (set (set (replicate 3072 zeroF) 1 (float 0x3F800000)) 2 (float 0x40000000)) 1025 (float 0x40400000)) 1026 (float 0xBF800000)) 2049
+    (float 0x3F000000)) 2050 (float 0x3E800000))
     (replicate 24 9)
 
 abbrev seen : Signal → List ℕ
 seen t = map (λ i. toBits binary32 (getD (t .spectra) i nan)) (0 ∷ 1 ∷ 2 ∷ 3 ∷ 1025 ∷ 1026 ∷ 2049 ∷ 2050 ∷ 3071 ∷ [])
 
 pub three-spectra : seen (mixed three lent) ≡ 0 ∷ 0x40333333 ∷ 0x3F333333 ∷ 0 ∷ 0x3E800000 ∷ 0x3E000000 ∷ 0 ∷ 0 ∷ 0 ∷ []
-unfolding ofBits toBits add mul div lt le round absF heldF ratioBounds firstFrom kindAt loudness energies combinedOf storedOf boundOf intensityOf ratioOf bandMixed bandsMixed energiesAt subframeMixed subframesMixed pairMixed pairedAt channelMixed channelsMixed mixed
+unfolding ofBits toBits add mul div lt le round absF heldF ratioBounds firstFrom kindAt loudness energies combinedOf storedOf boundOf intensityOf ratioOf
+    bandMixed bandsMixed energiesAt subframeMixed subframesMixed pairMixed pairedAt channelMixed channelsMixed mixed
 three-spectra = refl
 
 pub three-intensities : mixed three lent .intensities ≡ replicate 8 9 ++ (8 ∷ 0 ∷ 0 ∷ 0 ∷ 0 ∷ 0 ∷ 0 ∷ 0 ∷ 13 ∷ 0 ∷ 0 ∷ 0 ∷ 0 ∷ 0 ∷ 0 ∷ 0 ∷ [])
-unfolding ofBits toBits add mul div lt le round absF heldF ratioBounds firstFrom kindAt loudness energies combinedOf storedOf boundOf intensityOf ratioOf bandMixed bandsMixed energiesAt subframeMixed subframesMixed pairMixed pairedAt channelMixed channelsMixed mixed
+unfolding ofBits toBits add mul div lt le round absF heldF ratioBounds firstFrom kindAt loudness energies combinedOf storedOf boundOf intensityOf ratioOf
+    bandMixed bandsMixed energiesAt subframeMixed subframesMixed pairMixed pairedAt channelMixed channelsMixed mixed
 three-intensities = refl
 
 -- 65,536 is within the limit, with either sign, and the next float is not
@@ -71,7 +75,9 @@ limit-row = refl
 -- what is stored at each bound that is read, 1 to 12, and one float above it
 pub bound-row :
     map (λ x. boundOf (float x))
-    (0x3FE49249 ∷ 0x3FE4924A ∷ 0x3FD24925 ∷ 0x3FD24926 ∷ 0x3FC00000 ∷ 0x3FC00001 ∷ 0x3FADB6DB ∷ 0x3FADB6DC ∷ 0x3F9B6DB7 ∷ 0x3F9B6DB8 ∷ 0x3F892492 ∷ 0x3F892493 ∷ 0x3F6DB6DB ∷ 0x3F6DB6DC ∷ 0x3F492492 ∷ 0x3F492493 ∷ 0x3F249249 ∷ 0x3F24924A ∷ 0x3F000000 ∷ 0x3F000001 ∷ 0x3EB6DB6E ∷ 0x3EB6DB6F ∷ 0x3E5B6DB7 ∷ 0x3E5B6DB8 ∷ [])
+    (0x3FE49249 ∷ 0x3FE4924A ∷ 0x3FD24925 ∷ 0x3FD24926 ∷ 0x3FC00000 ∷ 0x3FC00001 ∷ 0x3FADB6DB ∷ 0x3FADB6DC ∷ 0x3F9B6DB7 ∷ 0x3F9B6DB8 ∷ 0x3F892492 ∷ 0x3F892493
+    ∷ 0x3F6DB6DB ∷ 0x3F6DB6DC ∷ 0x3F492492 ∷ 0x3F492493 ∷ 0x3F249249 ∷ 0x3F24924A ∷ 0x3F000000 ∷ 0x3F000001 ∷ 0x3EB6DB6E ∷ 0x3EB6DB6F ∷ 0x3E5B6DB7
+    ∷ 0x3E5B6DB8 ∷ [])
     ≡ 2 ∷ 1 ∷ 3 ∷ 2 ∷ 4 ∷ 3 ∷ 5 ∷ 4 ∷ 6 ∷ 5 ∷ 7 ∷ 6 ∷ 8 ∷ 7 ∷ 9 ∷ 8 ∷ 10 ∷ 9 ∷ 11 ∷ 10 ∷ 12 ∷ 11 ∷ 13 ∷ 12 ∷ []
 unfolding ofBits le ratioBounds firstFrom boundOf
 bound-row = refl
@@ -96,7 +102,8 @@ not-mixed = (refl, refl)
 abbrev lateLent : Signal
 lateLent =
     signal
-    (set (set (set (set (set (set (replicate 3072 zeroF) 1409 (float 0x3F800000)) 1922 (float 0x40000000)) 2433 (float 0x40400000)) 2946 (float 0xBF800000)) 1408 (float 0x3F000000)) 2435 (float 0x3E800000))
+    (set (set (set (set (set (set (replicate 3072 zeroF) 1409 (float 0x3F800000)) 1922 (float 0x40000000)) 2433 (float 0x40400000)) 2946 (float 0xBF800000))
+    1408 (float 0x3F000000)) 2435 (float 0x3E800000))
     (replicate 24 9)
 
 abbrev lateSeen : Signal → List ℕ
@@ -105,7 +112,8 @@ lateSeen t = map (λ i. toBits binary32 (getD (t .spectra) i nan)) (1408 ∷ 140
 pub late-mixed :
     (lateSeen (mixed (shaped Discrete StereoPrimary StereoSecondary 1) lateLent) ≡ 0x3F000000 ∷ 0x40000000 ∷ 0x3F3504F3 ∷ 0 ∷ 0x3E800000 ∷ 0 ∷ [])
     × (mixed (shaped Discrete StereoPrimary StereoSecondary 1) lateLent .intensities ≡ replicate 16 9 ++ (0 ∷ 0 ∷ 0 ∷ 11 ∷ 0 ∷ 0 ∷ 0 ∷ 5 ∷ []))
-unfolding ofBits toBits add mul div lt le round absF heldF ratioBounds firstFrom kindAt loudness energies combinedOf storedOf boundOf intensityOf ratioOf bandMixed bandsMixed energiesAt subframeMixed subframesMixed pairMixed pairedAt channelMixed channelsMixed mixed
+unfolding ofBits toBits add mul div lt le round absF heldF ratioBounds firstFrom kindAt loudness energies combinedOf storedOf boundOf intensityOf ratioOf
+    bandMixed bandsMixed energiesAt subframeMixed subframesMixed pairMixed pairedAt channelMixed channelsMixed mixed
 late-mixed = (refl, refl)
 
 -- 17 is the number of what is too loud

@@ -1,5 +1,5 @@
 -- The stereo stage: what it answers and leaves in every lent buffer, for every call, refused ones too. One definition, so that the contract
--- `stereoLeft r .. ≡ stereo layout (stageLent ..)` allows one outcome only. Behind its gate it is the stage's run on the mixed lists.
+-- `stereoLeft r .. ≡ encodeStereoFrame layout (stageLent ..)` allows one outcome only. Behind its gate it is the stage's run on the mixed lists.
 use mathlib.Core.List.{List}
 use mathlib.Core.Bool.{Bool, cond}
 use mathlib.Core.Option.{Option, none, some}
@@ -11,9 +11,9 @@ use lib.ListN.{getD, take}
 use Rattle.buffers.specs.Walk.{first}
 use Rattle.floats.specs.Single.{absF}
 use Rattle.rules.specs.Layout.{spectrumLength, sideLength}
-use Rattle.rules.specs.Lent.{laid}
+use Rattle.rules.specs.Lent.{overwrite}
 use Rattle.rules.specs.Refusals.{Outcome, refused, stageOutcome}
-use Rattle.rules.specs.Stage.{StageLent, StageLeft, lentRoom, gate, made, settled, kept, stageLaid}
+use Rattle.rules.specs.Stage.{StageLent, StageLeft, stageRoom, gate, analysis, afterLevel, stageKept, stageOverwrite}
 use Rattle.rules.specs.declared.Layout.{Layout}
 use Rattle.rules.specs.declared.StageRoom.{StageRoom}
 use Rattle.rules_stereo.specs.Mixed.{Signal, signal, mixed}
@@ -87,19 +87,19 @@ lentSignal t = signal (t .spectra) (t .intensities)
 unfoldable pub mixedFront : (l : Layout) (s : Signal) → Signal
 mixedFront l s = mixed l (signal (take (spectrumLength l) (s .spectra)) (take (sideLength l) (s .intensities)))
 
-abbrev pub signalLaid : (new old : Signal) → Signal
-signalLaid new old = signal (laid (new .spectra) (old .spectra)) (laid (new .intensities) (old .intensities))
+abbrev pub signalOverwrite : (new old : Signal) → Signal
+signalOverwrite new old = signal (overwrite (new .spectra) (old .spectra)) (overwrite (new .intensities) (old .intensities))
 
 -- behind the gate, after 5 and 7 too: spectra and intensities as mixed, the rest as the stage's run leaves it
 unfoldable pub stereoRun : (l : Layout) (t : StageLent) → StereoLeft
 stereoRun l t =
     let m = mixedFront l (lentSignal t) in
-    withSignal (signalLaid m (lentSignal t)) (stageLaid t (settled l (made l (m .spectra) (m .intensities))))
+    withSignal (signalOverwrite m (lentSignal t)) (stageOverwrite t (afterLevel l (analysis l (m .spectra) (m .intensities))))
 
 -- what the gate refuses changes no buffer
-unfoldable pub stereoGated : (g : Option Outcome) (t : StageLent) (x : StereoLeft) → StereoLeft
-stereoGated (some o) t x = withSignal (lentSignal t) (kept t o)
-stereoGated none t x = x
+unfoldable pub stereoBehindGate : (g : Option Outcome) (t : StageLent) (x : StereoLeft) → StereoLeft
+stereoBehindGate (some o) t x = withSignal (lentSignal t) (stageKept t o)
+stereoBehindGate none t x = x
 
-unfoldable pub stereo : (l : Layout) (t : StageLent) → StereoLeft
-stereo l t = stereoGated (stereoGate l (lentRoom t) (t .spectra) (t .intensities)) t (stereoRun l t)
+unfoldable pub encodeStereoFrame : (l : Layout) (t : StageLent) → StereoLeft
+encodeStereoFrame l t = stereoBehindGate (stereoGate l (stageRoom t) (t .spectra) (t .intensities)) t (stereoRun l t)

@@ -24,9 +24,9 @@ use Rattle.rules.specs.Fields.{smallBits, codeBits}
 use Rattle.rules.specs.Code.{codePlace, codeAt, stepOf, stepShift, rawCode, codeOf, recordedCode, codeLimit, magnitudeBits}
 use Rattle.rules.specs.Layout.{legalLayout, kindAt, secondaryAt, ceilDiv, bandsPerGroup, groupCount, codedCount, sideCount, sideWidth, hasRoom}
 use Rattle.rules.specs.Refusals.{delivered, refused, stageOutcome, writerOutcome, readerOutcome}
-use Rattle.rules.specs.Stage.{StageLent, stageLent, stageLeft, lentRoom, stageHasRoom, badIntensity, badSpectrum}
-use Rattle.rules.specs.Writer.{writerLent, writerLeft, writerRoom}
-use Rattle.rules.specs.Reader.{readerLent, readerLeft, readerRoom}
+use Rattle.rules.specs.Stage.{StageLent, stageLent, stageLeft, stageRoom, stageHasRoom, badIntensity, badSpectrum}
+use Rattle.rules.specs.Writer.{writerLent, writerLeft, writerHasRoom}
+use Rattle.rules.specs.Reader.{readerLent, readerLeft, readerHasRoom}
 use Rattle.rules.specs.declared.ChannelType.{ChannelType}
 use Rattle.rules.specs.declared.ChannelType.the-variants.{Discrete, StereoPrimary, StereoSecondary}
 use Rattle.rules.specs.declared.Layout.{Layout}
@@ -69,7 +69,8 @@ unfolding heldZ
 held-row = refl
 
 -- `as i32`: toward zero, held to 32 bits, 0 for NaN
-pub cast-row : map (λ p. asI32 (ofBits binary32 p)) (0x3FFFFFFF ∷ 0xBFFFFFFF ∷ 0x4F000000 ∷ 0xCF800000 ∷ 0x7FC00000 ∷ []) ≡ pos 1 ∷ negsuc 0 ∷ pos 2147483647 ∷ negsuc 2147483647 ∷ pos 0 ∷ []
+pub cast-row : map (λ p. asI32 (ofBits binary32 p)) (0x3FFFFFFF ∷ 0xBFFFFFFF ∷ 0x4F000000 ∷ 0xCF800000 ∷ 0x7FC00000 ∷ [])
+    ≡ pos 1 ∷ negsuc 0 ∷ pos 2147483647 ∷ negsuc 2147483647 ∷ pos 0 ∷ []
 unfolding ofBits toSigned
 cast-row = refl
 
@@ -110,10 +111,11 @@ mono = record { channels = 1; kinds = replicate 16 (record { kind = Discrete });
 
 abbrev lentOf : (spectra intensities scaled codes factors side frame : ℕ) → StageLent
 lentOf spectra intensities scaled codes factors side frame =
-    stageLent (replicate spectra zeroF) (replicate intensities 0) (replicate scaled zeroF) (replicate codes (pos 0)) (replicate factors 0) (replicate side 0) (replicate frame 0)
+    stageLent (replicate spectra zeroF) (replicate intensities 0) (replicate scaled zeroF) (replicate codes (pos 0)) (replicate factors 0) (replicate side 0)
+    (replicate frame 0)
 
 pub stage-rooms :
-    map (λ t. stageHasRoom mono (lentRoom t))
+    map (λ t. stageHasRoom mono (stageRoom t))
     (lentOf 1024 8 1024 1024 128 8 9 ∷ lentOf 1023 8 1024 1024 128 8 9 ∷ lentOf 1024 7 1024 1024 128 8 9 ∷ lentOf 1024 8 1023 1024 128 8 9
     ∷ lentOf 1024 8 1024 1023 128 8 9 ∷ lentOf 1024 8 1024 1024 127 8 9 ∷ lentOf 1024 8 1024 1024 128 7 9 ∷ lentOf 1024 8 1024 1024 128 8 8 ∷ [])
     ≡ true ∷ replicate 7 false
@@ -121,10 +123,10 @@ unfolding stageHasRoom hasRoom
 stage-rooms = refl
 
 abbrev writes : (factors side codes frame : ℕ) → Bool
-writes factors side codes frame = writerRoom mono (writerLent 0 0 (replicate factors 0) (replicate side 0) (replicate codes (pos 0)) (replicate frame 0))
+writes factors side codes frame = writerHasRoom mono (writerLent 0 0 (replicate factors 0) (replicate side 0) (replicate codes (pos 0)) (replicate frame 0))
 
 abbrev reads : (factors side codes frame : ℕ) → Bool
-reads factors side codes frame = readerRoom mono (readerLent (replicate frame 0) (replicate factors 0) (replicate side 0) (replicate codes (pos 0)))
+reads factors side codes frame = readerHasRoom mono (readerLent (replicate frame 0) (replicate factors 0) (replicate side 0) (replicate codes (pos 0)))
 
 pub record-rooms :
     (writes 128 8 1024 9 ∷ writes 127 8 1024 9 ∷ writes 128 7 1024 9 ∷ writes 128 8 1023 9 ∷ writes 128 8 1024 8 ∷ [] ≡ true ∷ replicate 4 false)
@@ -136,7 +138,15 @@ record-rooms = (refl, refl)
 
 abbrev layout : (channels base stereo total size : ℕ) → Bool
 layout channels base stereo total size =
-    legalLayout (record { channels = channels; kinds = replicate 16 (record { kind = Discrete }); base = base; stereo = stereo; total = total; «frame_size» = size })
+    legalLayout (record {
+      channels = channels;
+      kinds = replicate 16 (record { kind = Discrete });
+      base = base;
+      stereo = stereo;
+      total = total;
+      «frame_size» =
+          size;
+    })
 
 pub layout-row :
     layout 1 0 0 1 8 ∷ layout 16 100 28 128 65535 ∷ []
@@ -179,11 +189,13 @@ module _ (spectra : List Float) (intensities : List ℕ) (scaled : List Float) (
 -- ---- the number of each answer, and the number beside it
 
 pub answer-numbers :
-    (map stageOutcome (stage.Delivered 1 2 3 4 ∷ stage.BadLayout ∷ stage.ShortBuffer ∷ stage.BadIntensity 9 ∷ stage.BadSpectrum 9 ∷ stage.NoLevel 9 ∷ stage.TooLong 9 ∷ [])
+    (map stageOutcome (stage.Delivered 1 2 3 4 ∷ stage.BadLayout ∷ stage.ShortBuffer ∷ stage.BadIntensity 9 ∷ stage.BadSpectrum 9 ∷ stage.NoLevel 9
+    ∷ stage.TooLong 9 ∷ [])
     ≡ delivered (1 ∷ 2 ∷ 3 ∷ 4 ∷ []) ∷ refused 1 0 ∷ refused 2 0 ∷ refused 3 9 ∷ refused 4 9 ∷ refused 5 9 ∷ refused 7 9 ∷ [])
     × (map writerOutcome (write.Delivered 1 2 3 ∷ write.BadLayout ∷ write.ShortBuffer ∷ write.NotLegal ∷ write.TooLong 9 ∷ [])
     ≡ delivered (1 ∷ 2 ∷ 3 ∷ []) ∷ refused 1 0 ∷ refused 2 0 ∷ refused 15 0 ∷ refused 7 9 ∷ [])
-    × (map readerOutcome (read.Delivered 1 2 3 ∷ read.BadLayout ∷ read.ShortBuffer ∷ read.WrongCheck ∷ read.WrongSync ∷ read.BadWidth 9 ∷ read.BadFactor 9 ∷ read.PastEnd 9
+    × (map readerOutcome (read.Delivered 1 2 3 ∷ read.BadLayout ∷ read.ShortBuffer ∷ read.WrongCheck ∷ read.WrongSync ∷ read.BadWidth 9 ∷ read.BadFactor 9
+    ∷ read.PastEnd 9
     ∷ read.FillNotZero 9 ∷ [])
     ≡ delivered (1 ∷ 2 ∷ 3 ∷ []) ∷ refused 1 0 ∷ refused 2 0 ∷ refused 8 0 ∷ refused 9 0 ∷ refused 11 9 ∷ refused 12 9 ∷ refused 13 9 ∷ refused 14 9 ∷ [])
 unfolding stageOutcome writerOutcome readerOutcome
@@ -197,7 +209,8 @@ unfolding codeRange codeLimit magnitudeBits maxBitTable
 range-row = refl
 
 pub legal-row :
-    legalHead 511 127 ∷ legalHead 512 0 ∷ legalHead 0 128 ∷ legalRow 2 64 3 (63 ∷ 0 ∷ 0 ∷ []) ∷ legalRow 2 64 3 (0 ∷ 64 ∷ 0 ∷ []) ∷ legalRow 2 64 3 (0 ∷ 0 ∷ 1 ∷ [])
+    legalHead 511 127 ∷ legalHead 512 0 ∷ legalHead 0 128 ∷ legalRow 2 64 3 (63 ∷ 0 ∷ 0 ∷ []) ∷ legalRow 2 64 3 (0 ∷ 64 ∷ 0 ∷ []) ∷ legalRow 2 64 3
+    (0 ∷ 0 ∷ 1 ∷ [])
     ∷ legalSubframe (7 ∷ 8 ∷ []) (negsuc 6 ∷ pos 15 ∷ []) ∷ legalSubframe (7 ∷ 8 ∷ []) (pos 8 ∷ []) ∷ legalSubframe (7 ∷ 8 ∷ []) (pos 0 ∷ negsuc 15 ∷ [])
     ∷ legalSubframe (7 ∷ 8 ∷ []) (pos 0 ∷ pos 0 ∷ pos 1 ∷ []) ∷ []
     ≡ true ∷ false ∷ false ∷ true ∷ false ∷ false ∷ true ∷ false ∷ false ∷ false ∷ []
@@ -205,7 +218,8 @@ unfolding legalHead legalRow legalSubframe every codeRange codeLimit magnitudeBi
 legal-row = refl
 
 -- side values: 8 of 4 bits for a secondary, else G of 6
-pub side-row : sideWidth StereoSecondary ∷ sideWidth StereoPrimary ∷ sideWidth Discrete ∷ sideCount mono StereoSecondary ∷ codedCount (bands 5 2) StereoSecondary
+pub side-row : sideWidth StereoSecondary ∷ sideWidth StereoPrimary ∷ sideWidth Discrete ∷ sideCount mono StereoSecondary ∷ codedCount (bands 5 2)
+    StereoSecondary
     ∷ codedCount (bands 5 2) StereoPrimary ∷ codedCount (bands 5 2) Discrete ∷ [] ≡ 4 ∷ 6 ∷ 6 ∷ 8 ∷ 5 ∷ 7 ∷ 7 ∷ []
 side-row = refl
 
@@ -219,7 +233,8 @@ pub unjudged-row : badIntensity (kinded Discrete) (16 ∷ []) 0 ∷ badIntensity
 unfolding badIntensity secondaryAt kindAt
 unjudged-row = refl
 
-pub spectrum-row : map (badSpectrum (map (ofBits binary32) (0x7F7FFFFF ∷ 0x7F800000 ∷ 0xFF800000 ∷ 0x7FC00000 ∷ []))) (0 ∷ 1 ∷ 2 ∷ 3 ∷ []) ≡ false ∷ true ∷ true ∷ true ∷ []
+pub spectrum-row : map (badSpectrum (map (ofBits binary32) (0x7F7FFFFF ∷ 0x7F800000 ∷ 0xFF800000 ∷ 0x7FC00000 ∷ []))) (0 ∷ 1 ∷ 2 ∷ 3 ∷ [])
+    ≡ false ∷ true ∷ true ∷ true ∷ []
 unfolding badSpectrum ofBits
 spectrum-row = refl
 
@@ -251,11 +266,13 @@ pub eight-scaled : map (toBits binary32) (scaledBand lastLoud (replicate 128 57)
 unfolding scaledBand scaledValue scaleOf scalingTable build heldF ofBits toBits mul div lt neg
 eight-scaled = refl
 
-pub eight-bits : bandBits (replicate 1024 zeroF) 3 8 ∷ bandBits (set (replicate 1024 zeroF) 31 oneF) 3 8 ∷ bandBits (set (replicate 1024 zeroF) 32 oneF) 3 8 ∷ [] ≡ 32 ∷ 33 ∷ 32 ∷ []
+pub eight-bits : bandBits (replicate 1024 zeroF) 3 8 ∷ bandBits (set (replicate 1024 zeroF) 31 oneF) 3 8 ∷ bandBits (set (replicate 1024 zeroF) 32 oneF) 3 8
+    ∷ [] ≡ 32 ∷ 33 ∷ 32 ∷ []
 unfolding bandBits sumTo valueBits magnitudeBits maxBitTable deadZoneTable ofBits le absF
 eight-bits = refl
 
-pub eight-codes : map (λ s. codeAt (replicate 128 15) (set (replicate 1024 zeroF) 31 (ofBits binary32 0x3F7FFFFE)) s 3) (0 ∷ 6 ∷ 7 ∷ []) ≡ pos 0 ∷ pos 0 ∷ pos 2047 ∷ []
+pub eight-codes : map (λ s. codeAt (replicate 128 15) (set (replicate 1024 zeroF) 31 (ofBits binary32 0x3F7FFFFE)) s 3) (0 ∷ 6 ∷ 7 ∷ [])
+    ≡ pos 0 ∷ pos 0 ∷ pos 2047 ∷ []
 unfolding codeAt recordedCode codeOf rawCode stepOf stepShift stepTable codeLimit magnitudeBits maxBitTable heldZ ofBits add mul toSigned
 eight-codes = refl
 
@@ -269,13 +286,15 @@ abbrev counts : List ℕ
 counts = 0 ∷ 1 ∷ 8 ∷ 9 ∷ 16 ∷ 17 ∷ 128 ∷ []
 
 pub group-row :
-    (map (λ n. bandsPerGroup (grouped n)) counts ≡ 0 ∷ 1 ∷ 1 ∷ 2 ∷ 2 ∷ 3 ∷ 16 ∷ []) × (map (λ n. groupCount (grouped n)) counts ≡ 0 ∷ 1 ∷ 8 ∷ 5 ∷ 8 ∷ 6 ∷ 8 ∷ [])
+    (map (λ n. bandsPerGroup (grouped n)) counts ≡ 0 ∷ 1 ∷ 1 ∷ 2 ∷ 2 ∷ 3 ∷ 16 ∷ [])
+    × (map (λ n. groupCount (grouped n)) counts ≡ 0 ∷ 1 ∷ 8 ∷ 5 ∷ 8 ∷ 6 ∷ 8 ∷ [])
 unfolding bandsPerGroup groupCount ceilDiv
 group-row = (refl, refl)
 
 -- no source; 1 / 0.5 is above SQRT_2; 1 / 0.8 is not
 pub value-row :
-    map (λ p. toBits binary32 (groupValue (ofBits binary32 0x40400000) (ofBits binary32 p))) (0 ∷ 0x3F000000 ∷ 0x3F4CCCCD ∷ []) ≡ 0x40400000 ∷ 0x4087C3B6 ∷ 0x40700000 ∷ []
+    map (λ p. toBits binary32 (groupValue (ofBits binary32 0x40400000) (ofBits binary32 p))) (0 ∷ 0x3F000000 ∷ 0x3F4CCCCD ∷ [])
+    ≡ 0x40400000 ∷ 0x4087C3B6 ∷ 0x40700000 ∷ []
 unfolding groupValue ofBits toBits mul div lt minF
 value-row = refl
 
@@ -304,7 +323,8 @@ sided = record {
 pub side-rows :
     allSide sided (set (replicate 3072 zeroF) 1025 oneF) (replicate 3072 zeroF) (replicate 16 9 ++ (1 ∷ 2 ∷ 3 ∷ 4 ∷ 5 ∷ 6 ∷ 7 ∷ 8 ∷ []))
     ≡ replicate 8 0 ++ (48 ∷ replicate 7 0 ++ (1 ∷ 2 ∷ 3 ∷ 4 ∷ 5 ∷ 6 ∷ 7 ∷ 8 ∷ []))
-unfolding allSide channelSide intensitySide scaleSide hfrScale secondaryAt kindAt build blocks groupValue spectrumAverage sourceAverage groupAverage bandsTaken withEight noAverage mean meanF bandsPerGroup groupCount ceilDiv folded factorOf countLe scalingTable ofBits add mul div lt le absF ofInt
+unfolding allSide channelSide intensitySide scaleSide hfrScale secondaryAt kindAt build blocks groupValue spectrumAverage sourceAverage groupAverage bandsTaken
+    withEight noAverage mean meanF bandsPerGroup groupCount ceilDiv folded factorOf countLe scalingTable ofBits add mul div lt le absF ofInt
 side-rows = refl
 
 -- N = 119, total 128: g = 2, and the fifth group has band 127 alone: it stops at band 128

@@ -7,12 +7,13 @@ use native.Mathlib.Omega.{arith}
 use lib.ListN.{getD}
 use Rattle.rules.specs.Frame.{frameOf}
 use Rattle.rules.specs.Refusals.{delivered, refused}
-use Rattle.rules.specs.Lent.{laid, noSide, noFrame}
-use Rattle.rules.specs.Stage.{made, madeRecord}
+use Rattle.rules.specs.Lent.{overwrite, noSide, noFrame}
+use Rattle.rules.specs.Stage.{analysis, stageRecord}
 use Rattle.rules_demands.proofs.FirstSubframe.{firstOnly}
 use Rattle.rules_worked.proofs.Runs.{run-made}
 use Rattle.rules_worked.proofs.Inputs.{five, six, secondary, quiet, loud, later, removed, right, frames, loudBytes}
-use Rattle.rules_worked.proofs.Worked.{left, five-delivered, six-refused, secondary-refused, loud-delivered, later-delivered, removed-delivered, quiet-frame, loud-frame, later-frame}
+use Rattle.rules_worked.proofs.Worked.{left, five-delivered, six-refused, secondary-refused, loud-delivered, later-delivered, removed-delivered}
+use Rattle.rules_worked.proofs.Worked.{quiet-frame, loud-frame, later-frame}
 
 -- one that refuses all input
 pub refuses-all : (n k : ℕ) → left five .outcome ≡ refused n k → ⊥
@@ -29,7 +30,8 @@ stores-nothing p = let z : _≡_ {A = ℕ} 255 0 = ap (λ xs. getD xs 0 0) (sym 
 -- one that packs the first subframe and fills the other seven with zeros
 pub first-subframe :
     left later .frame
-    ≡ laid (frameOf (later .layout) (firstOnly (madeRecord (later .layout) (made (later .layout) (later .spectra) (noSide (later .layout)))))) (noFrame (later .layout)) → ⊥
+    ≡ overwrite (frameOf (later .layout) (firstOnly (stageRecord (later .layout) (analysis (later .layout) (later .spectra) (noSide (later .layout))))))
+    (noFrame (later .layout)) → ⊥
 first-subframe p =
     let q : left later .frame ≡ loudBytes = rw (run-made later (right .5), frames .4) at p in
     let z : _≡_ {A = ℕ} 224 0 = ap (λ xs. getD xs 10 0) (sym later-frame ∙ q) in
@@ -43,5 +45,6 @@ made-up-bits n a b c a′ b′ c′ p q = let z : _≡_ {A = ℕ} 116 120 = cc (
 pub made-up-pairs : (n : ℕ) → left six .outcome ≡ refused 5 n → left secondary .outcome ≡ refused 5 n → ⊥
 made-up-pairs n p q = let z : _≡_ {A = ℕ} 0 1 = cc (six-refused, secondary-refused) in omega arith
 
-pub made-up-removal : (n a b c a′ b′ c′ : ℕ) → left five .outcome ≡ delivered (a ∷ b ∷ n ∷ c ∷ []) → left removed .outcome ≡ delivered (a′ ∷ b′ ∷ n ∷ c′ ∷ []) → ⊥
+pub made-up-removal : (n a b c a′ b′ c′ : ℕ) → left five .outcome ≡ delivered (a ∷ b ∷ n ∷ c ∷ []) → left removed .outcome ≡ delivered (a′ ∷ b′ ∷ n ∷ c′ ∷ [])
+    → ⊥
 made-up-removal n a b c a′ b′ c′ p q = let z : _≡_ {A = ℕ} 0 1 = cc (five-delivered, removed-delivered) in omega arith

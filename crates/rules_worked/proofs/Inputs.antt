@@ -11,13 +11,15 @@ use Rattle.floats.specs.Single.{absF, heldF, maxF, minF, folded, zeroF, oneF, n
 use Rattle.crc.specs.Check.{checksum}
 use Rattle.rules.specs.Tables.{scalingTable, resolutionCurve, stepTable, deadZoneTable, maxBitTable, spectrumBits, spectrumValue}
 use Rattle.rules.specs.Signed.{heldZ}
-use Rattle.rules.specs.Layout.{legalLayout, kindAt, kindsOf, secondaryAt, ceilDiv, bandsPerGroup, groupCount, codedAt, sidesAt, hasRoom}
+use Rattle.rules.specs.Layout.{legalLayout, kindAt, kindsOf, secondaryAt, ceilDiv, bandsPerGroup, groupCount, codedCountAt, sideCountAt, hasRoom}
 use Rattle.rules.specs.Factor.{countLe, factorOf, peakOf, bandFactor, channelFactors, allFactors}
 use Rattle.rules.specs.Scaling.{scaleOf, scaledValue, scaledBand, channelScaled, allScaled}
 use Rattle.rules.specs.Hfr.{bandsTaken, groupAverage, spectrumAverage, sourceAverage, groupValue, hfrScale, intensitySide, scaleSide, channelSide, allSide}
-use Rattle.rules.specs.Resolution.{noiseAt, curvePosition, heldPosition, resolutionIn, resolution, resolutionAt, resolutionsOf, bandResolution, channelResolutions, allResolutions}
+use Rattle.rules.specs.Resolution.{noiseAt, curvePosition, heldPosition, resolutionIn, resolution, resolutionAt, resolutionsOf, bandResolution}
+use Rattle.rules.specs.Resolution.{channelResolutions, allResolutions}
 use Rattle.rules.specs.Width.{near, laterCost, deltaCost, cost, allZero, cheaper, width, widthCost}
-use Rattle.rules.specs.Code.{stepOf, stepShift, rawCode, magnitudeBits, codeLimit, codeOf, codePlace, recordedCode, codeAt, subframeCodes, channelCodes, allCodes}
+use Rattle.rules.specs.Code.{stepOf, stepShift, rawCode, magnitudeBits, codeLimit, codeOf, codePlace, recordedCode, codeAt, subframeCodes, channelCodes}
+use Rattle.rules.specs.Code.{allCodes}
 use Rattle.rules.specs.Estimate.{valueBits, bandBits, channelBits, headerBits, fixedBits, spectralBits, usedBits, exceeds}
 use Rattle.rules.specs.Level.{clearTwo, clearPair}
 use Rattle.rules.specs.Boundary.{lastOf}
@@ -25,7 +27,7 @@ use Rattle.rules.specs.Record.{recOf}
 use Rattle.rules.specs.Fields.{deltaSymbol, deltaBits, smallBits, codeBits, fields}
 use Rattle.rules.specs.Frame.{filledFields, frameOf}
 use Rattle.rules.specs.Lent.{noFloats, noCodes, noFactors, noSide}
-use Rattle.rules.specs.Stage.{stageHasRoom, madeRecord}
+use Rattle.rules.specs.Stage.{stageHasRoom, stageRecord}
 use Rattle.rules_demands.proofs.FirstSubframe.{firstOnly}
 use Rattle.rules_worked.proofs.Runs.{halving, narrowing, removalStep, removing, allFinite, Example, Right}
 use Rattle.rules.specs.declared.ChannelType.{ChannelType}
@@ -51,7 +53,7 @@ silent kind channels bands size level pairs n =
       layout = l;
       spectra = noFloats l;
       factors = noFactors l;
-      made = record {
+      analysis = record {
         scaled = noFloats l;
         side = noSide l;
         found = record { level = level; pairs = pairs; factors = noFactors l };
@@ -92,7 +94,7 @@ loud = record {
   layout = uniform Discrete 1 2 0 17;
   spectra = oneF ∷ oneF ∷ replicate 127 zeroF ++ (edge ∷ replicate 894 zeroF);
   factors = 55 ∷ 55 ∷ replicate 126 0;
-  made = record {
+  analysis = record {
     scaled = tone ∷ replicate 7 zeroF ++ (tone ∷ edgeScaled ∷ replicate 1014 zeroF);
     side = replicate 8 0;
     found = record { level = 173; pairs = 0; factors = 55 ∷ 55 ∷ replicate 126 0 };
@@ -108,7 +110,7 @@ later = record {
   layout = uniform Discrete 1 2 0 17;
   spectra = oneF ∷ oneF ∷ replicate 510 zeroF ++ blocks (λ _. oneF ∷ replicate 127 zeroF) 4;
   factors = 55 ∷ 55 ∷ replicate 126 0;
-  made = record {
+  analysis = record {
     scaled = tone ∷ replicate 3 zeroF ++ (replicate 5 tone ++ replicate 1015 zeroF);
     side = replicate 8 0;
     found = record { level = 173; pairs = 0; factors = 55 ∷ 55 ∷ replicate 126 0 };
@@ -124,7 +126,7 @@ removed = record {
   layout = uniform Discrete 1 3 0 8;
   spectra = zeroF ∷ oneF ∷ oneF ∷ replicate 1021 zeroF;
   factors = 0 ∷ 55 ∷ 55 ∷ replicate 125 0;
-  made = record {
+  analysis = record {
     scaled = replicate 8 zeroF ++ (tone ∷ replicate 7 zeroF ++ (tone ∷ replicate 1007 zeroF));
     side = replicate 8 0;
     found = record { level = 0; pairs = 1; factors = replicate 128 0 };
@@ -140,7 +142,7 @@ hfr = record {
   layout = uniform Discrete 1 1 1 17;
   spectra = oneF ∷ ofBits binary32 0x3F000000 ∷ replicate 1022 zeroF;
   factors = 55 ∷ replicate 127 0;
-  made = record {
+  analysis = record {
     scaled = tone ∷ replicate 1023 zeroF;
     side = 47 ∷ replicate 7 0;
     found = record { level = 142; pairs = 0; factors = 55 ∷ replicate 127 0 };
@@ -156,7 +158,7 @@ edged = record {
   layout = uniform Discrete 1 1 0 19;
   spectra = ofBits binary32 0x342A8D26 ∷ replicate 127 zeroF ++ blocks (λ _. ofBits binary32 0x2E634C94 ∷ replicate 127 zeroF) 7;
   factors = 1 ∷ replicate 127 0;
-  made = record {
+  analysis = record {
     scaled = ofBits binary32 0x3F40213B ∷ replicate 7 (ofBits binary32 0x39800759) ++ replicate 1016 zeroF;
     side = replicate 8 0;
     found = record { level = 0; pairs = 0; factors = 1 ∷ replicate 127 0 };
@@ -167,12 +169,19 @@ edged = record {
 }
 
 pub right : Right five × Right six × Right secondary × Right quiet × Right loud × Right later × Right removed × Right hfr × Right edged
-unfolding legalLayout stageHasRoom hasRoom allFinite madeRecord allFactors channelFactors bandFactor peakOf factorOf countLe scalingTable folded maxF absF build blocks allScaled channelScaled scaledBand scaledValue heldF allSide channelSide intensitySide scaleSide groupCount bandsPerGroup ceilDiv secondaryAt kindAt codedAt sidesAt removing removalStep halving narrowing exceeds usedBits fixedBits spectralBits headerBits channelBits bandBits valueBits resolutionAt resolution resolutionIn noiseAt width widthCost allZero cost sumTo lastOf allResolutions channelResolutions bandResolution allCodes channelCodes subframeCodes codeAt recordedCode recOf fields kindsOf codeBits resolutionsOf bits ofBits le lt rawCode stepOf stepShift codePlace stepTable spectrumBits toSigned add mul heldZ clearPair clearTwo codeOf maxBitTable magnitudeBits codeLimit curvePosition heldPosition resolutionCurve deadZoneTable scaleOf neg div spectrumValue smallBits cheaper deltaCost laterCost near deltaBits deltaSymbol hfrScale spectrumAverage sourceAverage groupAverage bandsTaken noAverage withEight mean meanF groupValue minF ofInt
+unfolding legalLayout stageHasRoom hasRoom allFinite stageRecord allFactors channelFactors bandFactor peakOf factorOf countLe scalingTable folded maxF absF
+    build blocks allScaled channelScaled scaledBand scaledValue heldF allSide channelSide intensitySide scaleSide groupCount bandsPerGroup ceilDiv secondaryAt
+    kindAt codedCountAt sideCountAt removing removalStep halving narrowing exceeds usedBits fixedBits spectralBits headerBits channelBits bandBits valueBits
+    resolutionAt resolution resolutionIn noiseAt width widthCost allZero cost sumTo lastOf allResolutions channelResolutions bandResolution allCodes
+    channelCodes subframeCodes codeAt recordedCode recOf fields kindsOf codeBits resolutionsOf bits ofBits le lt rawCode stepOf stepShift codePlace stepTable
+    spectrumBits toSigned add mul heldZ clearPair clearTwo codeOf maxBitTable magnitudeBits codeLimit curvePosition heldPosition resolutionCurve deadZoneTable
+    scaleOf neg div spectrumValue smallBits cheaper deltaCost laterCost near deltaBits deltaSymbol hfrScale spectrumAverage sourceAverage groupAverage
+    bandsTaken noAverage withEight mean meanF groupValue minF ofInt
 right = (refl, refl, refl, refl, refl, refl, refl, refl, refl)
 
 -- and the bytes of some frames
 abbrev pub bytesOf : Example → List ℕ
-bytesOf e = frameOf (e .layout) (madeRecord (e .layout) (e .made))
+bytesOf e = frameOf (e .layout) (stageRecord (e .layout) (e .analysis))
 
 abbrev pub fiveBytes : List ℕ
 fiveBytes = 0xFF ∷ 0xFF ∷ 0x00 ∷ 0x00 ∷ 0x00 ∷ 0x00 ∷ 0x00 ∷ 0xD8 ∷ []
@@ -188,11 +197,15 @@ laterBytes = 0xFF ∷ 0xFF ∷ 0x56 ∷ 0x81 ∷ 0x3B ∷ 0xB8 ∷ 0xE0 ∷ 0x00
 
 pub frames :
     (bytesOf five ≡ fiveBytes) × (bytesOf quiet ≡ quietBytes) × (bytesOf loud ≡ loudBytes) × (bytesOf later ≡ laterBytes)
-    × (frameOf (later .layout) (firstOnly (madeRecord (later .layout) (later .made))) ≡ loudBytes)
-unfolding madeRecord recOf build kindAt codedAt sidesAt kindsOf groupCount bandsPerGroup ceilDiv fields width cheaper allZero cost deltaCost laterCost near deltaBits deltaSymbol codeBits smallBits codePlace spectrumBits spectrumValue heldZ magnitudeBits maxBitTable resolutionsOf resolutionAt resolution resolutionIn noiseAt heldPosition curvePosition resolutionCurve frameOf filledFields bits value bitsOf pack checksum blocks
+    × (frameOf (later .layout) (firstOnly (stageRecord (later .layout) (later .analysis))) ≡ loudBytes)
+unfolding stageRecord recOf build kindAt codedCountAt sideCountAt kindsOf groupCount bandsPerGroup ceilDiv fields width cheaper allZero cost deltaCost laterCost
+    near deltaBits deltaSymbol codeBits smallBits codePlace spectrumBits spectrumValue heldZ magnitudeBits maxBitTable resolutionsOf resolutionAt resolution
+    resolutionIn noiseAt heldPosition curvePosition resolutionCurve frameOf filledFields bits value bitsOf pack checksum blocks
 frames = (refl, refl, refl, refl, refl)
 
 -- the edge costs a bit in the estimate (133, with the check's 16) and none in the frame (116 and 16)
-pub estimated : usedBits (loud .layout) (loud .made .scaled) (loud .factors) 173 1 ≡ 133
-unfolding usedBits fixedBits spectralBits headerBits channelBits bandBits valueBits resolutionAt resolution resolutionIn noiseAt width widthCost allZero cost cheaper deltaCost laterCost near sumTo kindAt codedAt sidesAt groupCount bandsPerGroup ceilDiv rawCode stepOf stepShift codePlace heldZ curvePosition heldPosition resolutionCurve magnitudeBits maxBitTable deadZoneTable stepTable spectrumBits absF ofBits le add mul toSigned
+pub estimated : usedBits (loud .layout) (loud .analysis .scaled) (loud .factors) 173 1 ≡ 133
+unfolding usedBits fixedBits spectralBits headerBits channelBits bandBits valueBits resolutionAt resolution resolutionIn noiseAt width widthCost allZero cost
+    cheaper deltaCost laterCost near sumTo kindAt codedCountAt sideCountAt groupCount bandsPerGroup ceilDiv rawCode stepOf stepShift codePlace heldZ
+    curvePosition heldPosition resolutionCurve magnitudeBits maxBitTable deadZoneTable stepTable spectrumBits absF ofBits le add mul toSigned
 estimated = refl

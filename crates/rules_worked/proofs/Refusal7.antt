@@ -8,28 +8,29 @@ use Rattle.rules.specs.Fields.{fields}
 use Rattle.rules.specs.Frame.{fieldEnd}
 use Rattle.rules.specs.Refusals.{refused}
 use Rattle.rules.specs.Lent.{noSide}
-use Rattle.rules.specs.Stage.{Made, cleared, stageLaid, made, madeRecord, packed, settled}
+use Rattle.rules.specs.Stage.{Analysis, cleared, stageOverwrite, analysis, stageRecord, afterPacking, afterLevel}
 use Rattle.rules.specs.declared.Layout.{Layout}
 use Rattle.rules_worked.proofs.Runs.{lent, run-made, run}
 use Rattle.rules_worked.proofs.Inputs.{edged, right}
 use Rattle.rules_worked.proofs.Worked.{left}
 
-settled-long : (l : Layout) (m : Made) → m .found .level ≤ 254 → fieldEnd l < length (fields l (madeRecord l m)) → settled l m ≡ cleared l (refused 7 (length (fields l (madeRecord l m))))
-unfolding settled packed
-settled-long l m h n = rw (le-ltb 254 (m .found .level) h, lt-ltb (fieldEnd l) (length (fields l (madeRecord l m))) n)
+settled-long : (l : Layout) (m : Analysis) → m .found .level ≤ 254 → fieldEnd l < length (fields l (stageRecord l m)) → afterLevel l m
+    ≡ cleared l (refused 7 (length (fields l (stageRecord l m))))
+unfolding afterLevel afterPacking
+settled-long l m h n = rw (le-ltb 254 (m .found .level) h, lt-ltb (fieldEnd l) (length (fields l (stageRecord l m))) n)
 
 -- the level found is 0,
-pub edged-level : made (edged .layout) (edged .spectra) (noSide (edged .layout)) .found .level ≡ 0
-edged-level = ap (λ (m : Made). m .found .level) (run-made edged (right .8))
+pub edged-level : analysis (edged .layout) (edged .spectra) (noSide (edged .layout)) .found .level ≡ 0
+edged-level = ap (λ (m : Analysis). m .found .level) (run-made edged (right .8))
 
 -- the fields take a bit more than there are,
-pub edged-bits : length (fields (edged .layout) (madeRecord (edged .layout) (made (edged .layout) (edged .spectra) (noSide (edged .layout))))) ≡ 137
-edged-bits = ap (λ (m : Made). length (fields (edged .layout) (madeRecord (edged .layout) m))) (run-made edged (right .8)) ∙ ap (λ w. w .bits) (right .8)
+pub edged-bits : length (fields (edged .layout) (stageRecord (edged .layout) (analysis (edged .layout) (edged .spectra) (noSide (edged .layout))))) ≡ 137
+edged-bits = ap (λ (m : Analysis). length (fields (edged .layout) (stageRecord (edged .layout) m))) (run-made edged (right .8)) ∙ ap (λ w. w .bits) (right .8)
 
 -- and the call is refused with 7 and the bits that they take, all buffers zero.
-pub edged-refused : left edged ≡ stageLaid (lent (edged .layout) (edged .spectra)) (cleared (edged .layout) (refused 7 137))
+pub edged-refused : left edged ≡ stageOverwrite (lent (edged .layout) (edged .spectra)) (cleared (edged .layout) (refused 7 137))
 edged-refused =
     run edged (right .8)
-    ∙ ap (stageLaid (lent (edged .layout) (edged .spectra)))
-    (settled-long (edged .layout) (edged .made) (omega arith) (omega (arith, ap (λ w. w .bits) (right .8)))
+    ∙ ap (stageOverwrite (lent (edged .layout) (edged .spectra)))
+    (settled-long (edged .layout) (edged .analysis) (omega arith) (omega (arith, ap (λ w. w .bits) (right .8)))
     ∙ ap (λ n. cleared (edged .layout) (refused 7 n)) (ap (λ w. w .bits) (right .8)))

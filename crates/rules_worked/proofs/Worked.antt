@@ -3,13 +3,14 @@ use mathlib.Core.Path.{_≡_, ap}
 use mathlib.Core.List.{[], _∷_}
 use native.Mathlib.Omega.{arith}
 use Rattle.rules.specs.Refusals.{delivered, refused}
-use Rattle.rules.specs.Stage.{StageLeft, stage}
+use Rattle.rules.specs.Stage.{StageLeft, encodeFrame}
 use Rattle.rules_worked.proofs.Runs.{Example, lent, run-outcome, run-none, run-frame}
-use Rattle.rules_worked.proofs.Inputs.{five, six, secondary, quiet, loud, later, removed, hfr, right, frames, fiveBytes, quietBytes, loudBytes, laterBytes}
+use Rattle.rules_worked.proofs.Inputs.{five, six, secondary, quiet, loud, later, removed, hfr, right, frames, fiveBytes, quietBytes, loudBytes}
+use Rattle.rules_worked.proofs.Inputs.{laterBytes}
 
 -- what the stage leaves on an example's spectra
 abbrev pub left : Example → StageLeft
-left e = stage (e .layout) (lent (e .layout) (e .spectra))
+left e = encodeFrame (e .layout) (lent (e .layout) (e .spectra))
 
 -- zero spectra, base = total = 1, F = 8, all Discrete: 5 channels pass at level 0 with 47 bits, 6 are refused (5, 0 pairs)
 pub five-delivered : left five .outcome ≡ delivered (0 ∷ 0 ∷ 0 ∷ 47 ∷ [])

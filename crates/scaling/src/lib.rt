@@ -2,7 +2,7 @@
 ghost use mathlib.Core.Path.{_≡_};
 ghost use Prim.Native.Nat.{ℕ, _<_};
 ghost use lib.ListN.{length, getD};
-ghost use Rattle.rules.specs.Layout.{Sizes, spectrumLength, factorLength};
+ghost use Rattle.rules.specs.Layout.{LegalLayout, spectrumLength, factorLength};
 ghost use Rattle.rules.specs.Scaling.{channelScaled, allScaled};
 ghost use Rattle.factors.specs.Scaling.{IsScaling};
 ghost use Rattle.scaling.specs.Bands.{codedFactor, bandScaled};
@@ -66,7 +66,7 @@ pub fn scale_spectra(
     factors: &[u8],
     scaled: &mut [f32],
 )
-    requires { ⌜ Sizes layout ⌝ }
+    requires { ⌜ LegalLayout layout ⌝ }
     requires { ⌜ IsScaling (now table) ⌝ }
     requires { ⌜ ((i : ℕ) → getD (now factors) i 0 < 64) ⌝ }
     requires { ⌜ (length (now spectra) ≡ spectrumLength layout) × (length (now factors) ≡ factorLength layout)

@@ -8,7 +8,7 @@ use lib.Ieee.{Float}
 use lib.ListN.{getD}
 use Rattle.buffers.specs.Walk.{sumTo}
 use Rattle.buffers.proofs.Scan.{sum-none, sum-more, sum-same}
-use Rattle.rules.specs.Layout.{codedAt, part}
+use Rattle.rules.specs.Layout.{codedCountAt, part}
 use Rattle.rules.specs.Resolution.{noiseAt, resolution, resolutionAt}
 use Rattle.rules.specs.Estimate.{bandBits, channelBits, spectralBits, usedBits}
 use Rattle.rules.specs.declared.Layout.{Layout}
@@ -61,11 +61,11 @@ module _ (sc : List Float) (fs : List ℕ) (coded level : ℕ) where
 -- when every channel has moved, so have the frame's bits
 pub all-moved : (l : Layout) (scaled : List Float) (factors : List ℕ) (level used from to n rise fall : ℕ) → n ≡ l .channels
     → used ≡ usedBits l scaled factors level from
-    → sumTo (λ i. channelBits (part 1024 scaled i) (part 128 factors i) (codedAt l i) level to) n + (fall + used)
-    ≡ sumTo (λ i. channelBits (part 1024 scaled i) (part 128 factors i) (codedAt l i) level from) n + rise
+    → sumTo (λ i. channelBits (part 1024 scaled i) (part 128 factors i) (codedCountAt l i) level to) n + (fall + used)
+    ≡ sumTo (λ i. channelBits (part 1024 scaled i) (part 128 factors i) (codedCountAt l i) level from) n + rise
     → usedBits l scaled factors level to + fall ≡ rise
 unfolding usedBits spectralBits
 all-moved l scaled factors level used from to n rise fall p u e =
-    let x = ap (sumTo (λ i. channelBits (part 1024 scaled i) (part 128 factors i) (codedAt l i) level to)) p in
-    let y = ap (sumTo (λ i. channelBits (part 1024 scaled i) (part 128 factors i) (codedAt l i) level from)) p in
+    let x = ap (sumTo (λ i. channelBits (part 1024 scaled i) (part 128 factors i) (codedCountAt l i) level to)) p in
+    let y = ap (sumTo (λ i. channelBits (part 1024 scaled i) (part 128 factors i) (codedCountAt l i) level from)) p in
     omega (arith, u, e, x, y)

@@ -7,7 +7,7 @@ ghost use mathlib.Core.Path.{_≡_};
 ghost use Prim.Native.Nat.{_*_, _≤_, _<_};
 ghost use lib.ListN.{length};
 ghost use Rattle.buffers.specs.Walk.{AtMost};
-ghost use Rattle.rules.specs.Layout.{Sizes, frameSize, spectrumLength, factorLength};
+ghost use Rattle.rules.specs.Layout.{LegalLayout, frameSize, spectrumLength, factorLength};
 ghost use Rattle.rules.specs.Estimate.{usedBits, exceeds};
 ghost use Rattle.rules.specs.Boundary.{searchBoundary, boundaryOf};
 ghost use Rattle.resolutions.specs.Stretched.{IsStretched};
@@ -25,7 +25,7 @@ fn binary_search_boundary(
     level: usize,
     used: usize,
 ) -> usize
-    requires { ⌜ Sizes layout ⌝ }
+    requires { ⌜ LegalLayout layout ⌝ }
     requires { ⌜ IsStretched (now curve) × Counted layout (now scaled) (now counts) × AtMost 63 (now factors) ⌝ }
     requires { ⌜ (length (now scaled) ≡ spectrumLength layout) × (length (now factors) ≡ factorLength layout) × (0 < level) × (level ≤ 254) ⌝ }
     requires { ⌜ (used ≡ usedBits layout (now scaled) (now factors) level 0) × (used ≤ 8 * frameSize layout) ⌝ }
@@ -86,7 +86,7 @@ pub fn calculate_evaluation_boundary(
     level: usize,
     used: usize,
 ) -> usize
-    requires { ⌜ Sizes layout ⌝ }
+    requires { ⌜ LegalLayout layout ⌝ }
     requires { ⌜ IsStretched (now curve) × Counted layout (now scaled) (now counts) × AtMost 63 (now factors) ⌝ }
     requires { ⌜ (length (now scaled) ≡ spectrumLength layout) × (length (now factors) ≡ factorLength layout) × (level ≤ 254) ⌝ }
     requires { ⌜ (used ≡ usedBits layout (now scaled) (now factors) level 0) × (used ≤ 8 * frameSize layout) ⌝ }

@@ -3,7 +3,7 @@ ghost use mathlib.Core.Path.{_≡_};
 ghost use Prim.Native.Nat.{_+_, _*_, _≤_, _<_, min};
 ghost use lib.ListN.{length};
 ghost use Rattle.buffers.specs.Walk.{AtMost};
-ghost use Rattle.rules.specs.Layout.{Sizes, frameSize, spectrumLength, factorLength};
+ghost use Rattle.rules.specs.Layout.{LegalLayout, frameSize, spectrumLength, factorLength};
 ghost use Rattle.rules.specs.Estimate.{channelBits, usedBits};
 ghost use Rattle.resolutions.specs.Stretched.{IsStretched};
 ghost use Rattle.band_counts.specs.Counts.{ChannelCounted, Counted};
@@ -66,7 +66,7 @@ pub fn move_boundary(
     from: usize,
     to: usize,
 ) -> usize
-    requires { ⌜ Sizes layout ⌝ }
+    requires { ⌜ LegalLayout layout ⌝ }
     requires { ⌜ IsStretched (now curve) × Counted layout (now scaled) (now counts) × AtMost 63 (now factors) ⌝ }
     requires { ⌜ (length (now scaled) ≡ spectrumLength layout) × (length (now factors) ≡ factorLength layout) ⌝ }
     requires { ⌜ (0 < level) × (level ≤ 254) × (from ≤ to) × (to ≤ 128) ⌝ }

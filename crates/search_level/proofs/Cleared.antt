@@ -13,4 +13,5 @@ pub clear-most : (m : ℕ) (l : Layout) (fs : List ℕ) (b : ℕ) → AtMost m f
 unfolding clearPair clearTwo
 clear-most m l fs b h =
     blocks-most m (λ c. clearTwo (part 128 fs c) b)
-    (λ c i. set-keeps (λ n. n ≤ m) 0 zero-le (set (part 128 fs c) b 0) (b + 1) i (set-keeps (λ n. n ≤ m) 0 zero-le (part 128 fs c) b i (part-most m (c * 128) 128 fs h i))) (l .channels)
+    (λ c i. set-keeps (λ n. n ≤ m) 0 zero-le (set (part 128 fs c) b 0) (b + 1) i
+    (set-keeps (λ n. n ≤ m) 0 zero-le (part 128 fs c) b i (part-most m (c * 128) 128 fs h i))) (l .channels)

@@ -3,10 +3,10 @@ ghost use mathlib.Core.Path.{_≡_};
 ghost use Prim.Native.Nat.{_+_, _*_, _≤_, _<_};
 ghost use lib.ListN.{length};
 ghost use Rattle.buffers.specs.Walk.{AtMost};
-ghost use Rattle.rules.specs.Layout.{Sizes, frameSize, spectrumLength, factorLength};
+ghost use Rattle.rules.specs.Layout.{LegalLayout, frameSize, spectrumLength, factorLength};
 ghost use Rattle.rules.specs.Estimate.{exceeds};
 ghost use Rattle.rules.specs.Level.{levelOf, clearTwo, clearPair};
-ghost use Rattle.rules.specs.Stage.{foundOf};
+ghost use Rattle.rules.specs.Stage.{levelFound};
 ghost use Rattle.resolutions.specs.Stretched.{IsStretched};
 ghost use Rattle.band_counts.specs.Counts.{Counted};
 ghost use Rattle.search_level.specs.Bits.{levelBits};
@@ -28,7 +28,7 @@ fn binary_search_level(
     counts: &[i32],
     factors: &[u8],
 ) -> Halving
-    requires { ⌜ Sizes layout ⌝ }
+    requires { ⌜ LegalLayout layout ⌝ }
     requires { ⌜ IsStretched (now curve) × Counted layout (now scaled) (now counts) × AtMost 63 (now factors) ⌝ }
     requires { ⌜ (length (now scaled) ≡ spectrumLength layout) × (length (now factors) ≡ factorLength layout) ⌝ }
     ensures { λ r. ⌜ (r .level ≡ levelOf (λ level. exceeds layout (now (scaled .entry)) (now (factors .entry)) level 0)) × (r .level ≤ 255)
@@ -62,7 +62,7 @@ fn clear_two(factors: &mut [u8], band: usize)
 
 // Two bands get factor 0 in every channel.
 fn clear_pair(layout: Layout, factors: &mut [u8], band: usize)
-    requires { ⌜ Sizes layout ⌝ }
+    requires { ⌜ LegalLayout layout ⌝ }
     requires { ⌜ (length (now factors) ≡ factorLength layout) × (band + 1 < 128) ⌝ }
     ensures { λ _. ⌜ now (factors .exit) ≡ clearPair layout (now (factors .entry)) band ⌝ }
 {
@@ -90,12 +90,12 @@ pub fn calculate_noise_level(
     counts: &[i32],
     factors: &mut [u8],
 ) -> Removal
-    requires { ⌜ Sizes layout ⌝ }
+    requires { ⌜ LegalLayout layout ⌝ }
     requires { ⌜ IsStretched (now curve) × Counted layout (now scaled) (now counts) × AtMost 63 (now factors) ⌝ }
     requires { ⌜ (length (now scaled) ≡ spectrumLength layout) × (length (now factors) ≡ factorLength layout) ⌝ }
-    ensures { λ r. ⌜ (r .level ≡ foundOf layout (now (scaled .entry)) (now (factors .entry)) .level)
-        × (r .pairs ≡ foundOf layout (now (scaled .entry)) (now (factors .entry)) .pairs)
-        × (now (factors .exit) ≡ foundOf layout (now (scaled .entry)) (now (factors .entry)) .factors) × (r .level ≤ 255)
+    ensures { λ r. ⌜ (r .level ≡ levelFound layout (now (scaled .entry)) (now (factors .entry)) .level)
+        × (r .pairs ≡ levelFound layout (now (scaled .entry)) (now (factors .entry)) .pairs)
+        × (now (factors .exit) ≡ levelFound layout (now (scaled .entry)) (now (factors .entry)) .factors) × (r .level ≤ 255)
         × (r .used ≡ levelBits layout (now (scaled .entry)) (now (factors .exit)) (r .level)) × (r .used ≤ 8 * frameSize layout)
         × AtMost 63 (now (factors .exit)) ⌝ }
 {

@@ -14,10 +14,11 @@ use Rattle.rules.specs.declared.Layout.{Layout}
 use Rattle.rules.specs.declared.StageAnswer.{StageAnswer}
 use Rattle.rules.specs.declared.StageAnswer.the-variants as stage
 use Rattle.rules.proofs.StageAnswer as Stage
-use Rattle.stage.specs.Delivery.{Sized, wipedBy, wiped}
+use Rattle.stage.specs.Delivery.{ExactBuffers, wipedBy, wiped}
 
 module _ (l : Layout) (sc : List Float) (co : List ℤ) (fa si fr : List ℕ) where
-  refused-cleared : (a : StageAnswer) → OneOf (1 ∷ 2 ∷ 3 ∷ 4 ∷ 5 ∷ 6 ∷ []) (tagOf Stage.the-type a) → wiped l (stageLeft a sc co fa si fr) ≡ cleared l (stageOutcome a)
+  refused-cleared : (a : StageAnswer) → OneOf (1 ∷ 2 ∷ 3 ∷ 4 ∷ 5 ∷ 6 ∷ []) (tagOf Stage.the-type a) → wiped l (stageLeft a sc co fa si fr)
+      ≡ cleared l (stageOutcome a)
   unfolding wiped wipedBy stageOutcome
   refused-cleared (stage.Delivered level boundary pairs bits) h = absurd (miss (1 ∷ 2 ∷ 3 ∷ 4 ∷ 5 ∷ 6 ∷ []) 0 tt h)
   refused-cleared stage.BadLayout h = refl
@@ -40,8 +41,9 @@ module _ (l : Layout) (sc : List Float) (co : List ℤ) (fa si fr : List ℕ) wh
 
   -- a refusal's buffers are zero
   pub wiped-cleared : (a : StageAnswer) (sc′ : List Float) (co′ : List ℤ) (fa′ si′ fr′ : List ℕ) → OneOf (1 ∷ 2 ∷ 3 ∷ 4 ∷ 5 ∷ 6 ∷ []) (tagOf Stage.the-type a)
-      → Sized l (length sc) (length co) (length fa) (length si) (length fr)
-      → sc′ ≡ replicate (length sc) zeroF → co′ ≡ replicate (length co) (pos 0) → fa′ ≡ replicate (length fa) 0 → si′ ≡ replicate (length si) 0 → fr′ ≡ replicate (length fr) 0
+      → ExactBuffers l (length sc) (length co) (length fa) (length si) (length fr)
+      → sc′ ≡ replicate (length sc) zeroF → co′ ≡ replicate (length co) (pos 0) → fa′ ≡ replicate (length fa) 0 → si′ ≡ replicate (length si) 0 → fr′
+      ≡ replicate (length fr) 0
       → stageLeft a sc′ co′ fa′ si′ fr′ ≡ wiped l (stageLeft a sc co fa si fr)
   wiped-cleared a sc′ co′ fa′ si′ fr′ h z p q s t u =
       rw (p, q, s, t, u, z .scaled, z .codes, z .factors, z .side, z .frame) (sym (refused-cleared a h))

@@ -8,7 +8,7 @@ use lib.IntN.{ℤ}
 use lib.Ieee.{Float}
 use lib.ListN.{length}
 use Rattle.rules.specs.Layout.{frameSize, spectrumLength, factorLength, sideLength}
-use Rattle.rules.specs.Level.{Found}
+use Rattle.rules.specs.Level.{LevelFound}
 use Rattle.rules.specs.Resolution.{allResolutions}
 use Rattle.rules.specs.Code.{allCodes}
 use Rattle.rules.specs.Record.{recOf}
@@ -20,7 +20,7 @@ use Rattle.rules.specs.Stage.{StageLeft, cleared}
 use Rattle.rules.specs.declared.Layout.{Layout}
 
 -- the lengths of what is written
-pub record Sized (l : Layout) (sc co fa si fr : ℕ) : Type 0 where
+pub record ExactBuffers (l : Layout) (sc co fa si fr : ℕ) : Type 0 where
   pub scaled : sc ≡ spectrumLength l
   pub codes : co ≡ spectrumLength l
   pub factors : fa ≡ factorLength l
@@ -41,5 +41,5 @@ wipedBy l (refused number beside) x = cleared l (refused number beside)
 unfoldable pub wiped : (l : Layout) (x : StageLeft) → StageLeft
 wiped l x = wipedBy l (x .outcome) x
 
-abbrev pub foundAs : (level pairs : ℕ) (factors : List ℕ) → Found
+abbrev pub foundAs : (level pairs : ℕ) (factors : List ℕ) → LevelFound
 foundAs level pairs factors = record { level = level; pairs = pairs; factors = factors }

@@ -6,7 +6,7 @@ pub mod run;
 pub mod parts;
 
 ghost use mathlib.Core.Path.{_≡_};
-ghost use Rattle.rules.specs.Stage.{stageLent, stageLeft, stage};
+ghost use Rattle.rules.specs.Stage.{stageLent, stageLeft, encodeFrame};
 use crate::parts::encode_parts;
 use rules::Layout;
 use rules::Room;
@@ -27,7 +27,7 @@ pub fn encode_frame(
     frame: &mut [u8],
 ) -> StageAnswer
     ensures { λ r. ⌜ stageLeft r (now (scaled .exit)) (now (codes .exit)) (now (factors .exit)) (now (side .exit)) (now (frame .exit))
-        ≡ stage layout (stageLent (now (spectra .entry)) (now (intensities .entry)) (now (scaled .entry)) (now (codes .entry)) (now (factors .entry))
+        ≡ encodeFrame layout (stageLent (now (spectra .entry)) (now (intensities .entry)) (now (scaled .entry)) (now (codes .entry)) (now (factors .entry))
         (now (side .entry)) (now (frame .entry))) ⌝ }
 {
     let stored = Room {

@@ -1,9 +1,9 @@
 // The stage behind its gate: of what is lent, the parts of the stated lengths. The stage and the stereo stage call it.
 ghost use mathlib.Core.Path.{_≡_};
 ghost use lib.ListN.{length, take};
-ghost use Rattle.rules.specs.Layout.{Sizes, spectrumLength, sideLength, roomOf};
-ghost use Rattle.rules.specs.Stage.{stageLent, stageLeft, stageRoom, made, settled, stageLaid};
-ghost use Rattle.stage_gate.specs.Gate.{Long};
+ghost use Rattle.rules.specs.Layout.{LegalLayout, spectrumLength, sideLength, roomOf};
+ghost use Rattle.rules.specs.Stage.{stageLent, stageLeft, stageRoomOf, analysis, afterLevel, stageOverwrite};
+ghost use Rattle.stage_gate.specs.Gate.{StageHasRoom};
 use crate::run::run_stage;
 use rules::Layout;
 use rules::StageAnswer;
@@ -19,13 +19,13 @@ pub fn encode_parts(
     side: &mut [u8],
     frame: &mut [u8],
 ) -> StageAnswer
-    requires { ⌜ Sizes layout ⌝ }
-    requires { ⌜ Long layout (stageRoom (length (now spectra)) (length (now intensities)) (length (now scaled))
+    requires { ⌜ LegalLayout layout ⌝ }
+    requires { ⌜ StageHasRoom layout (stageRoomOf (length (now spectra)) (length (now intensities)) (length (now scaled))
         (roomOf (length (now factors)) (length (now side)) (length (now codes)) (length (now frame)))) ⌝ }
     ensures { λ r. ⌜ stageLeft r (now (scaled .exit)) (now (codes .exit)) (now (factors .exit)) (now (side .exit)) (now (frame .exit))
-        ≡ stageLaid (stageLent (now (spectra .entry)) (now (intensities .entry)) (now (scaled .entry)) (now (codes .entry)) (now (factors .entry))
-        (now (side .entry)) (now (frame .entry))) (settled layout
-        (made layout (take (spectrumLength layout) (now (spectra .entry))) (take (sideLength layout) (now (intensities .entry))))) ⌝ }
+        ≡ stageOverwrite (stageLent (now (spectra .entry)) (now (intensities .entry)) (now (scaled .entry)) (now (codes .entry)) (now (factors .entry))
+        (now (side .entry)) (now (frame .entry))) (afterLevel layout
+        (analysis layout (take (spectrumLength layout) (now (spectra .entry))) (take (sideLength layout) (now (intensities .entry))))) ⌝ }
 {
     let n = layout.channels * 1024;
     let k = layout.channels * 8;

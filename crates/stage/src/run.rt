@@ -5,13 +5,13 @@ ghost use mathlib.Core.Path.{_≡_};
 ghost use lib.IntN.{pos};
 ghost use lib.ListN.{length, replicate};
 ghost use Rattle.floats.specs.Single.{zeroF};
-ghost use Rattle.rules.specs.Layout.{Sizes, spectrumLength, factorLength, sideLength};
+ghost use Rattle.rules.specs.Layout.{LegalLayout, spectrumLength, factorLength, sideLength};
 ghost use Rattle.rules.specs.Factor.{allFactors};
 ghost use Rattle.rules.specs.Scaling.{allScaled};
 ghost use Rattle.rules.specs.Hfr.{allSide};
-ghost use Rattle.rules.specs.Stage.{made, stageLeft, settled};
+ghost use Rattle.rules.specs.Stage.{analysis, stageLeft, afterLevel};
 ghost use Rattle.rules.specs.declared.Layout.{Layout};
-ghost use Rattle.stage.specs.Delivery.{Sized, wiped};
+ghost use Rattle.stage.specs.Delivery.{ExactBuffers, wiped};
 ghost use Rattle.stage.specs.Lengths.{StageLengths};
 use crate::run::delivery::level_to_frame;
 use buffers::clear_f32;
@@ -33,7 +33,7 @@ fn prepare(
     factors: &mut [u8],
     side: &mut [u8],
 )
-    requires { ⌜ Sizes layout ⌝ }
+    requires { ⌜ LegalLayout layout ⌝ }
     requires { ⌜ (length (now spectra) ≡ spectrumLength layout) × (length (now intensities) ≡ sideLength layout) ⌝ }
     requires { ⌜ (length (now scaled) ≡ spectrumLength layout) × (length (now factors) ≡ factorLength layout) × (length (now side) ≡ sideLength layout) ⌝ }
     ensures factored { λ _. ⌜ now (factors .exit) ≡ allFactors layout (now (spectra .entry)) ⌝ }
@@ -77,7 +77,7 @@ fn clear_refused(
     side: &mut [u8],
     frame: &mut [u8],
 )
-    ensures { λ _. ⌜ ((l : Layout) → Sized l (length (now (scaled .entry))) (length (now (codes .entry))) (length (now (factors .entry)))
+    ensures { λ _. ⌜ ((l : Layout) → ExactBuffers l (length (now (scaled .entry))) (length (now (codes .entry))) (length (now (factors .entry)))
         (length (now (side .entry))) (length (now (frame .entry)))
         → stageLeft answer (now (scaled .exit)) (now (codes .exit)) (now (factors .exit)) (now (side .exit)) (now (frame .exit))
         ≡ wiped l (stageLeft answer (now (scaled .entry)) (now (codes .entry)) (now (factors .entry)) (now (side .entry)) (now (frame .entry)))) ⌝ }
@@ -98,11 +98,11 @@ pub fn run_stage(
     side: &mut [u8],
     frame: &mut [u8],
 ) -> StageAnswer
-    requires { ⌜ Sizes layout ⌝ }
+    requires { ⌜ LegalLayout layout ⌝ }
     requires { ⌜ StageLengths layout (length (now spectra)) (length (now intensities)) (length (now scaled)) (length (now codes))
         (length (now factors)) (length (now side)) (length (now frame)) ⌝ }
     ensures { λ r. ⌜ stageLeft r (now (scaled .exit)) (now (codes .exit)) (now (factors .exit)) (now (side .exit)) (now (frame .exit))
-        ≡ settled layout (made layout (now (spectra .entry)) (now (intensities .entry))) ⌝ }
+        ≡ afterLevel layout (analysis layout (now (spectra .entry)) (now (intensities .entry))) ⌝ }
 {
     prepare(layout, spectra, intensities, scaled, factors, side);
     let answer = level_to_frame(layout, scaled, codes, factors, side, frame);

@@ -12,22 +12,23 @@ use lib.ListN.{take}
 use types.Run.{OneOf, miss}
 use denote.Enum.Declared.{tagOf}
 use Rattle.buffers.proofs.Tests.{and-fst, and-snd, not-true-false}
-use Rattle.rules.specs.Layout.{legalLayout, Sizes, spectrumLength, sideLength, hasRoom}
+use Rattle.rules.specs.Layout.{legalLayout, LegalLayout, spectrumLength, sideLength, hasRoom}
 use Rattle.rules.specs.Refusals.{Outcome, refused}
-use Rattle.rules.specs.Stage.{StageLent, StageLeft, lentRoom, stageHasRoom, gate, made, settled, gated, stage}
+use Rattle.rules.specs.Stage.{StageLent, StageLeft, stageRoom, stageHasRoom, gate, analysis, afterLevel, behindGate, encodeFrame}
 use Rattle.rules.specs.declared.Layout.{Layout}
 use Rattle.rules.specs.declared.StageRoom.{StageRoom}
 use Rattle.rules.proofs.Layouts.{legal-sizes, room-facts}
-use Rattle.stage_gate.specs.Gate.{Long, gateOutcome, judgedSpectra, BeforeSpectra}
+use Rattle.stage_gate.specs.Gate.{StageHasRoom, gateOutcome, judgedSpectra, BeforeSpectra}
 use Rattle.stage_gate.specs.declared.Gate.{Gate}
 use Rattle.stage_gate.specs.declared.Gate.the-variants.{Open, BadLayout, ShortBuffer, BadIntensity, BadSpectrum}
 use Rattle.stage_gate.proofs.Gate as G
 
-pub long-true : (l : Layout) (r : StageRoom) → spectrumLength l ≤ r .spectra → sideLength l ≤ r .intensities → spectrumLength l ≤ r .scaled → stageHasRoom l r ≡ hasRoom l (r .stored)
+pub long-true : (l : Layout) (r : StageRoom) → spectrumLength l ≤ r .spectra → sideLength l ≤ r .intensities → spectrumLength l ≤ r .scaled → stageHasRoom l r
+    ≡ hasRoom l (r .stored)
 unfolding stageHasRoom
 long-true l r a b c = rw (le-leb _ _ a, le-leb _ _ b, le-leb _ _ c)
 
-pub long-facts : (l : Layout) (r : StageRoom) → stageHasRoom l r ≡ true → Long l r
+pub long-facts : (l : Layout) (r : StageRoom) → stageHasRoom l r ≡ true → StageHasRoom l r
 unfolding stageHasRoom
 long-facts l r e₁ =
     let e₂ = and-snd (leb (spectrumLength l) (r .spectra)) _ e₁ in
@@ -39,7 +40,7 @@ long-facts l r e₁ =
       stored = room-facts l (r .stored) (and-snd (leb (spectrumLength l) (r .scaled)) _ e₃);
     }
 
-pub long-false : (l : Layout) (r : StageRoom) → (Long l r → ⊥) → stageHasRoom l r ≡ false
+pub long-false : (l : Layout) (r : StageRoom) → (StageHasRoom l r → ⊥) → stageHasRoom l r ≡ false
 long-false l r h = not-true-false (stageHasRoom l r) (λ e. h (long-facts l r e))
 
 -- an open gate says that the layout is legal and that there is room
@@ -51,7 +52,7 @@ open-by true true o p g e = (refl, refl)
 open-by true false o p g e = absurd (shut e)
 open-by false u o p g e = absurd (shut e)
 
-pub gate-open : (l : Layout) (r : StageRoom) (xs : List Float) (is : List ℕ) → gate l r xs is ≡ none → Sizes l × Long l r
+pub gate-open : (l : Layout) (r : StageRoom) (xs : List Float) (is : List ℕ) → gate l r xs is ≡ none → LegalLayout l × StageHasRoom l r
 unfolding gate
 gate-open l r xs is e = let b = open-by (legalLayout l) (stageHasRoom l r) _ _ _ e in (legal-sizes l (b .0), long-facts l r (b .1))
 
@@ -71,7 +72,8 @@ pub before-none : (l : Layout) (r : StageRoom) (xs : List Float) (is : List ℕ)
 before-none l r xs is o b e = ap (λ g. judgedSpectra g l xs) (sym e) ∙ b .rest xs
 
 -- an answer that is what its gate lets pass
-pub gate-lets : (l : Layout) (t : StageLent) (g : Gate) (x : StageLeft) → gateOutcome g ≡ gate l (lentRoom t) (t .spectra) (t .intensities)
-    → x ≡ gated (gateOutcome g) t (settled l (made l (take (spectrumLength l) (t .spectra)) (take (sideLength l) (t .intensities)))) → x ≡ stage l t
-unfolding stage
-gate-lets l t g x e h = h ∙ ap (λ o. gated o t (settled l (made l (take (spectrumLength l) (t .spectra)) (take (sideLength l) (t .intensities))))) e
+pub gate-lets : (l : Layout) (t : StageLent) (g : Gate) (x : StageLeft) → gateOutcome g ≡ gate l (stageRoom t) (t .spectra) (t .intensities)
+    → x ≡ behindGate (gateOutcome g) t (afterLevel l (analysis l (take (spectrumLength l) (t .spectra)) (take (sideLength l) (t .intensities)))) → x
+    ≡ encodeFrame l t
+unfolding encodeFrame
+gate-lets l t g x e h = h ∙ ap (λ o. behindGate o t (afterLevel l (analysis l (take (spectrumLength l) (t .spectra)) (take (sideLength l) (t .intensities))))) e

@@ -7,7 +7,7 @@ use Prim.Native.Nat.{ℕ, _≤_}
 use lib.Dec.{ltb}
 use lib.Ieee.{Float}
 use Rattle.buffers.specs.Walk.{first}
-use Rattle.rules.specs.Layout.{Sizes, spectrumLength, sideLength, Enough}
+use Rattle.rules.specs.Layout.{LegalLayout, spectrumLength, sideLength, HasRoom}
 use Rattle.rules.specs.Refusals.{Outcome, refused}
 use Rattle.rules.specs.Stage.{badSpectrum, gate}
 use Rattle.rules.specs.declared.Layout.{Layout}
@@ -23,11 +23,11 @@ gateOutcome (BadIntensity i) = some (refused 3 i)
 gateOutcome (BadSpectrum i) = some (refused 4 i)
 
 -- rules' `stageHasRoom` as facts
-pub record Long (l : Layout) (room : StageRoom) : Type 0 where
+pub record StageHasRoom (l : Layout) (room : StageRoom) : Type 0 where
   pub spectra : spectrumLength l ≤ room .spectra
   pub intensities : sideLength l ≤ room .intensities
   pub scaled : spectrumLength l ≤ room .scaled
-  pub stored : Enough l (room .stored)
+  pub stored : HasRoom l (room .stored)
 
 -- refusal 4, where none comes before it
 unfoldable pub judgedSpectra : (g : Option Outcome) (l : Layout) (spectra : List Float) → Option Outcome
@@ -39,4 +39,4 @@ judgedSpectra none l spectra =
 -- an outcome of 1 to 3: 4 behind it is the whole gate, whatever the spectra are
 pub record BeforeSpectra (l : Layout) (room : StageRoom) (intensities : List ℕ) (g : Option Outcome) : Type 0 where
   pub rest : (spectra : List Float) → judgedSpectra g l spectra ≡ gate l room spectra intensities
-  pub granted : g ≡ none → Sizes l × Long l room
+  pub granted : g ≡ none → LegalLayout l × StageHasRoom l room

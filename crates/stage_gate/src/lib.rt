@@ -4,7 +4,7 @@ ghost use Prim.Native.Nat.{_≤_};
 ghost use lib.Dec.{ltb};
 ghost use lib.ListN.{length};
 ghost use Rattle.buffers.specs.Walk.{first};
-ghost use Rattle.rules.specs.Layout.{Sizes};
+ghost use Rattle.rules.specs.Layout.{LegalLayout};
 ghost use Rattle.rules.specs.Stage.{stageHasRoom, badIntensity, badSpectrum, gate};
 ghost use Rattle.stage_gate.specs.Gate.{BeforeSpectra, gateOutcome};
 use floats::finite;
@@ -25,7 +25,7 @@ pub enum Gate {
 
 // A longer buffer is fine.
 fn enough(layout: Layout, room: StageRoom) -> bool
-    requires { ⌜ Sizes layout ⌝ }
+    requires { ⌜ LegalLayout layout ⌝ }
     ensures { λ r. ⌜ r ≡ stageHasRoom layout room ⌝ }
 {
     let n = layout.channels * 1024;

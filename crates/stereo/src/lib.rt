@@ -2,11 +2,11 @@
 ghost use mathlib.Core.Path.{_≡_};
 ghost use Prim.Native.Nat.{_≤_};
 ghost use lib.ListN.{length, take};
-ghost use Rattle.rules.specs.Layout.{Sizes, spectrumLength, sideLength, roomOf};
-ghost use Rattle.rules.specs.Stage.{stageLent, stageLeft, stageRoom};
+ghost use Rattle.rules.specs.Layout.{LegalLayout, spectrumLength, sideLength, roomOf};
+ghost use Rattle.rules.specs.Stage.{stageLent, stageLeft, stageRoomOf};
 ghost use Rattle.rules_stereo.specs.Mixed.{signal};
-ghost use Rattle.rules_stereo.specs.Stereo.{stereoLeft, withSignal, mixedFront, signalLaid, stereoRun, stereo};
-ghost use Rattle.stage_gate.specs.Gate.{Long};
+ghost use Rattle.rules_stereo.specs.Stereo.{stereoLeft, withSignal, mixedFront, signalOverwrite, stereoRun, encodeStereoFrame};
+ghost use Rattle.stage_gate.specs.Gate.{StageHasRoom};
 use rules::Layout;
 use rules::Room;
 use rules::StageAnswer;
@@ -19,10 +19,10 @@ use stereo_mixing::encode_intensity_stereo;
 
 // The parts of the stated lengths are mixed, and the rest stays untouched.
 fn mix_parts(layout: Layout, spectra: &mut [f32], intensities: &mut [u8])
-    requires { ⌜ Sizes layout ⌝ }
+    requires { ⌜ LegalLayout layout ⌝ }
     requires { ⌜ (spectrumLength layout ≤ length (now spectra)) × (sideLength layout ≤ length (now intensities)) ⌝ }
     ensures whole { λ _. ⌜ signal (now (spectra .exit)) (now (intensities .exit))
-        ≡ signalLaid (mixedFront layout (signal (now (spectra .entry)) (now (intensities .entry))))
+        ≡ signalOverwrite (mixedFront layout (signal (now (spectra .entry)) (now (intensities .entry))))
         (signal (now (spectra .entry)) (now (intensities .entry))) ⌝ }
     ensures front { λ _. ⌜ signal (take (spectrumLength layout) (now (spectra .exit))) (take (sideLength layout) (now (intensities .exit)))
         ≡ mixedFront layout (signal (now (spectra .entry)) (now (intensities .entry))) ⌝ }
@@ -43,8 +43,8 @@ fn encode_mixed(
     side: &mut [u8],
     frame: &mut [u8],
 ) -> StageAnswer
-    requires { ⌜ Sizes layout ⌝ }
-    requires { ⌜ Long layout (stageRoom (length (now spectra)) (length (now intensities)) (length (now scaled))
+    requires { ⌜ LegalLayout layout ⌝ }
+    requires { ⌜ StageHasRoom layout (stageRoomOf (length (now spectra)) (length (now intensities)) (length (now scaled))
         (roomOf (length (now factors)) (length (now side)) (length (now codes)) (length (now frame)))) ⌝ }
     ensures { λ r. ⌜ withSignal (signal (now (spectra .exit)) (now (intensities .exit)))
         (stageLeft r (now (scaled .exit)) (now (codes .exit)) (now (factors .exit)) (now (side .exit)) (now (frame .exit)))
@@ -77,8 +77,8 @@ pub fn encode_stereo_frame(
 ) -> StereoAnswer
     ensures { λ r. ⌜ stereoLeft r (now (spectra .exit)) (now (intensities .exit)) (now (scaled .exit)) (now (codes .exit)) (now (factors .exit))
         (now (side .exit)) (now (frame .exit))
-        ≡ stereo layout (stageLent (now (spectra .entry)) (now (intensities .entry)) (now (scaled .entry)) (now (codes .entry)) (now (factors .entry))
-        (now (side .entry)) (now (frame .entry))) ⌝ }
+        ≡ encodeStereoFrame layout (stageLent (now (spectra .entry)) (now (intensities .entry)) (now (scaled .entry)) (now (codes .entry))
+        (now (factors .entry)) (now (side .entry)) (now (frame .entry))) ⌝ }
 {
     let stored = Room {
         factors: factors.len(),

@@ -11,14 +11,15 @@ use lib.Ieee.{Float, nan, inf, fin, binary32, ofBits, up, down, lt, le}
 use lib.Ieee.Scale.{finite}
 use lib.ListN.{length, getD}
 use Rattle.floats.specs.Single.{absF, zeroF}
-use Rattle.rules.specs.Layout.{Sizes, spectrumLength}
+use Rattle.rules.specs.Layout.{LegalLayout, spectrumLength}
 use Rattle.rules.specs.Stage.{badSpectrum}
 use Rattle.rules_stereo.specs.Mixed.{Signal, energiesAt, combinedOf, storedOf, ratioOf, subframesMixed, pairAt, pairedAt, channelsMixed, mixed}
 use Rattle.rules.specs.declared.Layout.{Layout}
 use Rattle.rules_stereo.specs.declared.Energies.{Energies}
 use Rattle.stereo_demands.proofs.UpTo.{UpTo, wider, within-at-most, at-most-within}
 use Rattle.stereo_demands.proofs.Ratio.{NoNan, Fine, combined-within, stored-number, ratio-within}
-use Rattle.stereo_demands.proofs.Quiet.{limit, half, QuietFrom, has-next, pair-length, pair-ahead, subframes-length, subframes-ahead, at-fine, channels-ahead}
+use Rattle.stereo_demands.proofs.Quiet.{limit, half, QuietFrom, has-next, pair-length, pair-ahead, subframes-length, subframes-ahead, at-fine}
+use Rattle.stereo_demands.proofs.Quiet.{channels-ahead}
 
 -- |x| is at most the float with this pattern: so x is neither a NaN nor an infinity
 abbrev pub MagnitudeAtMost : (bits : ℕ) (x : Float) → Type 0
@@ -66,12 +67,13 @@ finite-energies e f = record {
 abbrev pub energiesThen : (l : Layout) (c s : ℕ) (t : Signal) → Energies
 energiesThen l c s t = energiesAt l s (subframesMixed l s (pairAt c (channelsMixed l c t)) .spectra)
 
-module _ (l : Layout) (t : Signal) (sizes : Sizes l) (e : length (t .spectra) ≡ spectrumLength l)
+module _ (l : Layout) (t : Signal) (sizes : LegalLayout l) (e : length (t .spectra) ≡ spectrumLength l)
     (quiet : (i : ℕ) → i < spectrumLength l → MagnitudeAtMost 0x47800000 (getD (t .spectra) i nan)) where
   start : QuietFrom 0 (t .spectra)
   unfolding ofBits
   start =
-      let small : (i : ℕ) → i < length (t .spectra) → UpTo limit (getD (t .spectra) i nan) = λ i h. at-most-within 16 (getD (t .spectra) i nan) (quiet i (omega (arith, e))) in
+      let small : (i : ℕ) → i < length (t .spectra) → UpTo limit (getD (t .spectra) i nan) =
+      λ i h. at-most-within 16 (getD (t .spectra) i nan) (quiet i (omega (arith, e))) in
       record { all = λ i h. wider limit (2 * limit) (getD (t .spectra) i nan) (leb→le _ _ tt) (small i h); rest = λ i p h. small i h }
 
   all-mixed : (length (mixed l t .spectra) ≡ spectrumLength l) × ((i : ℕ) → i < spectrumLength l → UpTo (2 ^ 17) (getD (mixed l t .spectra) i nan))

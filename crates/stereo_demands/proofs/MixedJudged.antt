@@ -14,7 +14,8 @@ use Rattle.buffers.specs.Walk.{firstFrom}
 use Rattle.floats.specs.Single.{zeroF}
 use Rattle.rules.specs.Layout.{sideLength, secondaryAt}
 use Rattle.rules.specs.Stage.{badIntensity}
-use Rattle.rules_stereo.specs.Mixed.{Signal, combinedOf, storedOf, boundOf, intensityOf, subframeMixed, subframesMixed, pairAt, pairMixed, pairedAt, channelMixed, channelsMixed, mixed}
+use Rattle.rules_stereo.specs.Mixed.{Signal, combinedOf, storedOf, boundOf, intensityOf, subframeMixed, subframesMixed, pairAt, pairMixed, pairedAt}
+use Rattle.rules_stereo.specs.Mixed.{channelMixed, channelsMixed, mixed}
 use Rattle.rules.specs.declared.Layout.{Layout}
 use Rattle.rules_stereo.specs.declared.Energies.{Energies}
 use Rattle.stereo_demands.proofs.PutBack.{set-keeps, put-back-length, put-back-at}
@@ -79,7 +80,8 @@ module _ (l : Layout) where
           put-back-at 0 ((c + 1) * 8) 8 after (t .intensities) eight-fits after-length P i (λ p. h)
           (λ j ej p.
           subframes-keep 8 (pairAt c t) j
-          (subst P (sym (getD-take 8 (drop ((c + 1) * 8) (t .intensities)) j 0 p ∙ getD-drop ((c + 1) * 8) (t .intensities) j 0 ∙ ap (λ (k : ℕ). getD (t .intensities) k 0) (sym ej))) h))
+          (subst P (sym (getD-take 8 (drop ((c + 1) * 8) (t .intensities)) j 0 p ∙ getD-drop ((c + 1) * 8) (t .intensities) j 0
+          ∙ ap (λ (k : ℕ). getD (t .intensities) k 0) (sym ej))) h))
           (λ p. h)
 
     channel-keeps : (c : ℕ) (t : Signal) → length (t .intensities) ≡ sideLength l
@@ -88,12 +90,14 @@ module _ (l : Layout) where
     channel-keeps c t e = go (pairedAt l c) (has-next l c)
       where
         go : (b : Bool) → (T b → c + 1 < l .channels)
-            → (length (cond b (pairMixed l c t) t .intensities) ≡ sideLength l) × ((i : ℕ) → P (getD (t .intensities) i 0) → P (getD (cond b (pairMixed l c t) t .intensities) i 0))
+            → (length (cond b (pairMixed l c t) t .intensities) ≡ sideLength l)
+            × ((i : ℕ) → P (getD (t .intensities) i 0) → P (getD (cond b (pairMixed l c t) t .intensities) i 0))
         go true f = (paired-side c t e (f tt) ∙ e, λ i h. paired-keeps c t e (f tt) i h)
         go false f = (e, λ i h. h)
 
     channels-keep : (n : ℕ) (t : Signal) → length (t .intensities) ≡ sideLength l
-        → (length (channelsMixed l n t .intensities) ≡ sideLength l) × ((i : ℕ) → P (getD (t .intensities) i 0) → P (getD (channelsMixed l n t .intensities) i 0))
+        → (length (channelsMixed l n t .intensities) ≡ sideLength l)
+        × ((i : ℕ) → P (getD (t .intensities) i 0) → P (getD (channelsMixed l n t .intensities) i 0))
     unfolding channelsMixed
     channels-keep zero t e = (e, λ i h. h)
     channels-keep (suc n) t e =
@@ -115,7 +119,8 @@ pub mixed-side : (l : Layout) (t : Signal) → length (t .intensities) ≡ sideL
 mixed-side l t e = mixed-keeps l (λ _. Unit {0}) (λ _ _. tt) t e .0
 
 -- refusal 3: what was not bad as lent is not bad as mixed
-pub mixed-judged : (l : Layout) (t : Signal) → length (t .intensities) ≡ sideLength l → (i : ℕ) → badIntensity l (t .intensities) i ≡ false → badIntensity l (mixed l t .intensities) i ≡ false
+pub mixed-judged : (l : Layout) (t : Signal) → length (t .intensities) ≡ sideLength l → (i : ℕ) → badIntensity l (t .intensities) i ≡ false
+    → badIntensity l (mixed l t .intensities) i ≡ false
 unfolding badIntensity
 mixed-judged l t e i h = mixed-keeps l (λ v. ltb 15 v && secondaryAt l (i / 8) ≡ false) small t e .1 i h
   where

@@ -12,7 +12,7 @@ use lib.Ieee.{Float, nan, binary32, mul}
 use lib.ListN.{length, getD, set, drop, length-set, length-drop}
 use lib.Seq.{getD-set-same, getD-set-other, getD-take, getD-drop, length-take-le}
 use Rattle.floats.specs.Single.{zeroF}
-use Rattle.rules.specs.Layout.{Sizes, spectrumLength, sideLength}
+use Rattle.rules.specs.Layout.{LegalLayout, spectrumLength, sideLength}
 use Rattle.rules.specs.declared.Layout.{Layout}
 use Rattle.rules.proofs.Cuts.{by-order}
 use Rattle.rules_demands.proofs.FoundLevel.{not-both}
@@ -80,7 +80,7 @@ bands-made ratio at (suc n) xs j h e g =
     (λ ge. let q : j ≡ n = omega arith in
     rw q (getD-set-same (set ys (at + n) v) (1024 + (at + n)) zeroF nan (omega (arith, long))))
 
-module _ (l : Layout) (sizes : Sizes l) where
+module _ (l : Layout) (sizes : LegalLayout l) where
   subframes-made : (n : ℕ) (p : Signal) (s b : ℕ) → n ≤ 8 → length (p .spectra) ≡ 2048 → s < n → l .base ≤ b → b < l .total
       → getD (subframesMixed l n p .spectra) (1024 + (s * 128 + b)) nan ≡ zeroF
   unfolding subframesMixed subframeMixed
@@ -97,7 +97,7 @@ module _ (l : Layout) (sizes : Sizes l) where
 
 -- ---- all channels
 
-module _ (l : Layout) (sizes : Sizes l) (c : ℕ) (t : Signal) (e : length (t .spectra) ≡ spectrumLength l) (q : c + 1 < l .channels) where
+module _ (l : Layout) (sizes : LegalLayout l) (c : ℕ) (t : Signal) (e : length (t .spectra) ≡ spectrumLength l) (q : c + 1 < l .channels) where
   abbrev both : List Float
   both = subframesMixed l 8 (pairAt c t) .spectra
 
@@ -127,7 +127,7 @@ module _ (l : Layout) (sizes : Sizes l) (c : ℕ) (t : Signal) (e : length (t .s
       rw z (subframes-made l sizes 8 (pairAt c t) s b (omega arith) (pair-length l sizes c t e q) h lo hi))
       (λ ge. absurd (omega (arith, sizes .bands)))
 
-module _ (l : Layout) (sizes : Sizes l) where
+module _ (l : Layout) (sizes : LegalLayout l) where
   -- channel c is mixed where it is paired
   by-paired : (P : Signal → Type 0) (c : ℕ) (t : Signal) → (pairedAt l c ≡ true → P (pairMixed l c t)) → (pairedAt l c ≡ false → P t) → P (channelMixed l c t)
   unfolding channelMixed

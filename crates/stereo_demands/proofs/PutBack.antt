@@ -40,4 +40,5 @@ module _ {A : Type 0} (z : A) (at n : ℕ) (new old : List A) (h : at + n ≤ le
           (λ p. let k = j - n in let ek : j ≡ length new + k = omega (arith, e) in
           let eo : at + (n + k) ≡ i = omega (arith, e) in
           subst (λ (m : ℕ). P (getD (new ++ drop n (drop at old)) m z)) (sym ek)
-          (subst P (sym (getD-append-add new (drop n (drop at old)) k z ∙ getD-drop n (drop at old) k z ∙ getD-drop at old (n + k) z ∙ ap (λ (m : ℕ). getD old m z) eo)) (after (omega arith))))
+          (subst P (sym (getD-append-add new (drop n (drop at old)) k z ∙ getD-drop n (drop at old) k z ∙ getD-drop at old (n + k) z
+          ∙ ap (λ (m : ℕ). getD old m z) eo)) (after (omega arith))))

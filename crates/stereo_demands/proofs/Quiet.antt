@@ -11,8 +11,9 @@ use lib.Ieee.Fits.{and-r}
 use lib.ListN.{length, getD, set, drop, length-set, length-drop}
 use lib.Seq.{getD-set-other, getD-take, getD-drop, length-take-le}
 use Rattle.floats.specs.Single.{zeroF}
-use Rattle.rules.specs.Layout.{Sizes, spectrumLength, kindAt}
-use Rattle.rules_stereo.specs.Mixed.{Signal, twoF, leftValue, rightValue, bothValues, loudness, energies, energiesAt, ratioOf, bandMixed, bandsMixed, subframeMixed, subframesMixed, putBack, pairAt, pairMixed, isPrimary, pairedAt, channelMixed, channelsMixed}
+use Rattle.rules.specs.Layout.{LegalLayout, spectrumLength, kindAt}
+use Rattle.rules_stereo.specs.Mixed.{Signal, twoF, leftValue, rightValue, bothValues, loudness, energies, energiesAt, ratioOf, bandMixed, bandsMixed}
+use Rattle.rules_stereo.specs.Mixed.{subframeMixed, subframesMixed, putBack, pairAt, pairMixed, isPrimary, pairedAt, channelMixed, channelsMixed}
 use Rattle.rules.specs.declared.Layout.{Layout}
 use Rattle.stereo_demands.proofs.PutBack.{set-keeps, put-back-length, put-back-at}
 use Rattle.stereo_demands.proofs.UpTo.{UpTo, wider, whole-small, whole-double, add-within, mul-within}
@@ -41,7 +42,8 @@ bands-length ratio at (suc n) xs = band-length ratio (at + n) (bandsMixed ratio 
 
 module _ (k : ℕ) (xs : List Float) (small : k < 1024) (e : length xs ≡ 2048) (a : QuietFrom k xs) where
   pub both-within : UpTo (2 * limit) (bothValues xs k)
-  both-within = add-within limit limit (leftValue xs k) (rightValue xs k) (whole-small (2 * limit) (leb→le _ _ tt)) (a .rest k (omega arith) (omega arith)) (a .rest (1024 + k) (omega arith) (omega arith))
+  both-within = add-within limit limit (leftValue xs k) (rightValue xs k) (whole-small (2 * limit) (leb→le _ _ tt)) (a .rest k (omega arith) (omega arith))
+      (a .rest (1024 + k) (omega arith) (omega arith))
 
   module _ (ratio : Float) (r : UpTo 1 ratio) where
     mixed-within : UpTo (2 * limit) (mul binary32 (bothValues xs k) ratio)
@@ -50,13 +52,16 @@ module _ (k : ℕ) (xs : List Float) (small : k < 1024) (e : length xs ≡ 2048)
     band-ahead : QuietFrom (suc k) (bandMixed ratio k xs)
     unfolding bandMixed
     band-ahead = record {
-      all = λ i h. set-keeps nan (UpTo (2 * limit)) (set xs k (mul binary32 (bothValues xs k) ratio)) (1024 + k) i zeroF zero-le (set-keeps nan (UpTo (2 * limit)) xs k i (mul binary32 (bothValues xs k) ratio) mixed-within (a .all i (simp length-set at h)));
+      all = λ i h. set-keeps nan (UpTo (2 * limit)) (set xs k (mul binary32 (bothValues xs k) ratio)) (1024 + k) i zeroF zero-le
+          (set-keeps nan (UpTo (2 * limit)) xs k i (mul binary32 (bothValues xs k) ratio) mixed-within (a .all i (simp length-set at h)));
       rest = λ i p h.
           set-keeps nan (UpTo limit) (set xs k (mul binary32 (bothValues xs k) ratio)) (1024 + k) i zeroF zero-le
-          (subst (UpTo limit) (sym (getD-set-other xs k i (mul binary32 (bothValues xs k) ratio) nan (λ q. omega arith))) (a .rest i (omega arith) (simp length-set at h)));
+          (subst (UpTo limit) (sym (getD-set-other xs k i (mul binary32 (bothValues xs k) ratio) nan (λ q. omega arith)))
+          (a .rest i (omega arith) (simp length-set at h)));
     }
 
-pub bands-ahead : (ratio : Float) (at n : ℕ) (xs : List Float) → at + n ≤ 1024 → length xs ≡ 2048 → UpTo 1 ratio → QuietFrom at xs → QuietFrom (at + n) (bandsMixed ratio at n xs)
+pub bands-ahead : (ratio : Float) (at n : ℕ) (xs : List Float) → at + n ≤ 1024 → length xs ≡ 2048 → UpTo 1 ratio → QuietFrom at xs
+    → QuietFrom (at + n) (bandsMixed ratio at n xs)
 unfolding bandsMixed
 bands-ahead ratio at zero xs h e r a = later at (at + 0) xs (omega arith) a
 bands-ahead ratio at (suc n) xs h e r a =
@@ -76,7 +81,8 @@ module _ (xs : List Float) (at n : ℕ) (few : n ≤ 128) (h : at + n ≤ 1024) 
   loud-right : UpTo half (loudness (λ b. rightValue xs (at + b)) n)
   loud-right =
       let f : ℕ → Float = λ b. rightValue xs (at + b) in
-      wider (n * limit) half (loudness f n) (omega arith) (loudness-within f limit n (omega arith) (λ b p. a .rest (1024 + (at + b)) (omega arith) (omega arith)))
+      wider (n * limit) half (loudness f n) (omega arith)
+      (loudness-within f limit n (omega arith) (λ b p. a .rest (1024 + (at + b)) (omega arith) (omega arith)))
 
   loud-both : UpTo (2 ^ 24) (loudness (λ b. bothValues xs (at + b)) n)
   loud-both =
@@ -96,7 +102,7 @@ module _ (xs : List Float) (at n : ℕ) (few : n ≤ 128) (h : at + n ≤ 1024) 
   energies-ratio = ratio-within half (energies xs at n) (leb→le _ _ tt) energies-fine
 
 -- ---- a pair's subframes
-module _ (l : Layout) (sizes : Sizes l) where
+module _ (l : Layout) (sizes : LegalLayout l) where
   -- a subframe's bands lie in its 128
   subframe-fits : (s : ℕ) → s < 8 → s * 128 + l .base + (l .total - l .base) ≤ s * 128 + 128
   subframe-fits s h = omega (arith, sizes .start, sizes .bands)
@@ -120,20 +126,23 @@ module _ (l : Layout) (sizes : Sizes l) where
     at-ratio : UpTo 1 (ratioOf (energiesAt l s xs))
     at-ratio = ratio-within half (energiesAt l s xs) (leb→le _ _ tt) at-fine
 
-  subframe-ahead : (s : ℕ) (p : Signal) → s < 8 → length (p .spectra) ≡ 2048 → QuietFrom (s * 128) (p .spectra) → QuietFrom (suc s * 128) (subframeMixed l s p .spectra)
+  subframe-ahead : (s : ℕ) (p : Signal) → s < 8 → length (p .spectra) ≡ 2048 → QuietFrom (s * 128) (p .spectra)
+      → QuietFrom (suc s * 128) (subframeMixed l s p .spectra)
   unfolding subframeMixed
   subframe-ahead s p h e a =
       later (s * 128 + l .base + (l .total - l .base)) (suc s * 128) _ (omega (arith, subframe-fits s h, suc-mul s 128))
-      (bands-ahead (ratioOf (energiesAt l s (p .spectra))) (s * 128 + l .base) (l .total - l .base) (p .spectra) (omega (arith, subframe-fits s h)) e (at-ratio s h (p .spectra) e a)
+      (bands-ahead (ratioOf (energiesAt l s (p .spectra))) (s * 128 + l .base) (l .total - l .base) (p .spectra) (omega (arith, subframe-fits s h)) e
+      (at-ratio s h (p .spectra) e a)
       (later (s * 128) (s * 128 + l .base) (p .spectra) (omega arith) a))
 
-  pub subframes-ahead : (n : ℕ) (p : Signal) → n ≤ 8 → length (p .spectra) ≡ 2048 → QuietFrom 0 (p .spectra) → QuietFrom (n * 128) (subframesMixed l n p .spectra)
+  pub subframes-ahead : (n : ℕ) (p : Signal) → n ≤ 8 → length (p .spectra) ≡ 2048 → QuietFrom 0 (p .spectra)
+      → QuietFrom (n * 128) (subframesMixed l n p .spectra)
   unfolding subframesMixed
   subframes-ahead zero p h e a = later 0 (0 * 128) (p .spectra) zero-le a
   subframes-ahead (suc n) p h e a = subframe-ahead n (subframesMixed l n p) (omega arith) (subframes-length n p ∙ e) (subframes-ahead n p (omega arith) e a)
 
 -- ---- channels
-module _ (l : Layout) (sizes : Sizes l) (c : ℕ) (t : Signal) (e : length (t .spectra) ≡ spectrumLength l) (q : c + 1 < l .channels) where
+module _ (l : Layout) (sizes : LegalLayout l) (c : ℕ) (t : Signal) (e : length (t .spectra) ≡ spectrumLength l) (q : c + 1 < l .channels) where
   pub pair-fits : c * 1024 + 2048 ≤ length (t .spectra)
   pair-fits = omega (arith, e, mul-le-mul-right 1024 (le-two q))
     where
@@ -187,7 +196,7 @@ pub has-next : (l : Layout) (c : ℕ) → T (pairedAt l c) → c + 1 < l .channe
 unfolding pairedAt
 has-next l c h = ltb→lt (c + 1) (l .channels) (and-r (isPrimary (kindAt l c)) (ltb (c + 1) (l .channels)) h)
 
-module _ (l : Layout) (sizes : Sizes l) where
+module _ (l : Layout) (sizes : LegalLayout l) where
   channel-ahead : (c : ℕ) (t : Signal) → length (t .spectra) ≡ spectrumLength l → QuietFrom (c * 1024) (t .spectra)
       → (length (channelMixed l c t .spectra) ≡ spectrumLength l) × QuietFrom (suc c * 1024) (channelMixed l c t .spectra)
   unfolding channelMixed

@@ -121,13 +121,15 @@ module _ (n : ℕ) (e : Energies) (h : n + n ≤ 2 ^ 24) (fine : Fine n e) where
   pub stored-number : le (combinedOf e) zeroF ≡ false → NoNan (storedOf e)
   unfolding storedOf
   stored-number p =
-      div-number (2 * n) (mul binary32 twoF (e .left)) (combinedOf e) (mul-within 2 n twoF (e .left) (whole-small (2 * n) (omega arith)) (leb→le 2 2 tt) (fine .left))
+      div-number (2 * n) (mul binary32 twoF (e .left)) (combinedOf e)
+      (mul-within 2 n twoF (e .left) (whole-small (2 * n) (omega arith)) (leb→le 2 2 tt) (fine .left))
       (not-zero-some (n + n) (combinedOf e) combined-within p)
 
   pub ratio-within : UpTo 1 (ratioOf e)
   unfolding ratioOf
   ratio-within =
-      go (le (combinedOf e) zeroF) (lt zeroF (e .total)) (λ p. ratio-held _ (div-number (n + n) (combinedOf e) (e .total) combined-within (above-some (2 ^ 25) (e .total) (fine .total) p)))
+      go (le (combinedOf e) zeroF) (lt zeroF (e .total))
+      (λ p. ratio-held _ (div-number (n + n) (combinedOf e) (e .total) combined-within (above-some (2 ^ 25) (e .total) (fine .total) p)))
     where
       go : (a b : Bool) → (b ≡ true → UpTo 1 (heldF lowRatio highRatio (div binary32 (combinedOf e) (e .total))))
           → UpTo 1 (cond a oneF (cond b (heldF lowRatio highRatio (div binary32 (combinedOf e) (e .total))) oneF))

@@ -8,38 +8,39 @@ use lib.ListN.{take}
 use Rattle.rules.specs.Layout.{frameSize}
 use Rattle.rules.specs.Record.{recOf, CodesInRange}
 use Rattle.rules.specs.Refusals.{delivered, refused}
-use Rattle.rules.specs.Stage.{StageLent, stage}
-use Rattle.rules.specs.Reader.{ReaderLent, readerRoom, read}
+use Rattle.rules.specs.Stage.{StageLent, encodeFrame}
+use Rattle.rules.specs.Reader.{ReaderLent, readerHasRoom, readFrame}
 use Rattle.rules.specs.declared.Layout.{Layout}
 use Rattle.rules.proofs.Answers.{never}
-use Rattle.rules_demands.proofs.Calls.{handed, Packed}
+use Rattle.rules_demands.proofs.Calls.{handed, FrameOf}
 use Rattle.rules_demands.proofs.StageCalls.{stage-packed, stage-read}
-use Rattle.rules_stereo.specs.Stereo.{StereoLeft, withSignal, lentSignal, stereo}
+use Rattle.rules_stereo.specs.Stereo.{StereoLeft, withSignal, lentSignal, encodeStereoFrame}
 use Rattle.stereo_demands.proofs.StereoIsStage.{mixedLent, StereoGood, stereo-case, stereo-is-stage}
 
 -- a delivery says that nothing was refused
-pub stereo-delivers : (l : Layout) (t : StageLent) (ns : List ℕ) → stereo l t .outcome ≡ delivered ns → StereoGood l t
+pub stereo-delivers : (l : Layout) (t : StageLent) (ns : List ℕ) → encodeStereoFrame l t .outcome ≡ delivered ns → StereoGood l t
 stereo-delivers l t ns =
     stereo-case l t (λ x. x .outcome ≡ delivered ns → StereoGood l t) (λ n k _ _ e. never (sym e)) (λ _ _ e. never (sym e)) (λ h _. h)
 
-module _ (l : Layout) (t : StageLent) (level boundary pairs n : ℕ) (e : stereo l t .outcome ≡ delivered (level ∷ boundary ∷ pairs ∷ n ∷ [])) where
-  left : stereo l t ≡ withSignal (lentSignal (mixedLent l t)) (stage l (mixedLent l t))
+module _ (l : Layout) (t : StageLent) (level boundary pairs n : ℕ) (e : encodeStereoFrame l t .outcome ≡ delivered (level ∷ boundary ∷ pairs ∷ n ∷ [])) where
+  left : encodeStereoFrame l t ≡ withSignal (lentSignal (mixedLent l t)) (encodeFrame l (mixedLent l t))
   left = stereo-is-stage l t (stereo-delivers l t (level ∷ boundary ∷ pairs ∷ n ∷ []) e)
 
-  staged : stage l (mixedLent l t) .outcome ≡ delivered (level ∷ boundary ∷ pairs ∷ n ∷ [])
+  staged : encodeFrame l (mixedLent l t) .outcome ≡ delivered (level ∷ boundary ∷ pairs ∷ n ∷ [])
   staged = ap (λ (x : StereoLeft). x .outcome) (sym left) ∙ e
 
   -- Unconditionally: the frame is that of the record that the call left, every field of it, n bits in all.
-  pub stereo-packed : Packed l (recOf l level boundary (stereo l t .factors) (stereo l t .side) (stereo l t .codes)) n (take (frameSize l) (stereo l t .frame))
+  pub stereo-packed : FrameOf l (recOf l level boundary (encodeStereoFrame l t .factors) (encodeStereoFrame l t .side) (encodeStereoFrame l t .codes)) n
+      (take (frameSize l) (encodeStereoFrame l t .frame))
   stereo-packed =
-      subst (λ (x : StereoLeft). Packed l (recOf l level boundary (x .factors) (x .side) (x .codes)) n (take (frameSize l) (x .frame))) (sym left)
+      subst (λ (x : StereoLeft). FrameOf l (recOf l level boundary (x .factors) (x .side) (x .codes)) n (take (frameSize l) (x .frame))) (sym left)
       (stage-packed l (mixedLent l t) level boundary pairs n staged)
 
   -- Where each code is in its range, the strict reader, lent this frame, hands exactly this record back.
   abbrev ReadBack : ReaderLent → StereoLeft → Type 0
   ReadBack u x =
-      CodesInRange l level boundary (x .factors) (x .codes) → readerRoom l u ≡ true → take (frameSize l) (u .frame) ≡ take (frameSize l) (x .frame)
-      → read l u ≡ handed l u (level ∷ boundary ∷ n ∷ []) (x .factors) (x .side) (x .codes)
+      CodesInRange l level boundary (x .factors) (x .codes) → readerHasRoom l u ≡ true → take (frameSize l) (u .frame) ≡ take (frameSize l) (x .frame)
+      → readFrame l u ≡ handed l u (level ∷ boundary ∷ n ∷ []) (x .factors) (x .side) (x .codes)
 
-  pub stereo-read : (u : ReaderLent) → ReadBack u (stereo l t)
+  pub stereo-read : (u : ReaderLent) → ReadBack u (encodeStereoFrame l t)
   stereo-read u = subst (ReadBack u) (sym left) (λ range room q. stage-read l (mixedLent l t) level boundary pairs n staged range u room q)

@@ -10,14 +10,14 @@ use borrow.Author.Tests.{le-ltb, lt-ltb}
 use types.Run.{OneOf}
 use Rattle.rules.specs.Layout.{spectrumLength}
 use Rattle.rules.specs.Refusals.{delivered, refused}
-use Rattle.rules.specs.Stage.{StageLent, StageLeft, gate, stage}
+use Rattle.rules.specs.Stage.{StageLent, StageLeft, gate, encodeFrame}
 use Rattle.rules.specs.declared.Layout.{Layout}
 use Rattle.rules.proofs.Answers.{Numbered, numbered, stageNumbers}
 use Rattle.rules.proofs.Cuts.{by-order}
 use Rattle.rules_demands.proofs.FoundLevel.{not-both}
 use Rattle.rules_demands.proofs.StageAnswers.{stage-numbers}
 use Rattle.rules_demands.proofs.Exactly.{first-at, first-passed, besideOf, differ, Good, good-passes, good-late}
-use Rattle.rules_stereo.specs.Stereo.{StereoLeft, tooLoud, judgedLoud, stereoGate, stereoRun, stereoGated, stereo}
+use Rattle.rules_stereo.specs.Stereo.{StereoLeft, tooLoud, judgedLoud, stereoGate, stereoRun, stereoBehindGate, encodeStereoFrame}
 use Rattle.stereo_demands.proofs.StereoIsStage.{mixedLent, loudBy, StereoGood, mixed-good, run-is-stage, stereo-case, stereo-is-stage}
 use Rattle.stereo_demands.proofs.StereoAnswers.{stereoNumbers, not-stage}
 use Rattle.stereo_demands.proofs.StereoCalls.{stereo-delivers}
@@ -36,30 +36,30 @@ of-stage n (inr (inr (inr (inr x)))) = inr (inr (inr (inr (inr x))))
 
 module _ (l : Layout) (t : StageLent) where
   -- behind its gate it answers as the stage does on what was mixed
-  run-answers : StereoGood l t → stereoRun l t .outcome ≡ stage l (mixedLent l t) .outcome
+  run-answers : StereoGood l t → stereoRun l t .outcome ≡ encodeFrame l (mixedLent l t) .outcome
   run-answers h = ap (λ (x : StereoLeft). x .outcome) (run-is-stage l t h)
 
   -- 1 TO 4: exactly where the stage gives them on the spectra and intensities as lent, with the same number beside them.
-  pub stereo-early-exactly : (n k : ℕ) → n ≤ 4 → (stereo l t .outcome ≡ refused n k) ↔ (stage l t .outcome ≡ refused n k)
+  pub stereo-early-exactly : (n k : ℕ) → n ≤ 4 → (encodeStereoFrame l t .outcome ≡ refused n k) ↔ (encodeFrame l t .outcome ≡ refused n k)
   stereo-early-exactly n k h = (
-    stereo-case l t (λ x. x .outcome ≡ refused n k → stage l t .outcome ≡ refused n k)
+    stereo-case l t (λ x. x .outcome ≡ refused n k → encodeFrame l t .outcome ≡ refused n k)
         (λ m j _ q e. ap (λ (x : StageLeft). x .outcome) q ∙ e)
         (λ _ _ e. differ e (λ z. omega arith))
         (λ g e. absurd (omega (arith, good-late l (mixedLent l t) (mixed-good l t g) n k (sym (run-answers g) ∙ e)))),
-    stereo-case l t (λ x. stage l t .outcome ≡ refused n k → x .outcome ≡ refused n k)
+    stereo-case l t (λ x. encodeFrame l t .outcome ≡ refused n k → x .outcome ≡ refused n k)
         (λ m j _ q e. sym (ap (λ (x : StageLeft). x .outcome) q) ∙ e)
         (λ g _ e. absurd (omega (arith, good-late l t g n k e)))
         (λ g e. absurd (omega (arith, good-late l t (g .good) n k e))),
   )
 
   -- 17: exactly where nothing of the input is bad and a magnitude is above 65,536; beside it 0.
-  pub seventeen-exactly : (k : ℕ) → (stereo l t .outcome ≡ refused 17 k) ↔ (Good l t × SomeLoud l t × (k ≡ 0))
-  unfolding stereo stereoGate judgedLoud stereoGated gate
+  pub seventeen-exactly : (k : ℕ) → (encodeStereoFrame l t .outcome ≡ refused 17 k) ↔ (Good l t × SomeLoud l t × (k ≡ 0))
+  unfolding encodeStereoFrame stereoGate judgedLoud stereoBehindGate gate
   seventeen-exactly k = (
     stereo-case l t (λ x. x .outcome ≡ refused 17 k → Good l t × SomeLoud l t × (k ≡ 0))
         (λ n j h _ e. let z : n ≡ 17 = cc e in absurd (omega arith))
         (λ g h e. let f = first-at (tooLoud (t .spectra)) (spectrumLength l) h in (g, (loudBy l t, h, f .there), sym (ap besideOf e)))
-        (λ h e. not-stage (stage l (mixedLent l t) .outcome) k (stage-numbers l (mixedLent l t)) (sym (run-answers h) ∙ e)),
+        (λ h e. not-stage (encodeFrame l (mixedLent l t) .outcome) k (stage-numbers l (mixedLent l t)) (sym (run-answers h) ∙ e)),
     (λ x. let (g, loud, z) = x in
         let p = good-passes l t g in
         rw (p .layout, p .room, le-ltb _ _ (p .intensities), le-ltb _ _ (p .spectra), lt-ltb _ _ (loud-first loud), z)),
@@ -72,22 +72,23 @@ module _ (l : Layout) (t : StageLent) where
 
   -- 5 AND 7: exactly where nothing of the input is bad or too loud and the stage gives them on what was mixed.
   pub stereo-late-exactly : (n k : ℕ) → 5 ≤ n → n ≤ 7
-      → (stereo l t .outcome ≡ refused n k) ↔ (StereoGood l t × (stage l (mixedLent l t) .outcome ≡ refused n k))
+      → (encodeStereoFrame l t .outcome ≡ refused n k) ↔ (StereoGood l t × (encodeFrame l (mixedLent l t) .outcome ≡ refused n k))
   stereo-late-exactly n k g h = (
-    stereo-case l t (λ x. x .outcome ≡ refused n k → StereoGood l t × (stage l (mixedLent l t) .outcome ≡ refused n k))
+    stereo-case l t (λ x. x .outcome ≡ refused n k → StereoGood l t × (encodeFrame l (mixedLent l t) .outcome ≡ refused n k))
         (λ m j q _ e. let z : m ≡ n = cc e in absurd (omega arith)) (λ _ _ e. differ e (λ z. omega arith)) (λ y e. (y, sym (run-answers y) ∙ e)),
     (λ x. ap (λ (y : StereoLeft). y .outcome) (stereo-is-stage l t (x .0)) ∙ x .1),
   )
 
   -- A FRAME: exactly where nothing of the input is bad or too loud and the stage delivers on what was mixed, with the same four answers.
-  pub stereo-delivered-exactly : (ns : List ℕ) → (stereo l t .outcome ≡ delivered ns) ↔ (StereoGood l t × (stage l (mixedLent l t) .outcome ≡ delivered ns))
+  pub stereo-delivered-exactly : (ns : List ℕ) → (encodeStereoFrame l t .outcome ≡ delivered ns)
+      ↔ (StereoGood l t × (encodeFrame l (mixedLent l t) .outcome ≡ delivered ns))
   stereo-delivered-exactly ns = (
     (λ e. let h = stereo-delivers l t ns e in (h, ap (λ (x : StereoLeft). x .outcome) (sym (stereo-is-stage l t h)) ∙ e)),
     (λ x. ap (λ (y : StereoLeft). y .outcome) (stereo-is-stage l t (x .0)) ∙ x .1),
   )
 
   -- Where a stereo call refuses, the number is one of seven.
-  pub stereo-numbers : Numbered stereoNumbers (stereo l t .outcome)
+  pub stereo-numbers : Numbered stereoNumbers (encodeStereoFrame l t .outcome)
   stereo-numbers =
       stereo-case l t (λ x. Numbered stereoNumbers (x .outcome))
       (λ m j _ q n k e. of-stage n (stage-numbers l t n k (ap (λ (x : StageLeft). x .outcome) q ∙ e)))

@@ -12,16 +12,16 @@ use lib.Ieee.{Float, nan}
 use lib.ListN.{length, getD, take, drop, take-append-drop}
 use lib.Seq.{getD-take, getD-drop, getD-append-add, length-take-le}
 use Rattle.floats.specs.Single.{zeroF}
-use Rattle.rules.specs.Layout.{Sizes, spectrumLength, sideLength}
-use Rattle.rules.specs.Lent.{laid}
-use Rattle.rules.specs.Stage.{StageLent, stageLent, stage}
+use Rattle.rules.specs.Layout.{LegalLayout, spectrumLength, sideLength}
+use Rattle.rules.specs.Lent.{overwrite}
+use Rattle.rules.specs.Stage.{StageLent, stageLent, encodeFrame}
 use Rattle.rules.specs.declared.Layout.{Layout}
 use Rattle.rules.proofs.Cuts.{by-order}
 use Rattle.rules.proofs.Layouts.{legal-sizes}
 use Rattle.rules_demands.proofs.FoundLevel.{not-both}
 use Rattle.rules_demands.proofs.Exactly.{None, first-at}
 use Rattle.rules_stereo.specs.Mixed.{Signal, signal, pairedAt, mixed}
-use Rattle.rules_stereo.specs.Stereo.{StereoLeft, withSignal, tooLoud, lentSignal, mixedFront, stereoRun, stereo}
+use Rattle.rules_stereo.specs.Stereo.{StereoLeft, withSignal, tooLoud, lentSignal, mixedFront, stereoRun, encodeStereoFrame}
 use Rattle.stereo_demands.proofs.MixedJudged.{mixed-side}
 use Rattle.stereo_demands.proofs.MixedKept.{paired, Off, NoPairs, NoWrites, mixed-long, mixed-off, mixed-made, mixed-unwritten}
 use Rattle.stereo_demands.proofs.StereoIsStage.{mixedLent, StereoGood, laid-at, room, run-is-stage, stereo-case, stereo-is-stage}
@@ -44,7 +44,7 @@ InNoPair l c = (pairedAt l c ≡ false) × NoRight l c
 same-band : (x y b d : ℕ) → b < 128 → d < 128 → x * 128 + b ≡ y * 128 + d → b ≡ d
 same-band x y b d h g e = omega arith
 
-module _ (l : Layout) (sizes : Sizes l) where
+module _ (l : Layout) (sizes : LegalLayout l) where
   outside-off : (c s b : ℕ) → b < 128 → OutsideBands l b → Off l (c * 1024 + (s * 128 + b))
   outside-off c s b h out s′ j g e = go out (same-band (c * 8 + s) s′ b (l .base + j) h (omega (arith, sizes .bands)) (omega arith))
     where
@@ -68,17 +68,17 @@ module _ (l : Layout) (sizes : Sizes l) where
 
 -- ---- a list laid over a longer one
 
-laid-rest : {A : Type 0} (z : A) (new old : List A) (i : ℕ) → length new ≤ i → getD (laid new old) i z ≡ getD old i z
+laid-rest : {A : Type 0} (z : A) (new old : List A) (i : ℕ) → length new ≤ i → getD (overwrite new old) i z ≡ getD old i z
 laid-rest z new old i h =
     let k = i - length new in
     let e : i ≡ length new + k = omega arith in
-    ap (λ (m : ℕ). getD (laid new old) m z) e ∙ getD-append-add new (drop (length new) old) k z ∙ getD-drop (length new) old k z
+    ap (λ (m : ℕ). getD (overwrite new old) m z) e ∙ getD-append-add new (drop (length new) old) k z ∙ getD-drop (length new) old k z
     ∙ ap (λ (m : ℕ). getD old m z) (sym e)
 
 -- ---- a call that nothing is refused of
 
 module _ (l : Layout) (t : StageLent) (h : StereoGood l t) where
-  sizes : Sizes l
+  sizes : LegalLayout l
   sizes = legal-sizes l (h .good .layout)
 
   abbrev front : Signal
@@ -116,8 +116,8 @@ module _ (l : Layout) (t : StageLent) (h : StereoGood l t) where
   unmixed : l .stereo ≡ 0 → mixedLent l t ≡ t
   unfolding mixedFront mixed
   unmixed e =
-      let p : laid (front .spectra) (t .spectra) ≡ t .spectra = rw front-spectra (take-append-drop (spectrumLength l) (t .spectra)) in
-      let q : laid (front .intensities) (t .intensities) ≡ t .intensities = rw front-side (take-append-drop (sideLength l) (t .intensities)) in
+      let p : overwrite (front .spectra) (t .spectra) ≡ t .spectra = rw front-spectra (take-append-drop (spectrumLength l) (t .spectra)) in
+      let q : overwrite (front .intensities) (t .intensities) ≡ t .intensities = rw front-side (take-append-drop (sideLength l) (t .intensities)) in
       rw (eq-eqb (l .stereo) 0 e)
       (ap₂ (λ (xs : List Float) (is : List ℕ). stageLent xs is (t .scaled) (t .codes) (t .factors) (t .side) (t .frame)) p q)
 
@@ -126,27 +126,27 @@ module _ (l : Layout) (t : StageLent) (h : StereoGood l t) where
 module _ (l : Layout) (t : StageLent) where
   -- Bands outside base..total keep their bits, in every channel and subframe; behind the stated length there is nothing that does not.
   pub outside-kept : (c s b : ℕ) → b < 128 → OutsideBands l b
-      → getD (stereo l t .spectra) (c * 1024 + (s * 128 + b)) nan ≡ getD (t .spectra) (c * 1024 + (s * 128 + b)) nan
+      → getD (encodeStereoFrame l t .spectra) (c * 1024 + (s * 128 + b)) nan ≡ getD (t .spectra) (c * 1024 + (s * 128 + b)) nan
   outside-kept c s b h out =
       let i = c * 1024 + (s * 128 + b) in
       stereo-case l t (λ x. getD (x .spectra) i nan ≡ getD (t .spectra) i nan) (λ _ _ _ _. refl) (λ _ _. refl)
       (λ g. run-kept l t g i (λ p _ j e _. off-inside l (sizes l t g) i p j (outside-off l (sizes l t g) c s b h out) e))
 
   -- A channel of no pair keeps all its values.
-  pub unpaired-kept : (c j : ℕ) → j < 1024 → InNoPair l c → getD (stereo l t .spectra) (c * 1024 + j) nan ≡ getD (t .spectra) (c * 1024 + j) nan
+  pub unpaired-kept : (c j : ℕ) → j < 1024 → InNoPair l c → getD (encodeStereoFrame l t .spectra) (c * 1024 + j) nan ≡ getD (t .spectra) (c * 1024 + j) nan
   unpaired-kept c j h apart =
       stereo-case l t (λ x. getD (x .spectra) (c * 1024 + j) nan ≡ getD (t .spectra) (c * 1024 + j) nan) (λ _ _ _ _. refl) (λ _ _. refl)
       (λ g. run-kept l t g (c * 1024 + j) (unpaired-places l (sizes l t g) c j h apart))
 
   -- Intensities that no pair writes stay the caller's: those of a channel that is the right of none.
-  pub unwritten-kept : (c j : ℕ) → j < 8 → NoRight l c → getD (stereo l t .intensities) (c * 8 + j) 0 ≡ getD (t .intensities) (c * 8 + j) 0
+  pub unwritten-kept : (c j : ℕ) → j < 8 → NoRight l c → getD (encodeStereoFrame l t .intensities) (c * 8 + j) 0 ≡ getD (t .intensities) (c * 8 + j) 0
   unwritten-kept c j h apart =
       stereo-case l t (λ x. getD (x .intensities) (c * 8 + j) 0 ≡ getD (t .intensities) (c * 8 + j) 0) (λ _ _ _ _. refl) (λ _ _. refl)
       (λ g. run-unwritten l t g (c * 8 + j) (unwritten-places l (sizes l t g) c j h apart))
 
   -- The right of a pair is +0.0 from base to total, in every subframe, unless it is itself the left of a pair, which is then mixed from these zeros.
   pub right-zero : StereoGood l t → (l .stereo ≡ 0 → ⊥) → (c : ℕ) → pairedAt l c ≡ true → pairedAt l (c + 1) ≡ false
-      → (s b : ℕ) → s < 8 → l .base ≤ b → b < l .total → getD (stereo l t .spectra) ((c + 1) * 1024 + (s * 128 + b)) nan ≡ zeroF
+      → (s b : ℕ) → s < 8 → l .base ≤ b → b < l .total → getD (encodeStereoFrame l t .spectra) ((c + 1) * 1024 + (s * 128 + b)) nan ≡ zeroF
   unfolding mixedFront
   right-zero g some c is last s b h lo hi =
       let i = (c + 1) * 1024 + (s * 128 + b) in
@@ -158,8 +158,8 @@ module _ (l : Layout) (t : StageLent) where
       ∙ mixed-made l z c is last s b h lo hi (front l t g) (front-spectra l t g) some
 
   -- Without stereo bands nothing is done: the call is the stage on what was lent, where nothing is too loud.
-  pub without-bands : l .stereo ≡ 0 → None (tooLoud (t .spectra)) (spectrumLength l) → stereo l t ≡ withSignal (lentSignal t) (stage l t)
+  pub without-bands : l .stereo ≡ 0 → None (tooLoud (t .spectra)) (spectrumLength l) → encodeStereoFrame l t ≡ withSignal (lentSignal t) (encodeFrame l t)
   without-bands e quiet =
-      stereo-case l t (λ x. x ≡ withSignal (lentSignal t) (stage l t)) (λ n k _ q. ap (withSignal (lentSignal t)) (sym q))
+      stereo-case l t (λ x. x ≡ withSignal (lentSignal t) (encodeFrame l t)) (λ n k _ q. ap (withSignal (lentSignal t)) (sym q))
       (λ _ h. let f = first-at (tooLoud (t .spectra)) (spectrumLength l) h in absurd (not-both (quiet _ h) (f .there)))
-      (λ g. run-is-stage l t g ∙ ap (λ u. withSignal (lentSignal u) (stage l u)) (unmixed l t g e))
+      (λ g. run-is-stage l t g ∙ ap (λ u. withSignal (lentSignal u) (encodeFrame l u)) (unmixed l t g e))

@@ -2,7 +2,8 @@
 -- format holds is rounded to itself. Assumes nothing.
 use mathlib.Core.Path.{_≡_, refl, sym, ap, _∙_, subst}
 use Prim.Native.Nat.{ℕ, _+_, _-_, _*_, _^_, _≤_, _<_}
-use native.Mathlib.Nat.{le-trans, le-of-eq, mul-comm, mul-assoc, mul-left-comm, mul-right-comm, mul-le-mul, mul-le-mul-right, le-of-mul-le-mul-right, mul-pos, mul-one, one-mul, add-mul}
+use native.Mathlib.Nat.{le-trans, le-of-eq, mul-comm, mul-assoc, mul-left-comm, mul-right-comm, mul-le-mul, mul-le-mul-right, le-of-mul-le-mul-right, mul-pos}
+use native.Mathlib.Nat.{mul-one, one-mul, add-mul}
 use native.Mathlib.Omega.{arith}
 use mathlib.Core.Bool.{Bool, true, false, not, _&&_, _||_, cond, true≢false}
 use lib.Dec.{T, ltb, eqb, ltb→lt, eqb→eq}
@@ -91,7 +92,8 @@ unfolding absF
 within-at-most k nan w = absurd w
 within-at-most k (inf s) w = absurd w
 within-at-most k (fin s m e) w =
-    le-of-values (fin false m e) (fin false 1 (pos k)) (m * up e) (down e) (2 ^ k) 1 (down-pos e) (pow-pos 0) (refl, refl) (refl, ap (λ (z : ℕ). z * 1) (one-mul (2 ^ k)))
+    le-of-values (fin false m e) (fin false 1 (pos k)) (m * up e) (down e) (2 ^ k) 1 (down-pos e) (pow-pos 0) (refl, refl)
+    (refl, ap (λ (z : ℕ). z * 1) (one-mul (2 ^ k)))
     (le-trans (le-of-eq (mul-one (m * up e))) w)
 
 -- what is at most a whole number is within it

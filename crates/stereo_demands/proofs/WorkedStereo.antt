@@ -19,7 +19,7 @@ use Rattle.floats.specs.Single.{absF, heldF, maxF, minF, folded, zeroF, oneF, n
 use Rattle.crc.specs.Check.{checksum}
 use Rattle.rules.specs.Tables.{scalingTable, resolutionCurve, stepTable, deadZoneTable, maxBitTable, spectrumBits, spectrumValue}
 use Rattle.rules.specs.Signed.{heldZ}
-use Rattle.rules.specs.Layout.{legalLayout, startBand, kindAt, kindsOf, secondaryAt, ceilDiv, bandsPerGroup, groupCount, codedAt, sidesAt, hasRoom}
+use Rattle.rules.specs.Layout.{legalLayout, startBand, kindAt, kindsOf, secondaryAt, ceilDiv, bandsPerGroup, groupCount, codedCountAt, sideCountAt, hasRoom}
 use Rattle.rules.specs.Factor.{countLe, factorOf, peakOf, bandFactor, channelFactors, allFactors}
 use Rattle.rules.specs.Scaling.{scaleOf, scaledValue, scaledBand, channelScaled, allScaled}
 use Rattle.rules.specs.Hfr.{bandsTaken, groupAverage, spectrumAverage, sourceAverage, groupValue, hfrScale, intensitySide, scaleSide, channelSide, allSide}
@@ -35,13 +35,14 @@ use Rattle.rules.specs.Record.{recOf}
 use Rattle.rules.specs.Fields.{deltaSymbol, deltaBits, smallBits, codeBits, fields}
 use Rattle.rules.specs.Frame.{filledFields, frameOf}
 use Rattle.rules.specs.Refusals.{delivered}
-use Rattle.rules.specs.Stage.{StageLent, stageLent, lentRoom, stageHasRoom, badIntensity, badSpectrum, Made, made, madeRecord, settled, stageLaid, stage}
+use Rattle.rules.specs.Stage.{StageLent, stageLent, stageRoom, stageHasRoom, badIntensity, badSpectrum, Analysis, analysis, stageRecord, afterLevel}
+use Rattle.rules.specs.Stage.{stageOverwrite, encodeFrame}
 use Rattle.rules.specs.declared.ChannelType.the-variants.{Discrete, StereoPrimary, StereoSecondary}
 use Rattle.rules.specs.declared.Layout.{Layout}
 use Rattle.rules_demands.proofs.Exactly.{first-passed}
 use Rattle.rules_stereo.specs.Mixed.{ratioBounds, signal, loudness, energies, combinedOf, storedOf, boundOf, intensityOf, ratioOf, bandMixed, bandsMixed}
 use Rattle.rules_stereo.specs.Mixed.{energiesAt, subframeMixed, subframesMixed, pairMixed, pairedAt, channelMixed, channelsMixed, mixed}
-use Rattle.rules_stereo.specs.Stereo.{withSignal, tooLoud, lentSignal, mixedFront, signalLaid, stereo}
+use Rattle.rules_stereo.specs.Stereo.{withSignal, tooLoud, lentSignal, mixedFront, signalOverwrite, encodeStereoFrame}
 use Rattle.rules_worked.proofs.Runs.{lazily, halving, narrowing, removalStep, removing, remove-is, boundary-is, made-is, allFinite, stage-made, done}
 use Rattle.rules_worked.proofs.Runs.{settled-done, Sheet}
 use Rattle.stereo_demands.proofs.StereoIsStage.{StereoGood, mixedLent, stereo-is-stage}
@@ -86,7 +87,7 @@ mixedIntensities = replicate 8 9 ++ (8 ∷ replicate 7 0)
 abbrev pub factorsOf : List ℕ
 factorsOf = 55 ∷ 59 ∷ 54 ∷ replicate 125 0 ++ (53 ∷ replicate 127 0)
 
-abbrev pub its : Made
+abbrev pub its : Analysis
 its = record {
   scaled =
       float 0x3F60CCE0 ∷ replicate 7 zeroF ++ (float 0x3F47B2B6 ∷ replicate 7 zeroF ++ (float 0x3F51ABFE ∷ replicate 1007 zeroF
@@ -156,7 +157,7 @@ abbrev now : StageLent
 now = with mixedValues mixedIntensities
 
 now-is : mixedLent pair lent ≡ now
-now-is = ap (λ s. with (signalLaid s (lentSignal lent) .spectra) (signalLaid s (lentSignal lent) .intensities)) mixing
+now-is = ap (λ s. with (signalOverwrite s (lentSignal lent) .spectra) (signalOverwrite s (lentSignal lent) .intensities)) mixing
 
 -- ---- and encoded
 
@@ -167,24 +168,24 @@ over boundary = exceeds pair (its .scaled) factorsOf 183 boundary
 abbrev workedOut : Sheet
 workedOut = record {
   legal = legalLayout pair;
-  room = stageHasRoom pair (lentRoom now);
+  room = stageHasRoom pair (stageRoom now);
   size = length mixedValues;
   whole = allFinite mixedValues;
   factors = allFactors pair mixedValues;
-  made = record {
+  analysis = record {
     scaled = allScaled pair mixedValues factorsOf;
     side = allSide pair mixedValues (its .scaled) mixedIntensities;
     found = removing pair (λ fs level. exceeds pair (its .scaled) fs level 0) 64 (startBand pair) 0 factorsOf;
     boundary = lazily (eqb 183 0) (λ _. 0) (λ _. narrowing over 127 0 127);
     codes = allCodes pair (allResolutions pair 183 1 factorsOf) (its .scaled);
   };
-  bits = length (fields pair (madeRecord pair its));
+  bits = length (fields pair (stageRecord pair its));
 }
 
-right : workedOut ≡ record { legal = true; room = true; size = 2048; whole = true; factors = factorsOf; made = its; bits = 190 }
-unfolding legalLayout stageHasRoom hasRoom allFinite madeRecord allFactors channelFactors bandFactor peakOf factorOf countLe scalingTable folded maxF absF
+right : workedOut ≡ record { legal = true; room = true; size = 2048; whole = true; factors = factorsOf; analysis = its; bits = 190 }
+unfolding legalLayout stageHasRoom hasRoom allFinite stageRecord allFactors channelFactors bandFactor peakOf factorOf countLe scalingTable folded maxF absF
     build blocks allScaled channelScaled scaledBand scaledValue heldF allSide channelSide intensitySide scaleSide groupCount bandsPerGroup ceilDiv
-    secondaryAt kindAt codedAt sidesAt removing removalStep halving narrowing exceeds usedBits fixedBits spectralBits headerBits channelBits bandBits
+    secondaryAt kindAt codedCountAt sideCountAt removing removalStep halving narrowing exceeds usedBits fixedBits spectralBits headerBits channelBits bandBits
     valueBits resolutionAt resolution resolutionIn noiseAt width widthCost allZero cost sumTo lastOf allResolutions channelResolutions bandResolution
     allCodes channelCodes subframeCodes codeAt recordedCode recOf fields kindsOf codeBits resolutionsOf bits ofBits le lt rawCode stepOf stepShift
     codePlace stepTable spectrumBits toSigned add mul heldZ clearPair clearTwo codeOf maxBitTable magnitudeBits codeLimit curvePosition heldPosition
@@ -192,32 +193,33 @@ unfolding legalLayout stageHasRoom hasRoom allFinite madeRecord allFactors chann
     spectrumAverage sourceAverage groupAverage bandsTaken noAverage withEight mean meanF groupValue minF ofInt
 right = refl
 
-frame-is : frameOf pair (madeRecord pair its) ≡ bytes
-unfolding madeRecord recOf build kindAt codedAt sidesAt kindsOf groupCount bandsPerGroup ceilDiv fields width cheaper allZero cost deltaCost laterCost near
+frame-is : frameOf pair (stageRecord pair its) ≡ bytes
+unfolding stageRecord recOf build kindAt codedCountAt sideCountAt kindsOf groupCount bandsPerGroup ceilDiv fields width cheaper allZero cost deltaCost laterCost
+    near
     deltaBits deltaSymbol codeBits smallBits codePlace spectrumBits spectrumValue heldZ magnitudeBits maxBitTable resolutionsOf resolutionAt
     resolution resolutionIn noiseAt heldPosition curvePosition resolutionCurve frameOf filledFields bits value bitsOf pack checksum blocks
 frame-is = refl
 
-made-now : made pair mixedValues mixedIntensities ≡ its
+made-now : analysis pair mixedValues mixedIntensities ≡ its
 unfolding noiseLevel
 made-now =
     made-is pair mixedValues mixedIntensities factorsOf (its .scaled) (its .side) (its .found) 1 (its .codes) (ap (λ w. w .factors) right)
-    (ap (λ w. w .made .scaled) right) (ap (λ w. w .made .side) right) (remove-is _ _ _ _ _ _ ∙ ap (λ w. w .made .found) right)
-    (boundary-is 183 over ∙ ap (λ w. w .made .boundary) right) (ap (λ w. w .made .codes) right)
+    (ap (λ w. w .analysis .scaled) right) (ap (λ w. w .analysis .side) right) (remove-is _ _ _ _ _ _ ∙ ap (λ w. w .analysis .found) right)
+    (boundary-is 183 over ∙ ap (λ w. w .analysis .boundary) right) (ap (λ w. w .analysis .codes) right)
 
 small : (i : ℕ) → getD mixedIntensities i 0 ≤ 15
 unfolding allLe
 small = getD-le 15 mixedIntensities refl
 
-staged : stage pair now ≡ stageLaid now (done its 190 bytes)
+staged : encodeFrame pair now ≡ stageOverwrite now (done its 190 bytes)
 staged =
     stage-made pair now (ap (λ w. w .legal) right) (ap (λ w. w .room) right) refl (ap (λ w. w .whole) right) small
-    ∙ ap (λ m. stageLaid now (settled pair m)) made-now
-    ∙ ap (stageLaid now) (settled-done pair its 190 bytes (omega arith) (ap (λ w. w .bits) right) (omega arith) frame-is)
+    ∙ ap (λ m. stageOverwrite now (afterLevel pair m)) made-now
+    ∙ ap (stageOverwrite now) (settled-done pair its 190 bytes (omega arith) (ap (λ w. w .bits) right) (omega arith) frame-is)
 
 -- The call is delivered: level 183, boundary 1, no pairs removed, 190 bits; spectra and intensities are the mixed ones, the five buffers hold what was made of
 -- them, and what is longer keeps its rest.
-pub pair-delivered : stereo pair lent ≡ record {
+pub pair-delivered : encodeStereoFrame pair lent ≡ record {
   outcome = delivered (183 ∷ 1 ∷ 0 ∷ 190 ∷ []);
   spectra = mixedValues;
   intensities = mixedIntensities;
@@ -227,4 +229,4 @@ pub pair-delivered : stereo pair lent ≡ record {
   side = its .side ++ (1 ∷ []);
   frame = bytes ++ (0xEE ∷ []);
 }
-pair-delivered = stereo-is-stage pair lent good ∙ ap (λ u. withSignal (lentSignal u) (stage pair u)) now-is ∙ ap (withSignal (lentSignal now)) staged
+pair-delivered = stereo-is-stage pair lent good ∙ ap (λ u. withSignal (lentSignal u) (encodeFrame pair u)) now-is ∙ ap (withSignal (lentSignal now)) staged

@@ -9,13 +9,13 @@ use borrow.Author.Tests.{lt-ltb, le-ltb}
 use lib.Dec.{ltb}
 use lib.Ieee.{Float}
 use Rattle.buffers.specs.Walk.{first}
-use Rattle.rules.specs.Layout.{Sizes, spectrumLength}
+use Rattle.rules.specs.Layout.{LegalLayout, spectrumLength}
 use Rattle.rules.specs.Refusals.{Outcome, refused}
-use Rattle.rules.specs.Stage.{StageLent, lentRoom, badSpectrum, gate}
+use Rattle.rules.specs.Stage.{StageLent, stageRoom, badSpectrum, gate}
 use Rattle.rules.specs.declared.Layout.{Layout}
 use Rattle.rules.specs.declared.StageRoom.{StageRoom}
-use Rattle.rules_stereo.specs.Stereo.{StereoLeft, tooLoud, judgedLoud, stereoGate, stereoRun, stereoGated, stereo}
-use Rattle.stage_gate.specs.Gate.{Long, gateOutcome, judgedSpectra, BeforeSpectra}
+use Rattle.rules_stereo.specs.Stereo.{StereoLeft, tooLoud, judgedLoud, stereoGate, stereoRun, stereoBehindGate, encodeStereoFrame}
+use Rattle.stage_gate.specs.Gate.{StageHasRoom, gateOutcome, judgedSpectra, BeforeSpectra}
 use Rattle.stage_gate.specs.declared.Gate.{Gate}
 use Rattle.stage_gate.proofs.Rooms.{gate-open}
 use Rattle.stereo_gate.specs.StereoGates.{stereoGateOutcome}
@@ -34,15 +34,16 @@ module _ (l : Layout) (r : StageRoom) (xs : List Float) (is : List ℕ) where
   quiet none h = refl
   quiet (some o) h = h
 
-  pub stereo-open : stereoGate l r xs is ≡ none → Sizes l × Long l r
+  pub stereo-open : stereoGate l r xs is ≡ none → LegalLayout l × StageHasRoom l r
   unfolding stereoGate
   stereo-open h = gate-open l r xs is (quiet (gate l r xs is) h)
 
 -- an answer that is what the gate lets pass
-pub stereo-lets : (l : Layout) (t : StageLent) (g : StereoGate) (x : StereoLeft) → stereoGateOutcome g ≡ stereoGate l (lentRoom t) (t .spectra) (t .intensities)
-    → x ≡ stereoGated (stereoGateOutcome g) t (stereoRun l t) → x ≡ stereo l t
-unfolding stereo
-stereo-lets l t g x e h = h ∙ ap (λ o. stereoGated o t (stereoRun l t)) e
+pub stereo-lets : (l : Layout) (t : StageLent) (g : StereoGate) (x : StereoLeft) → stereoGateOutcome g
+    ≡ stereoGate l (stageRoom t) (t .spectra) (t .intensities)
+    → x ≡ stereoBehindGate (stereoGateOutcome g) t (stereoRun l t) → x ≡ encodeStereoFrame l t
+unfolding encodeStereoFrame
+stereo-lets l t g x e h = h ∙ ap (λ o. stereoBehindGate o t (stereoRun l t)) e
 
 -- ---- 4 and 17 by one pass
 neither : (a b : Bool) → a || b ≡ false → (a ≡ false) × (b ≡ false)

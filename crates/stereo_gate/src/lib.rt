@@ -9,7 +9,7 @@ ghost use lib.Ieee.Scale.{finite};
 ghost use lib.ListN.{length};
 ghost use Rattle.buffers.specs.Walk.{first};
 ghost use Rattle.floats.specs.Single.{absF};
-ghost use Rattle.rules.specs.Layout.{Sizes, spectrumLength};
+ghost use Rattle.rules.specs.Layout.{LegalLayout, spectrumLength};
 ghost use Rattle.rules.specs.Refusals.{stageOutcome};
 ghost use Rattle.rules.specs.Stage.{badSpectrum};
 ghost use Rattle.rules_stereo.specs.Stereo.{tooLoud, judgedLoud, stereoGate};
@@ -58,7 +58,7 @@ fn refused_by_stage(answer: StageAnswer) -> StereoGate
 
 // 4 and 17 behind 1 to 3: one pass where neither comes.
 fn judge_spectra(layout: Layout, spectra: &[f32]) -> StereoGate
-    requires { ⌜ Sizes layout ⌝ }
+    requires { ⌜ LegalLayout layout ⌝ }
     requires { ⌜ spectrumLength layout ≤ length (now spectra) ⌝ }
     ensures { λ r. ⌜ stereoGateOutcome r
         ≡ judgedLoud (judgedSpectra none layout (now (spectra .entry))) layout (now (spectra .entry)) ⌝ }

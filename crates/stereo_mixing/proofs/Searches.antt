@@ -10,7 +10,8 @@ use lib.ListN.{getD}
 use Rattle.buffers.proofs.Scan.{first-next, first-stop, first-end}
 use Rattle.buffers.specs.Walk.{firstFrom}
 use Rattle.floats.specs.Single.{addAbs, heldF, zeroF, oneF}
-use Rattle.rules_stereo.specs.Mixed.{ratioBounds, twoF, leftValue, rightValue, bothValues, loudness, energies, boundOf, lowRatio, highRatio, combinedOf, storedOf, intensityOf, ratioOf, mixingOf}
+use Rattle.rules_stereo.specs.Mixed.{ratioBounds, twoF, leftValue, rightValue, bothValues, loudness, energies, boundOf, lowRatio, highRatio, combinedOf}
+use Rattle.rules_stereo.specs.Mixed.{storedOf, intensityOf, ratioOf, mixingOf}
 use Rattle.rules_stereo.specs.declared.Energies.{Energies}
 use Rattle.stereo_mixing.specs.Bounds.{IsBounds}
 
@@ -27,7 +28,8 @@ unfolding loudness
 summed-more f n s r e d = rw (add-one n) (d ∙ ap (λ (z : Float). addAbs z (f n)) e)
 
 -- all of them
-pub energies-is : (xs : List Float) (at b n : ℕ) (left right total : Float) → b ≡ n → Summed (λ k. leftValue xs (at + k)) b left → Summed (λ k. rightValue xs (at + k)) b right
+pub energies-is : (xs : List Float) (at b n : ℕ) (left right total : Float) → b ≡ n → Summed (λ k. leftValue xs (at + k)) b left
+    → Summed (λ k. rightValue xs (at + k)) b right
     → Summed (λ k. bothValues xs (at + k)) b total → record { left = left; right = right; total = mul binary32 total twoF } ≡ energies xs at n
 unfolding energies
 energies-is xs at b n left right total q e d f = rw (e, d, f, q)
@@ -68,6 +70,7 @@ module _ (e : Energies) where
   unfolding mixingOf intensityOf ratioOf
   mixing-held v r h k p q = rw (h, k, p, q)
 
-  pub mixing-one : (v : ℕ) → le (combinedOf e) zeroF ≡ false → lt zeroF (e .total) ≡ false → v ≡ boundOf (storedOf e) → record { value = v; ratio = oneF } ≡ mixingOf e
+  pub mixing-one : (v : ℕ) → le (combinedOf e) zeroF ≡ false → lt zeroF (e .total) ≡ false → v ≡ boundOf (storedOf e) → record { value = v; ratio = oneF }
+      ≡ mixingOf e
   unfolding mixingOf intensityOf ratioOf
   mixing-one v h k p = rw (h, k, p)

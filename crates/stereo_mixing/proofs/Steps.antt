@@ -31,7 +31,8 @@ module _ (l : Layout) (c : ℕ) where
 
   pub paired-kind : (k : ChannelType) → c + 1 < l .channels → kindAt l c ≡ k → isPrimary k ≡ pairedAt l c
   unfolding pairedAt
-  paired-kind k h e = ap isPrimary (sym e) ∙ all (isPrimary (kindAt l c)) ∙ ap (λ (b : Bool). isPrimary (kindAt l c) && b) (sym (lt-ltb (c + 1) (l .channels) h))
+  paired-kind k h e = ap isPrimary (sym e) ∙ all (isPrimary (kindAt l c))
+      ∙ ap (λ (b : Bool). isPrimary (kindAt l c) && b) (sym (lt-ltb (c + 1) (l .channels) h))
 
 -- ---- a channel, mixed or not
 module _ (l : Layout) (c : ℕ) where

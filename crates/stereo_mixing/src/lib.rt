@@ -8,7 +8,7 @@ pub mod pair;
 ghost use mathlib.Core.Path.{_≡_};
 ghost use Prim.Native.Nat.{_<_};
 ghost use lib.ListN.{length};
-ghost use Rattle.rules.specs.Layout.{Sizes, spectrumLength, sideLength};
+ghost use Rattle.rules.specs.Layout.{LegalLayout, spectrumLength, sideLength};
 ghost use Rattle.rules_stereo.specs.Mixed.{signal, pairedAt, channelMixed, mixed};
 use crate::pair::mix_pair;
 use rules::ChannelType;
@@ -34,7 +34,7 @@ fn paired(layout: Layout, c: usize) -> bool
 
 // The pair is lent as one part, since two parts of a slice cannot be lent at once.
 fn mix_channel(layout: Layout, c: usize, spectra: &mut [f32], intensities: &mut [u8])
-    requires { ⌜ Sizes layout ⌝ }
+    requires { ⌜ LegalLayout layout ⌝ }
     requires { ⌜ c < layout .channels ⌝ }
     requires { ⌜ (length (now spectra) ≡ spectrumLength layout) × (length (now intensities) ≡ sideLength layout) ⌝ }
     ensures { λ _. ⌜ signal (now (spectra .exit)) (now (intensities .exit))
@@ -53,7 +53,7 @@ fn mix_channel(layout: Layout, c: usize, spectra: &mut [f32], intensities: &mut 
 
 // All channels, in order.
 pub fn encode_intensity_stereo(layout: Layout, spectra: &mut [f32], intensities: &mut [u8])
-    requires { ⌜ Sizes layout ⌝ }
+    requires { ⌜ LegalLayout layout ⌝ }
     requires { ⌜ (length (now spectra) ≡ spectrumLength layout) × (length (now intensities) ≡ sideLength layout) ⌝ }
     ensures { λ _. ⌜ signal (now (spectra .exit)) (now (intensities .exit))
         ≡ mixed layout (signal (now (spectra .entry)) (now (intensities .entry))) ⌝ }

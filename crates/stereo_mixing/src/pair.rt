@@ -2,7 +2,7 @@
 ghost use mathlib.Core.Path.{_≡_};
 ghost use Prim.Native.Nat.{_+_, _≤_};
 ghost use lib.ListN.{length};
-ghost use Rattle.rules.specs.Layout.{Sizes};
+ghost use Rattle.rules.specs.Layout.{LegalLayout};
 ghost use Rattle.rules_stereo.specs.Mixed.{signal, bandsMixed, subframesMixed};
 use crate::subframe::quantize_intensity;
 use crate::subframe::stereo_energy;
@@ -25,7 +25,7 @@ pub fn mix_stereo_bands(pair: &mut [f32], at: usize, count: usize, ratio: f32)
 
 // A pair's eight subframes; the intensities are the right's.
 pub fn mix_pair(layout: Layout, pair: &mut [f32], intensities: &mut [u8])
-    requires { ⌜ Sizes layout ⌝ }
+    requires { ⌜ LegalLayout layout ⌝ }
     requires { ⌜ (length (now pair) ≡ 2048) × (length (now intensities) ≡ 8) ⌝ }
     ensures { λ _. ⌜ signal (now (pair .exit)) (now (intensities .exit))
         ≡ subframesMixed layout 8 (signal (now (pair .entry)) (now (intensities .entry))) ⌝ }

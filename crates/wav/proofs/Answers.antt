@@ -10,7 +10,8 @@ use lib.Ieee.{Float}
 use lib.Seq.{length-take-le}
 use Rattle.buffers.specs.Walk.{build}
 use Rattle.buffers.proofs.Build.{length-build}
-use Rattle.rules_files.specs.Wav.{isWave, isDepth, walked, wholeSamples, sampleAt, allFinite, noteOf, wavOutcome, wavNote, WavLeft, wavLeft, wavTaken, dataRead, walkRead, wavRead}
+use Rattle.rules_files.specs.Wav.{isWave, isDepth, walked, wholeSamples, sampleAt, allFinite, noteOf, wavOutcome, wavNote, WavLeft, wavLeft, wavTaken, dataRead}
+use Rattle.rules_files.specs.Wav.{walkRead, readWav}
 use Rattle.rules_files.specs.WavFits.{FormatFits, DataFits, WalkFits, TakeFits}
 use Rattle.wav.specs.Inside.{SamplesInside}
 use Rattle.rules_files.specs.declared.wav.WavData.{WavData}
@@ -55,7 +56,8 @@ module _ (wav : List ℕ) (d : WavData) (samples : List Float) where
               → ys ≡ build (sampleAt wav (d .format .depth) (d .body)) (length (take n samples))
               → note ≡ noteOf (build (sampleAt wav (d .format .depth) (d .body)) (length (take n samples)))
               → Reads wav d samples
-              (wav-of.Taken (record { channels = d .format .channels; rate = d .format .rate; depth = d .format .depth; count = n; note = note })) (ys ++ drop n samples)
+              (wav-of.Taken (record { channels = d .format .channels; rate = d .format .rate; depth = d .format .depth; count = n; note = note }))
+              (ys ++ drop n samples)
           unfolding dataRead wavOutcome wavNote wavTaken TakeFits
           data-taken e fits note ys p q =
               let l : length (take n samples) ≡ n = length-take-le n samples room in (
@@ -67,24 +69,26 @@ module _ (wav : List ℕ) (d : WavData) (samples : List Float) where
 pub lent-length : (n : ℕ) (samples : List Float) → n ≤ length samples → n ≡ length (take n samples)
 lent-length n samples h = sym (length-take-le n samples h)
 
-pub lent-inside : (wav : List ℕ) (depth body n : ℕ) (samples : List Float) → n ≤ length samples → SamplesInside wav depth body n → allFinite wav depth body n ≡ true
+pub lent-inside : (wav : List ℕ) (depth body n : ℕ) (samples : List Float) → n ≤ length samples → SamplesInside wav depth body n → allFinite wav depth body n
+    ≡ true
     → SamplesInside wav depth body (length (take n samples)) × (allFinite wav depth body (length (take n samples)) ≡ true)
 lent-inside wav depth body n samples h i e = rw (length-take-le n samples h) (i, e)
 
 -- ---- of a file
 
 module _ (wav : List ℕ) (samples : List Float) where
-  pub file-other : isWave wav ≡ false → (wavLeft wav-of.NotWave samples ≡ wavRead wav samples) × TakeFits wav-of.NotWave
-  unfolding wavRead wavOutcome wavNote TakeFits
+  pub file-other : isWave wav ≡ false → (wavLeft wav-of.NotWave samples ≡ readWav wav samples) × TakeFits wav-of.NotWave
+  unfolding readWav wavOutcome wavNote TakeFits
   file-other e = (rw e, tt)
 
   module _ (front : isWave wav ≡ true) (w : WavWalk) (e : w ≡ walked wav) where
-    pub file-ended : w ≡ at-end.Ended → (wavLeft wav-of.NoData samples ≡ wavRead wav samples) × TakeFits wav-of.NoData
-    unfolding wavRead walkRead wavOutcome wavNote TakeFits
+    pub file-ended : w ≡ at-end.Ended → (wavLeft wav-of.NoData samples ≡ readWav wav samples) × TakeFits wav-of.NoData
+    unfolding readWav walkRead wavOutcome wavNote TakeFits
     file-ended q = (rw (front, sym e ∙ q), tt)
 
-    pub file-read : (d : WavData) → w ≡ at-end.Found d → (a : WavAnswer) (after : List Float) → wavLeft a after ≡ dataRead wav d samples → wavLeft a after ≡ wavRead wav samples
-    unfolding wavRead walkRead
+    pub file-read : (d : WavData) → w ≡ at-end.Found d → (a : WavAnswer) (after : List Float) → wavLeft a after ≡ dataRead wav d samples → wavLeft a after
+        ≡ readWav wav samples
+    unfolding readWav walkRead
     file-read d q a after r = r ∙ rw (front, sym e ∙ q)
 
 pub found-fits : (wav : List ℕ) (w : WavWalk) (d : WavData) → w ≡ at-end.Found d → WalkFits wav w → DataFits wav d

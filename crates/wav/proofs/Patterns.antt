@@ -22,25 +22,25 @@ unfolding signedSample
 signed-above half p h = rw (le-ltb p half h)
 
 -- its size
-abbrev Sized : ℤ → Type 0
-Sized z = (natAbs z ≤ 8388608) × T (inFloat binary32 z)
+abbrev SignedBy : ℤ → Type 0
+SignedBy z = (natAbs z ≤ 8388608) × T (inFloat binary32 z)
 
-sized-pos : (n : ℕ) → n ≤ 8388608 → Sized (pos n)
+signed-pos : (n : ℕ) → n ≤ 8388608 → SignedBy (pos n)
 unfolding inFloat
-sized-pos n h = (h, le→leb n 16777216 (omega arith))
+signed-pos n h = (h, le→leb n 16777216 (omega arith))
 
-sized-neg : (n : ℕ) → n ≤ 8388608 → Sized (negℤ (pos n))
+signed-neg : (n : ℕ) → n ≤ 8388608 → SignedBy (negℤ (pos n))
 unfolding inFloat
-sized-neg zero h = sized-pos zero h
-sized-neg (suc n) h = (h, lt→ltb n 16777216 (omega arith))
+signed-neg zero h = signed-pos zero h
+signed-neg (suc n) h = (h, lt→ltb n 16777216 (omega arith))
 
-pub signed-in : (half p : ℕ) → half ≤ 8388608 → p < half + half → Sized (signedSample half p)
+pub signed-in : (half p : ℕ) → half ≤ 8388608 → p < half + half → SignedBy (signedSample half p)
 unfolding signedSample
 signed-in half p h q = go (ltb p half) (ltb-true p half) (ltb-false p half)
   where
-    go : (b : Bool) → (b ≡ true → p < half) → (b ≡ false → half ≤ p) → Sized (cond b (pos p) (negℤ (pos (half + half - p))))
-    go true t f = let k : p < half = t refl in sized-pos p (omega arith)
-    go false t f = let k : half ≤ p = f refl in sized-neg (half + half - p) (omega arith)
+    go : (b : Bool) → (b ≡ true → p < half) → (b ≡ false → half ≤ p) → SignedBy (cond b (pos p) (negℤ (pos (half + half - p))))
+    go true t f = let k : p < half = t refl in signed-pos p (omega arith)
+    go false t f = let k : half ≤ p = f refl in signed-neg (half + half - p) (omega arith)
 
 -- ---- a sample by its depth
 

@@ -16,7 +16,8 @@ use Rattle.rules_files.proofs.Samples.{whole-within, whole-finite}
 use Rattle.wav.specs.Inside.{SamplesInside}
 
 pub counted : (wav : List ℕ) (d : WavData) → d .body ≤ length wav → (present : ℕ) → present ≡ min (d .size) (length wav - d .body)
-    → (present / sampleWidth (d .format .depth) ≡ wholeSamples wav d) × (d .body + present / sampleWidth (d .format .depth) * sampleWidth (d .format .depth) ≤ length wav)
+    → (present / sampleWidth (d .format .depth) ≡ wholeSamples wav d)
+    × (d .body + present / sampleWidth (d .format .depth) * sampleWidth (d .format .depth) ≤ length wav)
 unfolding wholeSamples
 counted wav d h present e = rw e (refl, whole-within wav d h)
 
@@ -41,7 +42,8 @@ module _ (wav : List ℕ) (depth body : ℕ) where
 
   pub finite-whole : (n : ℕ) → (depth ≡ 32 → ⊥) → true ≡ allFinite wav depth body n
   unfolding allFinite sampleAt
-  finite-whole n h = sym (every-all (λ j. finite (sampleAt wav depth body j)) n (λ i _. whole-finite depth (lowAt wav (body + i * sampleWidth depth) (sampleWidth depth)) h))
+  finite-whole n h = sym (every-all (λ j. finite (sampleAt wav depth body j)) n
+      (λ i _. whole-finite depth (lowAt wav (body + i * sampleWidth depth) (sampleWidth depth)) h))
 
   -- a float by its pattern
   pub by-pattern : (k p : ℕ) → depth ≡ 32 → p ≡ lowAt wav (body + k * 4) 4 → finite (ofBits binary32 p) ≡ finite (sampleAt wav depth body k)

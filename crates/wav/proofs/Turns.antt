@@ -8,7 +8,8 @@ use borrow.Author.Tests.{le-leb, lt-leb, eq-eqb, ne-eqb}
 use lib.Dec.{eqb}
 use lib.ListN.{length}
 use Rattle.numbers.specs.Numbers.{ofLow}
-use Rattle.rules_files.specs.Wav.{lowAt, riffName, waveName, fmtName, dataName, isWave, defaultFormat, tellsFormat, formatIn, formatAfter, chunkName, chunkSize, walkChunks, walked}
+use Rattle.rules_files.specs.Wav.{lowAt, riffName, waveName, fmtName, dataName, isWave, defaultFormat, givesFormat, formatIn, formatAfter, chunkName, chunkSize}
+use Rattle.rules_files.specs.Wav.{walkChunks, walked}
 use Rattle.rules_files.specs.WavFits.{FormatFits, DataFits, WalkFits}
 use Rattle.rules_files.specs.declared.wav.WavFormat.{WavFormat}
 use Rattle.rules_files.specs.declared.wav.WavWalk.{WavWalk}
@@ -45,9 +46,9 @@ module _ (wav : List ℕ) where
     unfolding isWave
     wave-other n = rw (le-leb 44 (length wav) h, ← e, riff-is, ne-eqb riff 1179011410 n)
 
-    pub wave-told : riff ≡ 1179011410 → (wave : ℕ) → wave ≡ lowAt wav 8 4 → eqb wave 1163280727 ≡ isWave wav
+    pub wave-said : riff ≡ 1179011410 → (wave : ℕ) → wave ≡ lowAt wav 8 4 → eqb wave 1163280727 ≡ isWave wav
     unfolding isWave
-    wave-told q wave d = rw (le-leb 44 (length wav) h, ← e, ← d, riff-is, wave-is, eq-eqb riff 1179011410 q)
+    wave-said q wave d = rw (le-leb 44 (length wav) h, ← e, ← d, riff-is, wave-is, eq-eqb riff 1179011410 q)
 
 -- ---- a format
 
@@ -57,18 +58,18 @@ default-fits = record { channels = omega arith; rate = omega arith; depth = omeg
 
 module _ (wav : List ℕ) (name size body : ℕ) (f : WavFormat) where
   pub format-other : (name ≡ 544501094 → ⊥) → f ≡ formatAfter wav name size body f
-  unfolding formatAfter tellsFormat
+  unfolding formatAfter givesFormat
   format-other n = rw (fmt-is, ne-eqb name 544501094 n)
 
   module _ (e : name ≡ 544501094) where
     pub format-short : size < 16 → f ≡ formatAfter wav name size body f
-    unfolding formatAfter tellsFormat
+    unfolding formatAfter givesFormat
     format-short h = rw (fmt-is, eq-eqb name 544501094 e, lt-leb 16 size h)
 
-    pub format-told : 16 ≤ size → (a b c : ℕ) → a ≡ lowAt wav (body + 2) 2 → b ≡ lowAt wav (body + 4) 4 → c ≡ lowAt wav (body + 14) 2
+    pub format-said : 16 ≤ size → (a b c : ℕ) → a ≡ lowAt wav (body + 2) 2 → b ≡ lowAt wav (body + 4) 4 → c ≡ lowAt wav (body + 14) 2
         → record { channels = a; rate = b; depth = c } ≡ formatAfter wav name size body f
-    unfolding formatAfter tellsFormat formatIn
-    format-told h a b c p q r = rw (fmt-is, eq-eqb name 544501094 e, le-leb 16 size h, p, q, r)
+    unfolding formatAfter givesFormat formatIn
+    format-said h a b c p q r = rw (fmt-is, eq-eqb name 544501094 e, le-leb 16 size h, p, q, r)
 
 -- ---- a turn
 
@@ -84,9 +85,11 @@ module _ (wav : List ℕ) where
   unfolding WalkFits
   walk-over at f h t = (sym (walk-end wav at f h) ∙ t .2, tt)
 
-  module _ (at : ℕ) (f : WavFormat) (name size : ℕ) (h : at + 8 ≤ length wav) (p : name ≡ chunkName wav at) (q : size ≡ chunkSize wav at) (t : ToWalk wav at f) where
+  module _ (at : ℕ) (f : WavFormat) (name size : ℕ) (h : at + 8 ≤ length wav) (p : name ≡ chunkName wav at) (q : size ≡ chunkSize wav at)
+      (t : ToWalk wav at f) where
     pub walk-stops : name ≡ 1635017060 → size < 4294967296
-        → (at-end.Found (record { format = f; body = at + 8; size = size }) ≡ walked wav) × WalkFits wav (at-end.Found (record { format = f; body = at + 8; size = size }))
+        → (at-end.Found (record { format = f; body = at + 8; size = size }) ≡ walked wav)
+        × WalkFits wav (at-end.Found (record { format = f; body = at + 8; size = size }))
     unfolding WalkFits
     walk-stops e k = (
       rw q (sym (walk-found wav at f h (sym p ∙ e ∙ sym data-is)) ∙ t .2),
@@ -101,6 +104,7 @@ module _ (wav : List ℕ) where
       unfolding WalkFits
       walk-leaves k = (sym (walk-cut wav at f h not-data (subst (λ (n : ℕ). length wav - (at + 8) < n) q k)) ∙ t .2, tt)
 
-      pub walk-passes : size ≤ length wav - (at + 8) → (g : WavFormat) → g ≡ formatAfter wav name size (at + 8) f → FormatFits g → ToWalk wav (at + 8 + size + size % 2) g
+      pub walk-passes : size ≤ length wav - (at + 8) → (g : WavFormat) → g ≡ formatAfter wav name size (at + 8) f → FormatFits g
+          → ToWalk wav (at + 8 + size + size % 2) g
       walk-passes k g e fits =
           (omega arith, fits, rw (e, p, q) (sym (walk-next wav at f h not-data (subst (λ (n : ℕ). n ≤ length wav - (at + 8)) q k)) ∙ t .2))

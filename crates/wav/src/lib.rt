@@ -6,7 +6,7 @@ pub mod chunks;
 pub mod samples;
 
 ghost use mathlib.Core.Path.{_≡_};
-ghost use Rattle.rules_files.specs.Wav.{wavLeft, dataRead, wavRead};
+ghost use Rattle.rules_files.specs.Wav.{wavLeft, dataRead, readWav};
 ghost use Rattle.rules_files.specs.WavFits.{DataFits, TakeFits};
 use crate::chunks::find_data;
 use crate::chunks::is_wave;
@@ -55,7 +55,7 @@ fn read_data(wav: &[u8], found: WavData, samples: &mut [f32]) -> WavAnswer
 
 // A take from its WAV file: the samples into the lent buffer, and what they are.
 pub fn read_wav(wav: &[u8], samples: &mut [f32]) -> WavAnswer
-    ensures { λ r. ⌜ (wavLeft r (now (samples .exit)) ≡ wavRead (now (wav .entry)) (now (samples .entry))) × TakeFits r ⌝ }
+    ensures { λ r. ⌜ (wavLeft r (now (samples .exit)) ≡ readWav (now (wav .entry)) (now (samples .entry))) × TakeFits r ⌝ }
 {
     if !is_wave(wav) {
         return WavAnswer::NotWave;

@@ -1,5 +1,5 @@
 // A data chunk's samples: counted, judged, stored and noted: request A13.
-pub mod level;
+pub mod loudness;
 pub mod values;
 
 ghost use mathlib.Core.Path.{_≡_};
@@ -9,7 +9,7 @@ ghost use lib.ListN.{length};
 ghost use Rattle.buffers.specs.Walk.{build};
 ghost use Rattle.rules_files.specs.Wav.{isDepth, sampleWidth, wholeSamples, sampleAt, allFinite, noteOf};
 ghost use Rattle.wav.specs.Inside.{SamplesInside};
-use crate::samples::level::Level;
+use crate::samples::loudness::Loudness;
 use crate::samples::values::is_finite_pattern;
 use crate::samples::values::sample;
 use numbers::low::get_low;
@@ -69,13 +69,13 @@ pub fn take_samples(wav: &[u8], depth: usize, body: usize, samples: &mut [f32]) 
         × (r ≡ noteOf (build (sampleAt (now (wav .entry)) depth body) (length (now (samples .entry))))) ⌝ }
 {
     let width = depth / 8;
-    let mut level = Level::none();
+    let mut loudness = Loudness::none();
     let mut k = 0;
     while k < samples.len() {
         let x = sample(wav, body + k * width, depth);
         samples[k] = x;
-        level = level.with(x);
+        loudness = loudness.with(x);
         k += 1;
     }
-    level.note()
+    loudness.note()
 }

@@ -11,7 +11,7 @@ use lib.Ieee.{Float}
 use lib.ListN.{length}
 use Rattle.buffers.proofs.Tests.{cond-both}
 use Rattle.rules.specs.Refusals.{delivered}
-use Rattle.rules_files.specs.Wav.{isWave, isDepth, sampleWidth, wholeSamples, allFinite, walked, WavLeft, wavRefused, wavTaken, dataRead, walkRead, wavRead}
+use Rattle.rules_files.specs.Wav.{isWave, isDepth, sampleWidth, wholeSamples, allFinite, walked, WavLeft, wavRefused, wavTaken, dataRead, walkRead, readWav}
 use Rattle.rules_files.specs.declared.wav.WavData.{WavData}
 use Rattle.rules_files.specs.declared.wav.WavWalk.{WavWalk}
 use Rattle.rules_files.specs.declared.wav.WavWalk.the-variants as at-end
@@ -52,6 +52,6 @@ walk-bounds wav (at-end.Found d) samples = data-bounds wav d samples
 walk-bounds wav at-end.Ended samples = none wav samples 23
 
 pub taken-bound : (wav : List ℕ) (samples : List Float) (channels rate depth count : ℕ)
-    → wavRead wav samples .outcome ≡ delivered (channels ∷ rate ∷ depth ∷ count ∷ []) → 2 * count ≤ length wav
-unfolding wavRead
+    → readWav wav samples .outcome ≡ delivered (channels ∷ rate ∷ depth ∷ count ∷ []) → 2 * count ≤ length wav
+unfolding readWav
 taken-bound wav samples = cond-both (Bounds wav) (not (isWave wav)) (λ _. none wav samples 22) (λ _. walk-bounds wav (walked wav) samples)

@@ -15,7 +15,7 @@ use Rattle.rules.specs.Refusals.{Outcome, refused}
 use Rattle.rules.proofs.Answers.{never}
 use Rattle.rules_files.specs.Wav.{lowAt, isWave, chunkName, chunkSize, nextChunk, formatAfter, dataName, defaultFormat, walkChunks, walked}
 use Rattle.rules_files.specs.Wav.{isDepth, wholeSamples, allFinite}
-use Rattle.rules_files.specs.Wav.{WavLeft, wavRefused, wavTaken, dataRead, walkRead, wavRead}
+use Rattle.rules_files.specs.Wav.{WavLeft, wavRefused, wavTaken, dataRead, walkRead, readWav}
 use Rattle.rules_files.specs.declared.wav.WavFormat.{WavFormat}
 use Rattle.rules_files.specs.declared.wav.WavData.{WavData}
 use Rattle.rules_files.specs.declared.wav.WavWalk.{WavWalk}
@@ -120,8 +120,8 @@ module _ (wav : List ℕ) (samples : List Float) where
 
   -- what each end has, every end has
   pub wav-case : (P : WavLeft → Type 0) → ((IsWave wav → ⊥) → P (wavRefused 22 samples)) → (IsWave wav → WalkEnds wav → P (wavRefused 23 samples))
-      → ((d : WavData) → DataFound wav d → P (dataRead wav d samples)) → P (wavRead wav samples)
-  unfolding wavRead
+      → ((d : WavData) → DataFound wav d → P (dataRead wav d samples)) → P (readWav wav samples)
+  unfolding readWav
   wav-case P none ended found =
       cond-both P (not (isWave wav)) (λ a. none (λ w. clash (sym (not-true _ a) ∙ wave-true wav w)))
       (λ a. let w : IsWave wav = wave-facts wav (not-false _ a) in
@@ -131,17 +131,17 @@ module _ (wav : List ℕ) (samples : List Float) where
       clash q = let z : _≡_ {A = ℕ} 0 1 = cc in omega arith
 
   -- and back
-  to-data : (d : WavData) → DataFound wav d → wavRead wav samples ≡ dataRead wav d samples
-  unfolding wavRead walkRead
+  to-data : (d : WavData) → DataFound wav d → readWav wav samples ≡ dataRead wav d samples
+  unfolding readWav walkRead
   to-data d x = rw (wave-true wav (x .file), x .found)
 
-  to-end : IsWave wav → WalkEnds wav → wavRead wav samples ≡ wavRefused 23 samples
-  unfolding wavRead walkRead
+  to-end : IsWave wav → WalkEnds wav → readWav wav samples ≡ wavRefused 23 samples
+  unfolding readWav walkRead
   to-end w x = rw (wave-true wav w, walk-ends-exactly wav .1 x)
 
   -- 22 exactly where it is no WAV file
-  pub twenty-two-exactly : (wavRead wav samples .outcome ≡ refused 22 0) ↔ (IsWave wav → ⊥)
-  unfolding wavRead wavTaken
+  pub twenty-two-exactly : (readWav wav samples .outcome ≡ refused 22 0) ↔ (IsWave wav → ⊥)
+  unfolding readWav wavTaken
   twenty-two-exactly = (
     wav-case (λ x. x .outcome ≡ refused 22 0 → IsWave wav → ⊥) (λ a _. a) (λ _ _ e. other e refl)
         (λ d _. data-case wav d samples (λ x. x .outcome ≡ refused 22 0 → IsWave wav → ⊥) (λ _ e. other e refl) (λ _ _ e. other e refl)
@@ -157,7 +157,7 @@ module _ (wav : List ℕ) (samples : List Float) where
       no-wave = by (isWave wav) refl
 
   -- 23 exactly where it is one and the walk ends, or data is empty
-  pub twenty-three-exactly : (wavRead wav samples .outcome ≡ refused 23 0)
+  pub twenty-three-exactly : (readWav wav samples .outcome ≡ refused 23 0)
       ↔ (IsWave wav × (WalkEnds wav ⊎ ((d : WavData) × (walked wav ≡ at-end.Found d) × (d .size ≡ 0))))
   unfolding dataRead wavTaken
   twenty-three-exactly = (
@@ -170,12 +170,12 @@ module _ (wav : List ℕ) (samples : List Float) where
       Claim : WavLeft → Type 0
       Claim x = x .outcome ≡ refused 23 0 → IsWave wav × (WalkEnds wav ⊎ ((d : WavData) × (walked wav ≡ at-end.Found d) × (d .size ≡ 0)))
 
-      back : IsWave wav → WalkEnds wav ⊎ ((d : WavData) × (walked wav ≡ at-end.Found d) × (d .size ≡ 0)) → wavRead wav samples .outcome ≡ refused 23 0
+      back : IsWave wav → WalkEnds wav ⊎ ((d : WavData) × (walked wav ≡ at-end.Found d) × (d .size ≡ 0)) → readWav wav samples .outcome ≡ refused 23 0
       back w (inl x) = ap (λ (x : WavLeft). x .outcome) (to-end w x)
       back w (inr (d, e, none)) = ap (λ (x : WavLeft). x .outcome) (to-data d (record { file = w; found = e })) ∙ rw (eq-eqb _ _ none)
 
   -- 24 exactly where there is data of another depth
-  pub twenty-four-exactly : (wavRead wav samples .outcome ≡ refused 24 0) ↔ ((d : WavData) × SomeData wav d × (isDepth (d .format .depth) ≡ false))
+  pub twenty-four-exactly : (readWav wav samples .outcome ≡ refused 24 0) ↔ ((d : WavData) × SomeData wav d × (isDepth (d .format .depth) ≡ false))
   unfolding dataRead wavTaken
   twenty-four-exactly = (
     wav-case Claim (λ _ e. other e refl) (λ _ _ e. other e refl)
@@ -188,7 +188,7 @@ module _ (wav : List ℕ) (samples : List Float) where
       Claim x = x .outcome ≡ refused 24 0 → (d : WavData) × SomeData wav d × (isDepth (d .format .depth) ≡ false)
 
   -- 30 exactly where there are more than 16,777,216 whole samples of a known depth, whatever the buffer
-  pub thirty-exactly : (wavRead wav samples .outcome ≡ refused 30 0)
+  pub thirty-exactly : (readWav wav samples .outcome ≡ refused 30 0)
       ↔ ((d : WavData) × SomeData wav d × (isDepth (d .format .depth) ≡ true) × (16777216 < wholeSamples wav d))
   unfolding dataRead wavTaken
   thirty-exactly = (
@@ -203,7 +203,7 @@ module _ (wav : List ℕ) (samples : List Float) where
       Claim x = x .outcome ≡ refused 30 0 → (d : WavData) × SomeData wav d × (isDepth (d .format .depth) ≡ true) × (16777216 < wholeSamples wav d)
 
   -- 2 exactly where there are no more than that, and more than places
-  pub wav-two-exactly : (wavRead wav samples .outcome ≡ refused 2 0)
+  pub wav-two-exactly : (readWav wav samples .outcome ≡ refused 2 0)
       ↔ ((d : WavData) × SomeData wav d × (isDepth (d .format .depth) ≡ true) × (wholeSamples wav d ≤ 16777216) × (length samples < wholeSamples wav d))
   unfolding dataRead wavTaken
   wav-two-exactly = (
@@ -220,7 +220,7 @@ module _ (wav : List ℕ) (samples : List Float) where
           → (d : WavData) × SomeData wav d × (isDepth (d .format .depth) ≡ true) × (wholeSamples wav d ≤ 16777216) × (length samples < wholeSamples wav d)
 
   -- 25 exactly where all that is right and a sample is not finite
-  pub twenty-five-exactly : (wavRead wav samples .outcome ≡ refused 25 0)
+  pub twenty-five-exactly : (readWav wav samples .outcome ≡ refused 25 0)
       ↔ ((d : WavData) × SomeData wav d × (isDepth (d .format .depth) ≡ true) × (wholeSamples wav d ≤ 16777216) × (wholeSamples wav d ≤ length samples)
       × (allFinite wav (d .format .depth) (d .body) (wholeSamples wav d) ≡ false))
   unfolding dataRead wavTaken

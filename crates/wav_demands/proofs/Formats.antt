@@ -7,7 +7,7 @@ use native.Mathlib.Omega.{arith}
 use borrow.Author.Tests.{ltb-false, eqb-false}
 use lib.Dec.{eqb, ltb}
 use lib.ListN.{length}
-use Rattle.rules_files.specs.Wav.{chunkName, chunkSize, nextChunk, tellsFormat, formatAfter, dataName, walkChunks, walked, defaultFormat}
+use Rattle.rules_files.specs.Wav.{chunkName, chunkSize, nextChunk, givesFormat, formatAfter, dataName, walkChunks, walked, defaultFormat}
 use Rattle.rules_files.specs.declared.wav.WavFormat.{WavFormat}
 use Rattle.rules_files.specs.declared.wav.WavData.{WavData}
 use Rattle.rules_files.specs.declared.wav.WavWalk.{WavWalk}
@@ -19,7 +19,7 @@ pub data Reached (wav : List ℕ) : ℕ → Type 0 where
   passed : (pos : ℕ) → Reached wav pos → pos + 8 ≤ length wav → (chunkName wav pos ≡ dataName → ⊥) → chunkSize wav pos ≤ length wav - (pos + 8)
       → Reached wav (nextChunk wav pos)
 
-module _ (wav : List ℕ) (none : (pos : ℕ) → Reached wav pos → tellsFormat (chunkName wav pos) (chunkSize wav pos) ≡ false) where
+module _ (wav : List ℕ) (none : (pos : ℕ) → Reached wav pos → givesFormat (chunkName wav pos) (chunkSize wav pos) ≡ false) where
   same-format : (pos : ℕ) (f : WavFormat) → Reached wav pos → formatAfter wav (chunkName wav pos) (chunkSize wav pos) (pos + 8) f ≡ f
   unfolding formatAfter
   same-format pos f r = rw (none pos r)

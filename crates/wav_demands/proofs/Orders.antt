@@ -38,7 +38,8 @@ module _ (wav : List ℕ) (d : WavData) (samples : List Float) where
       (λ a. cond-both P (not (isDepth depth)) (λ b. deep (eqb-false _ _ a) (not-true _ b))
       (λ b. cond-both P (ltb 16777216 count) (λ c. many (eqb-false _ _ a) (not-false _ b) (ltb-true _ _ c))
       (λ c. cond-both P (ltb (length samples) count) (λ e. short (eqb-false _ _ a) (not-false _ b) (ltb-false _ _ c) (ltb-true _ _ e))
-      (λ e. cond-both P (not (allFinite wav depth (d .body) count)) (λ f. endless (eqb-false _ _ a) (not-false _ b) (ltb-false _ _ c) (ltb-false _ _ e) (not-true _ f))
+      (λ e. cond-both P (not (allFinite wav depth (d .body) count))
+      (λ f. endless (eqb-false _ _ a) (not-false _ b) (ltb-false _ _ c) (ltb-false _ _ e) (not-true _ f))
       (λ f. taken (eqb-false _ _ a) (not-false _ b) (ltb-false _ _ c) (ltb-false _ _ e) (not-false _ f))))))
 
   -- and back: more than 16,777,216 whole samples of a known depth are 30, whatever the buffer

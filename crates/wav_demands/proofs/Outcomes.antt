@@ -9,7 +9,8 @@ use lib.Ieee.{Float, nan}
 use lib.ListN.{length, getD}
 use Rattle.buffers.proofs.Tests.{cond-both}
 use Rattle.rules.specs.Refusals.{Outcome, delivered, refused}
-use Rattle.rules_files.specs.Wav.{isWave, isDepth, wholeSamples, allFinite, walked, wavOutcome, wavNote, WavLeft, wavLeft, wavRefused, wavTaken, dataRead, walkRead, wavRead}
+use Rattle.rules_files.specs.Wav.{isWave, isDepth, wholeSamples, allFinite, walked, wavOutcome, wavNote, WavLeft, wavLeft, wavRefused, wavTaken, dataRead}
+use Rattle.rules_files.specs.Wav.{walkRead, readWav}
 use Rattle.rules_files.specs.declared.wav.WavData.{WavData}
 use Rattle.rules_files.specs.declared.wav.WavWalk.{WavWalk}
 use Rattle.rules_files.specs.declared.wav.WavWalk.the-variants as at-end
@@ -43,9 +44,9 @@ walk-leaves wav (at-end.Found d) samples = data-leaves wav d samples
 walk-leaves wav at-end.Ended samples = leaves samples 23
 
 -- Every refusal has 0 beside it and leaves the samples; it has no note.
-pub wav-refused : (wav : List ℕ) (samples : List Float) (number beside : ℕ) → wavRead wav samples .outcome ≡ refused number beside
-    → (beside ≡ 0) × (wavRead wav samples .note ≡ []) × (wavRead wav samples .samples ≡ samples)
-unfolding wavRead
+pub wav-refused : (wav : List ℕ) (samples : List Float) (number beside : ℕ) → readWav wav samples .outcome ≡ refused number beside
+    → (beside ≡ 0) × (readWav wav samples .note ≡ []) × (readWav wav samples .samples ≡ samples)
+unfolding readWav
 wav-refused wav samples = cond-both (Leaves samples) (not (isWave wav)) (λ _. leaves samples 22) (λ _. walk-leaves wav (walked wav) samples)
 
 -- ---- an answer is known by its number and its note
@@ -59,21 +60,25 @@ answerOf (delivered ns) xs =
       count = getD ns 3 0;
       note = record { peak = getD xs 0 nan; mean = getD xs 1 nan };
     })
-answerOf (refused n k) xs = getD (wav-of.ShortBuffer ∷ []) (n - 2) (getD (wav-of.NotWave ∷ wav-of.NoData ∷ wav-of.BadDepth ∷ wav-of.NotFinite ∷ []) (n - 22) wav-of.TooMany)
+answerOf (refused n k) xs = getD (wav-of.ShortBuffer ∷ []) (n - 2)
+    (getD (wav-of.NotWave ∷ wav-of.NoData ∷ wav-of.BadDepth ∷ wav-of.NotFinite ∷ []) (n - 22) wav-of.TooMany)
 
-answer-told : (a : WavAnswer) → answerOf (wavOutcome a) (wavNote a) ≡ a
+answer-said : (a : WavAnswer) → answerOf (wavOutcome a) (wavNote a) ≡ a
 unfolding wavOutcome wavNote answerOf
-answer-told (wav-of.Taken t) = refl
-answer-told wav-of.NotWave = refl
-answer-told wav-of.NoData = refl
-answer-told wav-of.BadDepth = refl
-answer-told wav-of.TooMany = refl
-answer-told wav-of.ShortBuffer = refl
-answer-told wav-of.NotFinite = refl
+answer-said (wav-of.Taken t) = refl
+answer-said wav-of.NotWave = refl
+answer-said wav-of.NoData = refl
+answer-said wav-of.BadDepth = refl
+answer-said wav-of.TooMany = refl
+answer-said wav-of.ShortBuffer = refl
+answer-said wav-of.NotFinite = refl
 
 -- Two answers, with what they leave, that the contract allows are the same.
 pub wav-once : (wav : List ℕ) (before : List Float) (a b : WavAnswer) (xs ys : List Float)
-    → wavLeft a xs ≡ wavRead wav before → wavLeft b ys ≡ wavRead wav before → (a ≡ b) × (xs ≡ ys)
+    → wavLeft a xs ≡ readWav wav before → wavLeft b ys ≡ readWav wav before → (a ≡ b) × (xs ≡ ys)
 wav-once wav before a b xs ys p q =
-    let z : wavLeft a xs ≡ wavLeft b ys = p ∙ sym q in
-    (sym (answer-told a) ∙ ap₂ answerOf (ap (λ (x : WavLeft). x .outcome) z) (ap (λ (x : WavLeft). x .note) z) ∙ answer-told b, ap (λ (x : WavLeft). x .samples) z)
+    let z : wavLeft a xs ≡ wavLeft b ys = p ∙ sym q in (
+      sym (answer-said a) ∙ ap₂ answerOf (ap (λ (x : WavLeft). x .outcome) z) (ap (λ (x : WavLeft). x .note) z)
+          ∙ answer-said b,
+      ap (λ (x : WavLeft). x .samples) z,
+    )

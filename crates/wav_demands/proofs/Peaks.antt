@@ -46,7 +46,8 @@ not-below-itself (fin true m e) h = absurd h
 
 not-both : (a b : Float) → Magnitude a → Magnitude b → lt a b ≡ true → lt b a ≡ false
 unfolding lt
-not-both (fin false m e) (fin false n d) h k t = le-ltb (n * up d * down e) (m * up e * down d) (omega (arith, ltb-true (m * up e * down d) (n * up d * down e) t))
+not-both (fin false m e) (fin false n d) h k t = le-ltb (n * up d * down e) (m * up e * down d)
+    (omega (arith, ltb-true (m * up e * down d) (n * up d * down e) t))
 not-both nan b h k t = absurd h
 not-both (inf s) b h k t = absurd h
 not-both (fin true m e) b h k t = absurd h

@@ -13,7 +13,8 @@ use Rattle.numbers.specs.Numbers.{ofLow}
 use Rattle.rules.specs.Refusals.{Outcome, delivered, refused}
 use Rattle.rules_files.specs.declared.wav.WavData.{WavData}
 use Rattle.rules_files.specs.declared.wav.WavAnswer.the-variants as wav-of
-use Rattle.rules_files.specs.Wav.{wavOutcome, wavRefused, isWave, defaultFormat, tellsFormat, formatIn, formatAfter, walkChunks, isDepth, wholeSamples, overPower, signedSample, sampleOf, sampleAt, allFinite, noteOf, wavTaken, dataRead, walkRead, wavRead}
+use Rattle.rules_files.specs.Wav.{wavOutcome, wavRefused, isWave, defaultFormat, givesFormat, formatIn, formatAfter, walkChunks, isDepth, wholeSamples}
+use Rattle.rules_files.specs.Wav.{overPower, signedSample, sampleOf, sampleAt, allFinite, noteOf, wavTaken, dataRead, walkRead, readWav}
 
 -- ---- files from their chunks
 
@@ -47,7 +48,7 @@ saw outcome note left = record { outcome = outcome; note = note; left = left }
 
 abbrev seen : Call → Seen
 seen c =
-    let x = wavRead (c .wav) (replicate (c .places) zeroF) in
+    let x = readWav (c .wav) (replicate (c .places) zeroF) in
     saw (x .outcome) (map (toBits binary32) (x .note)) (map (toBits binary32) (x .samples))
 
 -- ---- the files
@@ -104,8 +105,8 @@ pub worked : map seen calls
     saw (refused 25 0) [] (0 ∷ []) ∷
     []
 unfolding ofLow build every absF maxF meanF mean noAverage withOne ofBits toBits lt add div ofInt
-    isWave defaultFormat tellsFormat formatIn formatAfter walkChunks isDepth wholeSamples overPower signedSample sampleOf sampleAt allFinite
-    noteOf wavTaken dataRead walkRead wavRead
+    isWave defaultFormat givesFormat formatIn formatAfter walkChunks isDepth wholeSamples overPower signedSample sampleOf sampleAt allFinite
+    noteOf wavTaken dataRead walkRead readWav
 worked = refl
 
 -- ---- the corners of the walk and of the marks
@@ -150,8 +151,8 @@ pub worked-corners : map seen corners
     saw (refused 2 0) [] (0 ∷ []) ∷
     []
 unfolding ofLow build every absF maxF meanF mean noAverage withOne ofBits toBits lt add div ofInt
-    isWave defaultFormat tellsFormat formatIn formatAfter walkChunks isDepth wholeSamples overPower signedSample sampleOf sampleAt allFinite
-    noteOf wavTaken dataRead walkRead wavRead
+    isWave defaultFormat givesFormat formatIn formatAfter walkChunks isDepth wholeSamples overPower signedSample sampleOf sampleAt allFinite
+    noteOf wavTaken dataRead walkRead readWav
 worked-corners = refl
 
 -- ---- refusal 30: 16,777,216 whole samples are taken, one more is not, whatever the buffer

@@ -14,7 +14,8 @@ use Rattle.widths.specs.declared.Width.{Width}
 use Rattle.widths.specs.declared.Lengths.{Lengths}
 use Rattle.widths.specs.declared.Walk.{Walk}
 use Rattle.widths.specs.Walks.{EachWidth, Short, laterBits, firstWalk, walkOn, orLess, chosenOf}
-use Rattle.widths.proofs.Costs.{costPast, cost-start, cost-next, cost-end, zero-next, zero-end, Best, best-none, best-less, best-same, best-all, best-zero}
+use Rattle.widths.proofs.Costs.{costPast, cost-start, cost-next, cost-end, zero-next, zero-end, Best, best-none, best-less, best-same, best-all}
+use Rattle.widths.proofs.Costs.{best-zero}
 
 -- the length m of width d after the factor at j: with what the factors past j cost it is the whole cost
 abbrev pub Length : (fs : List ℕ) (n j d m : ℕ) → Type 0

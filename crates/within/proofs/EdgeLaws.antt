@@ -69,7 +69,8 @@ module _ (x y : Float) (k : Next x y) where
   between-none : (v : Float) → T (fits binary32 v) → T (positive v) → (T (le y v) → ⊥) → T (le v x)
   between-none v f p n =
       let h : toBits binary32 v ≤ toBits binary32 x =
-      not-above (λ l. n (le-of-bits y v (k .y-fits) (k .y-positive) (k .y-low) f (is-above v p) (subst (λ (b : ℕ). b ≤ toBits binary32 v) (sym (k .one)) (next _ _ l)))) in
+      not-above (λ l. n (le-of-bits y v (k .y-fits) (k .y-positive) (k .y-low) f (is-above v p)
+      (subst (λ (b : ℕ). b ≤ toBits binary32 v) (sym (k .one)) (next _ _ l)))) in
       le-of-bits v x f p (below _ _ _ h (k .x-low)) (k .x-fits) (is-above x (k .x-positive)) h
     where
       next : (a b : ℕ) → a < b → a + 1 ≤ b
@@ -99,7 +100,8 @@ not-upper-below x y k v f t n = go x y v k f t n
     turned-back true = refl
     turned-back false = refl
 
-    step : (a : ℕ) (b : ℤ) (c : ℕ) (d : ℤ) (s : Bool) (m : ℕ) (e : ℤ) → Next (fin false c d) (fin false a b) → T (fits binary32 (fin s m e)) → (T (le (fin true c d) (fin s m e)) → ⊥) → T (le (fin s m e) (fin true a b))
+    step : (a : ℕ) (b : ℤ) (c : ℕ) (d : ℤ) (s : Bool) (m : ℕ) (e : ℤ) → Next (fin false c d) (fin false a b) → T (fits binary32 (fin s m e))
+        → (T (le (fin true c d) (fin s m e)) → ⊥) → T (le (fin s m e) (fin true a b))
     step a b c d s m e k f n = by (le (fin false a b) (fin (not s) m e)) refl
       where
         by : (q : Bool) → le (fin false a b) (fin (not s) m e) ≡ q → T (le (fin s m e) (fin true a b))

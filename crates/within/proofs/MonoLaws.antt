@@ -1,7 +1,8 @@
 -- A larger scaled value gives no smaller scaled x step + (step + 1), with its two roundings. Assumes nothing.
 use mathlib.Core.Path.{_≡_, refl, sym, ap, _∙_, subst}
 use Prim.Native.Nat.{ℕ, zero, suc, _+_, _-_, _*_, _^_, _≤_, _<_}
-use native.Mathlib.Nat.{le-trans, le-of-eq, mul-pos, mul-comm, mul-assoc, mul-left-comm, mul-right-comm, mul-le-mul-right, zero-lt-suc, mul-sub, mul-add, zero-mul, lt-of-le-of-lt, lt-of-mul-lt-mul-right, mul-lt-mul-of-pos-right}
+use native.Mathlib.Nat.{le-trans, le-of-eq, mul-pos, mul-comm, mul-assoc, mul-left-comm, mul-right-comm, mul-le-mul-right, zero-lt-suc, mul-sub, mul-add}
+use native.Mathlib.Nat.{zero-mul, lt-of-le-of-lt, lt-of-mul-lt-mul-right, mul-lt-mul-of-pos-right}
 use native.Mathlib.Omega.{arith}
 use mathlib.Core.Bool.{Bool, true, false, _&&_, _||_, cond}
 use lib.Dec.{T, ltb, eqb, ltb→lt, lt→ltb, eqb→eq}
@@ -137,9 +138,12 @@ module _ (f : Format) (N G : ℕ) (GP : 0 < G) where
   abbrev P : ℕ → ℕ → Float
   P A E = round f false (A * N) (E * G)
 
-  ord-mul : (t u : Bool) (A E B F : ℕ) → 0 < E → 0 < F → Pos (P A E) → Pos (P B F) → Ord t A E u B F → Ord t (num (P A E)) (den (P A E)) u (num (P B F)) (den (P B F))
-  ord-mul false false A E B F EP FP p q h = le→cross (P A E) (P B F) p q (round-mono f (A * N) (E * G) (B * N) (F * G) (mul-pos EP GP) (mul-pos FP GP) (wider A E B F N G h))
-  ord-mul true true A E B F EP FP p q h = le→cross (P B F) (P A E) q p (round-mono f (B * N) (F * G) (A * N) (E * G) (mul-pos FP GP) (mul-pos EP GP) (wider B F A E N G h))
+  ord-mul : (t u : Bool) (A E B F : ℕ) → 0 < E → 0 < F → Pos (P A E) → Pos (P B F) → Ord t A E u B F
+      → Ord t (num (P A E)) (den (P A E)) u (num (P B F)) (den (P B F))
+  ord-mul false false A E B F EP FP p q h = le→cross (P A E) (P B F) p q
+      (round-mono f (A * N) (E * G) (B * N) (F * G) (mul-pos EP GP) (mul-pos FP GP) (wider A E B F N G h))
+  ord-mul true true A E B F EP FP p q h = le→cross (P B F) (P A E) q p
+      (round-mono f (B * N) (F * G) (A * N) (E * G) (mul-pos FP GP) (mul-pos EP GP) (wider B F A E N G h))
   ord-mul true false A E B F EP FP p q h = tt
   ord-mul false true A E B F EP FP p q h = (zero-at A E EP (h .0), zero-at B F FP (h .1))
     where
@@ -218,7 +222,8 @@ mul-is f t m e (fin true n d) p = absurd p
 mul-is f true m e (fin false n d) p = refl
 mul-is f false m e (fin false n d) p = refl
 
-add-is : (f : Format) (t : Bool) (v c : Float) → Pos v → Pos c → num v * den c < num c * den v → add f (signed t v) c ≡ round f false (shifted t (num c * den v) (num v * den c)) (den v * den c)
+add-is : (f : Format) (t : Bool) (v c : Float) → Pos v → Pos c → num v * den c < num c * den v → add f (signed t v) c
+    ≡ round f false (shifted t (num c * den v) (num v * den c)) (den v * den c)
 unfolding add
 add-is f t nan c p q h = absurd p
 add-is f t (inf s) c p q h = absurd p
@@ -230,7 +235,8 @@ add-is f false (fin false m e) (fin false n d) p q h = refl
 add-is f true (fin false m e) (fin false n d) p q h = go (ltb (m * up e * down d) (n * up d * down e)) (lt→ltb (m * up e * down d) (n * up d * down e) h)
   where
     go : (b : Bool) → T b
-        → cond b (round f false (n * up d * down e - m * up e * down d) (down e * down d)) (round f (true && ltb (n * up d * down e) (m * up e * down d)) (m * up e * down d - n * up d * down e) (down e * down d))
+        → cond b (round f false (n * up d * down e - m * up e * down d) (down e * down d))
+        (round f (true && ltb (n * up d * down e) (m * up e * down d)) (m * up e * down d - n * up d * down e) (down e * down d))
         ≡ round f false (n * up d * down e - m * up e * down d) (down e * down d)
     go true t = refl
     go false t = absurd t
@@ -331,9 +337,11 @@ module _ (s c : Float) (sp : Pos s) (cp : Pos c) (g : T (good s c)) where
   sum-mono t u m e n d h k l =
       let v = round binary32 false (m * up e * num s) (down e * den s) in
       let w = round binary32 false (n * up d * num s) (down d * den s) in
-      round-mono binary32 (shifted t (num c * den v) (num v * den c)) (den v * den c) (shifted u (num c * den w) (num w * den c)) (den w * den c) (mul-pos (den-pos v) (den-pos c)) (mul-pos (den-pos w) (den-pos c))
+      round-mono binary32 (shifted t (num c * den v) (num v * den c)) (den v * den c) (shifted u (num c * den w) (num w * den c)) (den w * den c)
+      (mul-pos (den-pos v) (den-pos c)) (mul-pos (den-pos w) (den-pos c))
       (ord-add (num c) (den c) (num v) (den v) (num w) (den w) t u
-      (ord-mul binary32 (num s) (den s) (den-pos s) t u (m * up e) (down e) (n * up d) (down d) (down-pos e) (down-pos d) (V-pos (m * up e) (down e) (down-pos e) h) (V-pos (n * up d) (down d) (down-pos d) k) (le→ord t u m e n d l)))
+      (ord-mul binary32 (num s) (den s) (den-pos s) t u (m * up e) (down e) (n * up d) (down d) (down-pos e) (down-pos d)
+      (V-pos (m * up e) (down e) (down-pos e) h) (V-pos (n * up d) (down d) (down-pos d) k) (le→ord t u m e n d l)))
 
 -- ---- one step: what is asked of it, on closed values
 unfoldable pub okStep : Float → Bool
@@ -343,7 +351,8 @@ okStep s = clear s && (clear (add binary32 s oneF) && good s (add binary32 s one
 abbrev pub argument : Float → Float → Float
 argument s x = add binary32 (mul binary32 x s) (add binary32 s oneF)
 
-pub argument-mono : (s : Float) → T (okStep s) → (t u : Bool) (m : ℕ) (e : ℤ) (n : ℕ) (d : ℤ) → m * up e ≤ down e → n * up d ≤ down d → T (le (fin t m e) (fin u n d)) → T (le (argument s (fin t m e)) (argument s (fin u n d)))
+pub argument-mono : (s : Float) → T (okStep s) → (t u : Bool) (m : ℕ) (e : ℤ) (n : ℕ) (d : ℤ) → m * up e ≤ down e → n * up d ≤ down d
+    → T (le (fin t m e) (fin u n d)) → T (le (argument s (fin t m e)) (argument s (fin u n d)))
 unfolding okStep
 argument-mono s ok t u m e n d p q l =
     let c = add binary32 s oneF in

@@ -13,7 +13,7 @@ use lib.Seq.{getD-take, getD-drop}
 use Rattle.buffers.specs.Walk.{build, blocks}
 use Rattle.buffers.proofs.Build.{length-build, build-at}
 use Rattle.floats.specs.Single.{zeroF}
-use Rattle.rules.specs.Layout.{spectrumLength, codedAt, part}
+use Rattle.rules.specs.Layout.{spectrumLength, codedCountAt, part}
 use Rattle.rules.specs.Factor.{allFactors, channelFactors, bandFactor}
 use Rattle.rules.specs.Scaling.{scaledValue, scaledBand, channelScaled, allScaled}
 use Rattle.rules.specs.Stage.{StageLent, badSpectrum}
@@ -54,19 +54,19 @@ module _ (l : Layout) (t : StageLent) (good : Good l t) (c b s : ℕ) (h : c < l
   factor-at : getD (part 128 (factorsOf l t) c) b 0 ≤ 63
   unfolding allFactors channelFactors
   factor-at =
-      let channel : ℕ → List ℕ = λ i. channelFactors (part 1024 spectra i) (codedAt l i) in
+      let channel : ℕ → List ℕ = λ i. channelFactors (part 1024 spectra i) (codedCountAt l i) in
       let e = ap (λ xs. getD xs b 0) (block-part channel 128 (l .channels) c (λ i _. factors-size _ _) h)
-      ∙ build-at (bandFactor (part 1024 spectra c) (codedAt l c)) 128 b 0 g in
-      rw e (band-held (part 1024 spectra c) (codedAt l c) b)
+      ∙ build-at (bandFactor (part 1024 spectra c) (codedCountAt l c)) 128 b 0 g in
+      rw e (band-held (part 1024 spectra c) (codedCountAt l c) b)
 
   -- so a band of the stage is counted by zones, never by the quantizer's marks
   pub stage-within : Within (getD (part 1024 (scaledOf l t) c) (b * 8 + s) nan)
   unfolding allScaled
   stage-within =
-      let channel : ℕ → List Float = λ i. channelScaled (part 1024 spectra i) (part 128 (factorsOf l t) i) (codedAt l i) in
+      let channel : ℕ → List Float = λ i. channelScaled (part 1024 spectra i) (part 128 (factorsOf l t) i) (codedCountAt l i) in
       let e = ap (λ xs. getD xs (b * 8 + s) nan) (block-part channel 1024 (l .channels) c (λ i _. scaled-size _ _ _) h)
-      ∙ scaled-at (part 1024 spectra c) (part 128 (factorsOf l t) c) (codedAt l c) b s g k in
-      subst Within (sym e) (go (ltb b (codedAt l c)))
+      ∙ scaled-at (part 1024 spectra c) (part 128 (factorsOf l t) c) (codedCountAt l c) b s g k in
+      subst Within (sym e) (go (ltb b (codedCountAt l c)))
     where
       go : (p : Bool) → Within (cond p (scaledValue (getD (part 128 (factorsOf l t) c) b 0) (getD (part 1024 spectra c) (s * 128 + b) nan)) zeroF)
       go true = scaled-within _ factor-at _ finite-at

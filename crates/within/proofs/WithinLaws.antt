@@ -1,4 +1,5 @@
--- Within the clip, scaled x step + (step + 1) lies from 1 up to below 4,096, and no code is held: it grows with the scaled value, and the two ends are computed for each resolution. Assumes nothing.
+-- Within the clip, scaled x step + (step + 1) lies from 1 up to below 4,096, and no code is held: it grows with the scaled value, and the two ends are computed
+-- for each resolution. Assumes nothing.
 use mathlib.Core.Path.{_≡_, refl, sym, ap, _∙_, subst}
 use Prim.Native.Nat.{ℕ, zero, suc, _+_, _-_, _*_, _/_, _≤_, _<_, min, zero-le}
 use native.Mathlib.Nat.{le-of-eq, mul-one, mul-right-comm, lt-of-le-of-lt, lt-of-lt-of-le, lt-of-mul-lt-mul-right, mul-lt-mul-of-pos-right, div-lt-iff-lt-mul}
@@ -132,7 +133,12 @@ module _ (r : ℕ) (E : Ends r) where
 
     -- the truncated number lies between those of the ends
     code-from : natAbs (stepShift r) ≤ num (Y r x) / den (Y r x) + under r
-    code-from = omega (arith, E .low-code, div-mono (num (Y r bottom)) (den (Y r bottom)) (num (Y r x)) (den (Y r x)) (den-pos (Y r bottom)) (den-pos (Y r x)) from-low)
+    code-from = omega (
+      arith,
+      E .low-code,
+      div-mono (num (Y r bottom)) (den (Y r bottom)) (num (Y r x)) (den (Y r x)) (den-pos (Y r bottom)) (den-pos (Y r x))
+          from-low,
+    )
 
     code-to : num (Y r x) / den (Y r x) ≤ natAbs (stepShift r) + over r
     code-to = omega (arith, E .high-code, div-mono (num (Y r x)) (den (Y r x)) (num (Y r top)) (den (Y r top)) (den-pos (Y r x)) (den-pos (Y r top)) to-high)
@@ -199,11 +205,13 @@ held-in : (p q a s : ℕ) → s ≤ a + p → a ≤ s + q → heldZ (negℤ (pos
 held-in p q a zero h k = held-pos p q (a + 0) (omega arith)
 held-in p q a (suc s) h k = go (ltb a (suc s)) (ltb→lt a (suc s)) (nltb→le a (suc s))
   where
-    go : (t : Bool) → (T t → a < suc s) → (T (not t) → suc s ≤ a) → heldZ (negℤ (pos p)) (pos q) (cond t (negsuc (suc s - suc a)) (pos (a - suc s))) ≡ cond t (negsuc (suc s - suc a)) (pos (a - suc s))
+    go : (t : Bool) → (T t → a < suc s) → (T (not t) → suc s ≤ a) → heldZ (negℤ (pos p)) (pos q) (cond t (negsuc (suc s - suc a)) (pos (a - suc s)))
+        ≡ cond t (negsuc (suc s - suc a)) (pos (a - suc s))
     go true f g = let b = f tt in held-neg p q (suc s - suc a) (omega arith)
     go false f g = let b = g tt in held-pos p q (a - suc s) (omega arith)
 
-either-range : (b : Bool) (L : ℕ) (z : ℤ) → heldZ (negℤ (pos (cond b 8 L))) (pos (cond b 7 L)) z ≡ z → cond b (heldZ (negsuc 7) (pos 7) z) (heldZ (negℤ (pos L)) (pos L) z) ≡ z
+either-range : (b : Bool) (L : ℕ) (z : ℤ) → heldZ (negℤ (pos (cond b 8 L))) (pos (cond b 7 L)) z ≡ z
+    → cond b (heldZ (negsuc 7) (pos 7) z) (heldZ (negℤ (pos L)) (pos L) z) ≡ z
 either-range true L z e = e
 either-range false L z e = e
 
@@ -213,6 +221,7 @@ never-held r h x w =
     let E = ends-at r h in
     let a = num (Y r x) / den (Y r x) in
     let s = natAbs (stepShift r) in
-    let z : rawCode r x ≡ pos a -ℤ pos s = ap (λ (n : ℤ). n -ℤ stepShift r) (cut-is (Y r x) (y-pos r E x w) (y-short r E x w)) ∙ ap (λ (n : ℤ). pos a -ℤ n) (shift-nat r h .0) in
+    let z : rawCode r x ≡ pos a -ℤ pos s = ap (λ (n : ℤ). n -ℤ stepShift r) (cut-is (Y r x) (y-pos r E x w) (y-short r E x w))
+    ∙ ap (λ (n : ℤ). pos a -ℤ n) (shift-nat r h .0) in
     either-range (ltb r 8) (codeLimit r) (rawCode r x)
     (subst (λ (n : ℤ). heldZ (negℤ (pos (under r))) (pos (over r)) n ≡ n) (sym z) (held-in (under r) (over r) a s (code-from r E x w) (code-to r E x w)))

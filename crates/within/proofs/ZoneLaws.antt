@@ -62,7 +62,8 @@ to-false : (b : Bool) → (T b → ⊥) → b ≡ false
 to-false true f = absurd (f tt)
 to-false false f = refl
 
-reached-from : (r : ℕ) → r ≤ 15 → (mark from before : Float) → Edge r mark from before → (x : Float) → T (fits binary32 x) → Within x → le mark (Y r x) ≡ le from x
+reached-from : (r : ℕ) → r ≤ 15 → (mark from before : Float) → Edge r mark from before → (x : Float) → T (fits binary32 x) → Within x → le mark (Y r x)
+    ≡ le from x
 reached-from r h mark from before E x f w = go (le from x) refl
   where
     P : (z : Float) → Within z → T (positive (Y r z))
@@ -116,7 +117,8 @@ is-within x e = record { least = isTrue (and-fst (le (neg clip) x) _ e); most = 
 unfoldable edgeB : (r : ℕ) (mark from before : Float) → Bool
 edgeB r mark from before = (positive mark && (withinB from && withinB before)) && (le mark (Y r from) && not (le mark (Y r before)))
 
-edge : (r : ℕ) (mark from before : Float) → edgeB r mark from before ≡ true → ((v : Float) → T (fits binary32 v) → T (finite v) → (T (le from v) → ⊥) → T (le v before)) → Edge r mark from before
+edge : (r : ℕ) (mark from before : Float) → edgeB r mark from before ≡ true
+    → ((v : Float) → T (fits binary32 v) → T (finite v) → (T (le from v) → ⊥) → T (le v before)) → Edge r mark from before
 unfolding edgeB
 edge r mark from before e n =
     let a = and-fst (positive mark && (withinB from && withinB before)) _ e in
@@ -154,7 +156,8 @@ pastTest r =
     (eqb (dropAt r) (zoneDrop r) && (nextB clipBefore clip && edgeB r (wholeF (pastAt r)) clip clipBefore))
 
 all-edges : every (λ i. lowTest (suc i) && (highTest (suc i) && pastTest (suc i))) 7 ≡ true
-unfolding every nextB withinB edgeB zoneLow zoneHigh zoneDrop lowPattern highPattern nearAt farAt pastAt dropAt stepOf stepTable ofBits toBits fits neg add mul le ofInt
+unfolding every nextB withinB edgeB zoneLow zoneHigh zoneDrop lowPattern highPattern nearAt farAt pastAt dropAt stepOf stepTable ofBits toBits fits neg add mul
+    le ofInt
 all-edges = refl
 
 clip-within : Within clip
@@ -186,7 +189,8 @@ module _ (i : ℕ) (h : i < 7) where
     near-from =
         reached-from r few (wholeF (nearAt r)) (zoneLow r) (lowBefore r)
         (edge r (wholeF (nearAt r)) (zoneLow r) (lowBefore r) (and-snd (nextB (neg (zoneLow r)) (neg (lowBefore r))) _ low-ok)
-        (not-upper-below (lowBefore r) (zoneLow r) (are-next (neg (zoneLow r)) (neg (lowBefore r)) (and-fst (nextB (neg (zoneLow r)) (neg (lowBefore r))) _ low-ok))))
+        (not-upper-below (lowBefore r) (zoneLow r) (are-next (neg (zoneLow r)) (neg (lowBefore r))
+        (and-fst (nextB (neg (zoneLow r)) (neg (lowBefore r))) _ low-ok))))
         x f w
 
     pub far-from : le (wholeF (farAt r)) (Y r x) ≡ le (zoneHigh r) x

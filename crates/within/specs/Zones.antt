@@ -8,20 +8,20 @@ use lib.ListN.{getD}
 -- the least at which scaled x step + (step + 1) reaches near, and the least at which it reaches far: from the one to the other a value takes one bit less.
 -- At resolution 0 both are one value, and none takes a bit.
 unfoldable pub lowPattern : (resolution : ℕ) → ℕ
-lowPattern r = getD (0x00000000 ∷ 0xBEAAAAAC ∷ 0xBF19999A ∷ 0xBE124927 ∷ 0xBF471C72 ∷ 0xBEE8BA2F ∷ 0xBE6C4EC8 ∷ 0xBD88888D ∷ []) r 0
+lowPattern resolution = getD (0x00000000 ∷ 0xBEAAAAAC ∷ 0xBF19999A ∷ 0xBE124927 ∷ 0xBF471C72 ∷ 0xBEE8BA2F ∷ 0xBE6C4EC8 ∷ 0xBD88888D ∷ []) resolution 0
 
 unfoldable pub highPattern : (resolution : ℕ) → ℕ
-highPattern r = getD (0x00000000 ∷ 0x3EAAAAA8 ∷ 0x3F199998 ∷ 0x3E124920 ∷ 0x3F471C70 ∷ 0x3EE8BA2B ∷ 0x3E6C4EC0 ∷ 0x3D888880 ∷ []) r 0
+highPattern resolution = getD (0x00000000 ∷ 0x3EAAAAA8 ∷ 0x3F199998 ∷ 0x3E124920 ∷ 0x3F471C70 ∷ 0x3EE8BA2B ∷ 0x3E6C4EC0 ∷ 0x3D888880 ∷ []) resolution 0
 
 unfoldable pub zoneLow : (resolution : ℕ) → Float
-zoneLow r = ofBits binary32 (lowPattern r)
+zoneLow resolution = ofBits binary32 (lowPattern resolution)
 
 unfoldable pub zoneHigh : (resolution : ℕ) → Float
-zoneHigh r = ofBits binary32 (highPattern r)
+zoneHigh resolution = ofBits binary32 (highPattern resolution)
 
 -- what is taken off at the clip itself, where the code is one past its row
 unfoldable pub zoneDrop : (resolution : ℕ) → ℕ
-zoneDrop r = getD (0 ∷ 0 ∷ 3 ∷ 0 ∷ 4 ∷ 4 ∷ 0 ∷ 0 ∷ []) r 0
+zoneDrop resolution = getD (0 ∷ 0 ∷ 3 ∷ 0 ∷ 4 ∷ 4 ∷ 0 ∷ 0 ∷ []) resolution 0
 
 -- 1 where a value reaches the mark
 abbrev pub reachedF : (mark x : Float) → ℕ

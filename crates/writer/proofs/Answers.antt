@@ -8,13 +8,13 @@ use lib.Dec.{ltb}
 use lib.IntN.{ℤ}
 use lib.ListN.{length, take, drop, replicate, length-replicate, take-append-drop, drop-of-length-le}
 use lib.Seq.{length-take-le}
-use Rattle.rules.specs.Layout.{Sizes, frameSize, spectrumLength, factorLength, sideLength, legalLayout, roomOf, hasRoom}
+use Rattle.rules.specs.Layout.{LegalLayout, frameSize, spectrumLength, factorLength, sideLength, legalLayout, roomOf, hasRoom}
 use Rattle.rules.specs.Record.{Rec, recOf, legalRecord}
 use Rattle.rules.specs.Fields.{fields}
 use Rattle.rules.specs.Frame.{fieldEnd, frameOf}
 use Rattle.rules.specs.Refusals.{Outcome, delivered, refused, writerOutcome}
-use Rattle.rules.specs.Lent.{laid, noFrame}
-use Rattle.rules.specs.Writer.{WriterLeft, writerLent, writerLeft, lentRecord, recordWritten, written}
+use Rattle.rules.specs.Lent.{overwrite, noFrame}
+use Rattle.rules.specs.Writer.{WriterLeft, writerLent, writerLeft, lentRecord, recordWritten, writeRecord}
 use Rattle.rules.specs.declared.Layout.{Layout}
 use Rattle.rules.specs.declared.WriteAnswer.{WriteAnswer}
 use Rattle.rules.specs.declared.WriteAnswer.the-variants.{BadLayout, ShortBuffer}
@@ -24,22 +24,24 @@ use Rattle.rules_demands.proofs.Demand3.{frame-length}
 -- ---- the gate
 
 module _ (l : Layout) (level boundary : ℕ) (F S : List ℕ) (C : List ℤ) (frame : List ℕ) where
-  pub gate-layout : legalLayout l ≡ false → writerLeft BadLayout frame ≡ written l (writerLent level boundary F S C frame)
-  unfolding written writerOutcome
+  pub gate-layout : legalLayout l ≡ false → writerLeft BadLayout frame ≡ writeRecord l (writerLent level boundary F S C frame)
+  unfolding writeRecord writerOutcome
   gate-layout e = rw e
 
   module _ (e : legalLayout l ≡ true) where
-    pub gate-short : hasRoom l (roomOf (length F) (length S) (length C) (length frame)) ≡ false → writerLeft ShortBuffer frame ≡ written l (writerLent level boundary F S C frame)
-    unfolding written writerOutcome
+    pub gate-short : hasRoom l (roomOf (length F) (length S) (length C) (length frame)) ≡ false → writerLeft ShortBuffer frame
+        ≡ writeRecord l (writerLent level boundary F S C frame)
+    unfolding writeRecord writerOutcome
     gate-short h = rw (e, h)
 
-    pub room-granted : hasRoom l (roomOf (length F) (length S) (length C) (length frame)) ≡ true → recordWritten l (writerLent level boundary F S C frame) ≡ written l (writerLent level boundary F S C frame)
-    unfolding written
+    pub room-granted : hasRoom l (roomOf (length F) (length S) (length C) (length frame)) ≡ true → recordWritten l (writerLent level boundary F S C frame)
+        ≡ writeRecord l (writerLent level boundary F S C frame)
+    unfolding writeRecord
     room-granted h = rw (e, h)
 
 -- ---- the run, on a frame of the stated length
 
-laid-exact : (new old : List ℕ) → length old ≤ length new → laid new old ≡ new
+laid-exact : (new old : List ℕ) → length old ≤ length new → overwrite new old ≡ new
 laid-exact new old h = rw (drop-of-length-le old h, append-nil new)
 
 blank-length : (l : Layout) → length (noFrame l) ≡ frameSize l
@@ -58,7 +60,7 @@ module _ (l : Layout) (level boundary : ℕ) (F S : List ℕ) (C : List ℤ) (fr
   run-illegal o f e = rw (f, e)
 
   -- what the packer answers and stores
-  module _ (z : Sizes l) (n : length frame ≡ frameSize l) (e : legalRecord l level boundary F S C ≡ true)
+  module _ (z : LegalLayout l) (n : length frame ≡ frameSize l) (e : legalRecord l level boundary F S C ≡ true)
       (count : ℕ) (bits : count ≡ length (fields l rec)) (bytes : List ℕ)
       (stored : bytes ≡ cond (ltb (fieldEnd l) count) (replicate (frameSize l) 0) (frameOf l rec)) where
     -- refusal 7 or a success, by the test that was made
@@ -66,10 +68,10 @@ module _ (l : Layout) (level boundary : ℕ) (F S : List ℕ) (C : List ℤ) (fr
         → left o bytes ≡ recordWritten l (writerLent level boundary F S C frame)
     unfolding recordWritten lentRecord
     run-by true h o f =
-        let is : bytes ≡ laid (noFrame l) frame = stored ∙ rw h (sym (laid-exact (noFrame l) frame (omega (arith, blank-length l)))) in
+        let is : bytes ≡ overwrite (noFrame l) frame = stored ∙ rw h (sym (laid-exact (noFrame l) frame (omega (arith, blank-length l)))) in
         rw (f, e, ← bits, h, is)
     run-by false h o f =
-        let is : bytes ≡ laid (frameOf l rec) frame = stored ∙ rw h (sym (laid-exact (frameOf l rec) frame (omega (arith, frame-length l z rec)))) in
+        let is : bytes ≡ overwrite (frameOf l rec) frame = stored ∙ rw h (sym (laid-exact (frameOf l rec) frame (omega (arith, frame-length l z rec)))) in
         rw (f, e, ← bits, h, is)
 
     pub run-ends : (o : Outcome) → o ≡ cond (ltb (fieldEnd l) count) (refused 7 count) (delivered (level ∷ boundary ∷ count ∷ []))
@@ -79,14 +81,14 @@ module _ (l : Layout) (level boundary : ℕ) (F S : List ℕ) (C : List ℤ) (fr
 -- ---- the cut: a longer frame's rest stays, and nothing past the stated lengths is looked at
 
 -- 2,048 are enough for the resolutions of 16 channels
-pub lent-resolutions : (l : Layout) → Sizes l → length {A = ℕ} (take (l .channels * 128) (replicate 2048 0)) ≡ l .channels * 128
+pub lent-resolutions : (l : Layout) → LegalLayout l → length {A = ℕ} (take (l .channels * 128) (replicate 2048 0)) ≡ l .channels * 128
 lent-resolutions l z = length-take-le (l .channels * 128) (replicate 2048 0) (omega arith)
 
 -- with a rest behind the frame
 abbrev behind : List ℕ → WriterLeft → WriterLeft
 behind rest x = record { outcome = x .outcome; frame = x .frame ++ rest }
 
-laid-front : (new old : List ℕ) (n : ℕ) → length new ≡ n → n ≤ length old → laid new (take n old) ++ drop n old ≡ laid new old
+laid-front : (new old : List ℕ) (n : ℕ) → length new ≡ n → n ≤ length old → overwrite new (take n old) ++ drop n old ≡ overwrite new old
 laid-front new old n e h =
     ap (λ xs. xs ++ drop n old) (laid-exact new (take n old) (omega (arith, length-take-le n old h)))
     ∙ ap (λ k. new ++ drop k old) (sym e)
@@ -99,20 +101,22 @@ behind-cond rest true u o₁ o₂ o₃ f₁ f₂ f₃ g₁ g₂ g₃ p q r = rw 
 behind-cond rest false true o₁ o₂ o₃ f₁ f₂ f₃ g₁ g₂ g₃ p q r = rw q
 behind-cond rest false false o₁ o₂ o₃ f₁ f₂ f₃ g₁ g₂ g₃ p q r = rw r
 
-module _ (l : Layout) (z : Sizes l) (level boundary : ℕ) (F S : List ℕ) (C : List ℤ) (frame : List ℕ) (h : frameSize l ≤ length frame) where
+module _ (l : Layout) (z : LegalLayout l) (level boundary : ℕ) (F S : List ℕ) (C : List ℤ) (frame : List ℕ) (h : frameSize l ≤ length frame) where
   cut-open : behind (drop (frameSize l) frame)
       (recordWritten l (writerLent level boundary (take (factorLength l) F) (take (sideLength l) S) (take (spectrumLength l) C) (take (frameSize l) frame)))
       ≡ recordWritten l (writerLent level boundary F S C frame)
   unfolding recordWritten lentRecord
   cut-open =
       rw (legal-front l level boundary F S C, record-front l level boundary F S C)
-      (behind-cond (drop (frameSize l) frame) (not (legalRecord l level boundary F S C)) (ltb (fieldEnd l) (length (fields l (recOf l level boundary F S C)))) _ _ _ _ _ _ _ _ _
+      (behind-cond (drop (frameSize l) frame) (not (legalRecord l level boundary F S C)) (ltb (fieldEnd l) (length (fields l (recOf l level boundary F S C)))) _
+      _ _ _ _ _ _ _ _
       (take-append-drop (frameSize l) frame)
       (laid-front (noFrame l) frame (frameSize l) (blank-length l) h)
       (laid-front (frameOf l (recOf l level boundary F S C)) frame (frameSize l) (frame-length l z (recOf l level boundary F S C)) h))
 
   -- as `cut` answers it
   pub parts-left : (answer : WriteAnswer) (left : List ℕ) →
-      writerLeft answer left ≡ recordWritten l (writerLent level boundary (take (factorLength l) F) (take (sideLength l) S) (take (spectrumLength l) C) (take (frameSize l) frame)) →
+      writerLeft answer left ≡ recordWritten l (writerLent level boundary (take (factorLength l) F) (take (sideLength l) S) (take (spectrumLength l) C)
+      (take (frameSize l) frame)) →
       writerLeft answer (left ++ drop (frameSize l) frame) ≡ recordWritten l (writerLent level boundary F S C frame)
   parts-left answer left e = ap (behind (drop (frameSize l) frame)) e ∙ cut-open

@@ -3,7 +3,7 @@ ghost use mathlib.Core.Path.{_≡_};
 ghost use mathlib.Core.Bool.{true};
 ghost use Prim.Native.Nat.{_+_, _*_, _^_, _≤_, _<_};
 ghost use lib.ListN.{length};
-ghost use Rattle.rules.specs.Layout.{Sizes, kindAt, sideWidth, part};
+ghost use Rattle.rules.specs.Layout.{LegalLayout, kindAt, sideWidth, part};
 ghost use Rattle.rules.specs.Resolution.{allResolutions};
 ghost use Rattle.rules.specs.Record.{legalSubframe, legalCodes, legalChannel, legalChannels, legalRecord};
 use crate::values::legal_code;
@@ -68,7 +68,7 @@ fn legal_channel(
     codes: &[i32],
     resolutions: &[u8],
 ) -> bool
-    requires { ⌜ Sizes layout ⌝ }
+    requires { ⌜ LegalLayout layout ⌝ }
     requires { ⌜ (channel < 16) × (length (now factors) ≡ 128) × (length (now side) ≡ 8) × (length (now codes) ≡ 1024) × (length (now resolutions) ≡ 128) ⌝ }
     ensures { λ r. ⌜ r ≡ legalChannel layout channel (now (factors .entry)) (now (side .entry)) (now (codes .entry)) (now (resolutions .entry)) ⌝ }
 {
@@ -109,7 +109,7 @@ fn legal_channels(
     codes: &[i32],
     resolutions: &[u8],
 ) -> bool
-    requires { ⌜ Sizes layout ⌝ }
+    requires { ⌜ LegalLayout layout ⌝ }
     requires { ⌜ (length (now factors) ≡ layout .channels * 128) × (length (now side) ≡ layout .channels * 8)
         × (length (now codes) ≡ layout .channels * 1024) × (length (now resolutions) ≡ layout .channels * 128) ⌝ }
     ensures { λ r. ⌜ r ≡ legalChannels layout (now (factors .entry)) (now (side .entry)) (now (codes .entry)) (now (resolutions .entry)) ⌝ }
@@ -143,7 +143,7 @@ pub fn is_legal(
     codes: &[i32],
     resolutions: &mut [u8],
 ) -> bool
-    requires { ⌜ Sizes layout ⌝ }
+    requires { ⌜ LegalLayout layout ⌝ }
     requires { ⌜ (length (now factors) ≡ layout .channels * 128) × (length (now side) ≡ layout .channels * 8)
         × (length (now codes) ≡ layout .channels * 1024) × (length (now resolutions) ≡ layout .channels * 128) ⌝ }
     ensures { λ r. ⌜ (r ≡ legalRecord layout level boundary (now (factors .entry)) (now (side .entry)) (now (codes .entry)))

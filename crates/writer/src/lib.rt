@@ -10,8 +10,8 @@ pub mod ending;
 ghost use mathlib.Core.Path.{_≡_};
 ghost use Prim.Native.Nat.{_*_};
 ghost use lib.ListN.{length};
-ghost use Rattle.rules.specs.Layout.{Sizes, frameSize, roomOf, Enough};
-ghost use Rattle.rules.specs.Writer.{writerLent, writerLeft, recordWritten, written};
+ghost use Rattle.rules.specs.Layout.{LegalLayout, frameSize, roomOf, HasRoom};
+ghost use Rattle.rules.specs.Writer.{writerLent, writerLeft, recordWritten, writeRecord};
 use crate::ending::answered;
 use crate::ending::not_legal;
 use crate::legality::is_legal;
@@ -34,7 +34,7 @@ fn write_exact(
     resolutions: &mut [u8],
     frame: &mut [u8],
 ) -> WriteAnswer
-    requires { ⌜ Sizes layout ⌝ }
+    requires { ⌜ LegalLayout layout ⌝ }
     requires { ⌜ (length (now factors) ≡ layout .channels * 128) × (length (now side) ≡ layout .channels * 8)
         × (length (now codes) ≡ layout .channels * 1024) × (length (now resolutions) ≡ layout .channels * 128)
         × (length (now frame) ≡ frameSize layout) ⌝ }
@@ -67,8 +67,8 @@ fn write_parts(
     codes: &[i32],
     frame: &mut [u8],
 ) -> WriteAnswer
-    requires { ⌜ Sizes layout ⌝ }
-    requires { ⌜ Enough layout (roomOf (length (now factors)) (length (now side)) (length (now codes)) (length (now frame))) ⌝ }
+    requires { ⌜ LegalLayout layout ⌝ }
+    requires { ⌜ HasRoom layout (roomOf (length (now factors)) (length (now side)) (length (now codes)) (length (now frame))) ⌝ }
     ensures { λ r. ⌜ writerLeft r (now (frame .exit)) ≡ recordWritten layout
         (writerLent level boundary (now (factors .entry)) (now (side .entry)) (now (codes .entry)) (now (frame .entry))) ⌝ }
 {
@@ -99,7 +99,7 @@ pub fn write_record(
     codes: &[i32],
     frame: &mut [u8],
 ) -> WriteAnswer
-    ensures { λ r. ⌜ writerLeft r (now (frame .exit)) ≡ written layout
+    ensures { λ r. ⌜ writerLeft r (now (frame .exit)) ≡ writeRecord layout
         (writerLent level boundary (now (factors .entry)) (now (side .entry)) (now (codes .entry)) (now (frame .entry))) ⌝ }
 {
     let room = Room {

@@ -30,13 +30,19 @@ mul-at : tie.Need-mul-at Inv-loop μ-loop
 mul-at c = start-fits 8 128 refl _ _ (c .loop-test .taken) (c .before .before .before .before .before .pre .1)
 
 read-eight-requires : tie.Need-read-eight-requires Inv-loop μ-loop
-read-eight-requires c κs = (c .before .before .before .before .before .pre .0, below _ _ (c .loop-test .taken) 128 (c .before .before .before .before .before .pre .1))
+read-eight-requires c κs = (
+  c .before .before .before .before .before .pre .0,
+  below _ _ (c .loop-test .taken) 128
+      (c .before .before .before .before .before .pre .1),
+)
 
 add-band-counts : tie.Need-add-band-counts Inv-loop μ-loop
-add-band-counts c = end-fits 8 128 refl _ _ (c .before .before .before .loop-test .taken) (c .before .before .before .before .before .before .before .before .pre .1)
+add-band-counts c = end-fits 8 128 refl _ _ (c .before .before .before .loop-test .taken)
+    (c .before .before .before .before .before .before .before .before .pre .1)
 
 mul-band-counts : tie.Need-mul-band-counts Inv-loop μ-loop
-mul-band-counts c = bytes-fits 8 128 refl _ _ (c .before .before .before .loop-test .taken) (c .before .before .before .before .before .before .before .before .pre .1)
+mul-band-counts c = bytes-fits 8 128 refl _ _ (c .before .before .before .loop-test .taken)
+    (c .before .before .before .before .before .before .before .before .pre .1)
 
 sub-band-counts : tie.Need-sub-band-counts Inv-loop μ-loop
 sub-band-counts c = starts _ 8
@@ -60,7 +66,8 @@ band-counts-requires c κs =
     )
 
 add-b : tie.Need-add-b Inv-loop μ-loop
-add-b c = next-fits _ _ (c .before .before .before .before .before .before .loop-test .taken) 128 refl (c .before .before .before .before .before .before .before .before .before .before .before .pre .1)
+add-b c = next-fits _ _ (c .before .before .before .before .before .before .loop-test .taken) 128 refl
+    (c .before .before .before .before .before .before .before .before .before .before .before .pre .1)
 
 loop-less : tie.Need-loop-less Inv-loop μ-loop
 loop-less c = nearer _ _ (c .before .before .before .before .before .before .loop-test .taken)
@@ -82,7 +89,9 @@ same-length c = c .before .loop .inv .1 .0
 
 returns : tie.Need-returns Inv-loop μ-loop
 unfolding channelCounts
-returns c = blocked-all (bandEntries (c .before .before .before .before .before .args .scaled .now)) 8 (c .before .before .before .before .before .args .counts .now) (c .before .loop .b) (c .before .before .before .before .before .args .coded) _ (search needs) (search needs) (c .before .loop .inv .1)
+returns c = blocked-all (bandEntries (c .before .before .before .before .before .args .scaled .now)) 8
+    (c .before .before .before .before .before .args .counts .now) (c .before .loop .b) (c .before .before .before .before .before .args .coded) _
+    (search needs) (search needs) (c .before .loop .inv .1)
 
 pub channel-counts-spec : {M : Type 1} → statement M
 channel-counts-spec =

@@ -57,7 +57,8 @@ part-channel-counts-start-2 : tie.Need-part-channel-counts-start-2 Inv-loop μ-l
 part-channel-counts-start-2 c = starts _ 1024
 
 part-channel-counts-end-2 : tie.Need-part-channel-counts-end-2 Inv-loop μ-loop
-part-channel-counts-end-2 c = ends 1024 _ _ _ (c .before .before .loop-test .taken) (c .before .before .before .loop .inv .1 .0 ∙ c .before .before .before .before .before .pre .1 .1)
+part-channel-counts-end-2 c = ends 1024 _ _ _ (c .before .before .loop-test .taken)
+    (c .before .before .before .loop .inv .1 .0 ∙ c .before .before .before .before .before .pre .1 .1)
 
 channel-counts-requires : tie.Need-channel-counts-requires Inv-loop μ-loop
 channel-counts-requires c κs =
@@ -70,7 +71,8 @@ channel-counts-requires c κs =
     )
 
 add-c : tie.Need-add-c Inv-loop μ-loop
-add-c c = next-fits _ _ (c .before .before .before .before .before .loop-test .taken) 16 refl (c .before .before .before .before .before .before .before .before .pre .0 .few)
+add-c c = next-fits _ _ (c .before .before .before .before .before .loop-test .taken) 16 refl
+    (c .before .before .before .before .before .before .before .before .pre .0 .few)
 
 loop-less : tie.Need-loop-less Inv-loop μ-loop
 loop-less c = nearer _ _ (c .before .before .before .before .before .loop-test .taken)
@@ -86,9 +88,12 @@ loop-again c =
       blocked-more (channelAt (a .layout) (a .scaled .now) (a .counts .now)) 1024 (a .layout .channels) (a .counts .now) size (s .loop .c) (s .loop .counts) h
           (s .loop .inv .1) (c .before .channel-counts .last .1 .1 .0) (next-ends 1024 _ _ _ h (start .pre .1 .1))
           (c .before .channel-counts .ensures
-          ∙ ap₂ (λ n xs. channelCounts (take n (drop (s .loop .c * 1024) (a .scaled .now))) (c .before .before .before .before .coded-count .result) xs) (back-width (s .loop .c * 1024) 1024)
-          (blocked-lent (channelAt (a .layout) (a .scaled .now) (a .counts .now)) 1024 (a .layout .channels) (a .counts .now) size (s .loop .c) (s .loop .counts) h (s .loop .inv .1))
-          ∙ ap (λ n. channelCounts (part 1024 (a .scaled .now) (s .loop .c)) n (part 1024 (a .counts .now) (s .loop .c))) (c .before .before .before .before .coded-count .ensures .0)),
+          ∙ ap₂ (λ n xs. channelCounts (take n (drop (s .loop .c * 1024) (a .scaled .now))) (c .before .before .before .before .coded-count .result) xs)
+          (back-width (s .loop .c * 1024) 1024)
+          (blocked-lent (channelAt (a .layout) (a .scaled .now) (a .counts .now)) 1024 (a .layout .channels) (a .counts .now) size (s .loop .c)
+          (s .loop .counts) h (s .loop .inv .1))
+          ∙ ap (λ n. channelCounts (part 1024 (a .scaled .now) (s .loop .c)) n (part 1024 (a .counts .now) (s .loop .c)))
+          (c .before .before .before .before .coded-count .ensures .0)),
     )
 
 same-length : tie.Need-same-length Inv-loop μ-loop
@@ -99,7 +104,8 @@ returns c =
     let start = c .before .before .before in
     let a = start .args in
     frame-counted (a .layout) (start .pre .0) (a .scaled .now) (a .counts .now) (start .pre .1 .1) _
-    (blocked-exact _ 1024 (a .counts .now) (c .before .loop .c) (a .layout .channels) _ (start .pre .1 .1) (search needs) (search needs) (c .before .loop .inv .1))
+    (blocked-exact _ 1024 (a .counts .now) (c .before .loop .c) (a .layout .channels) _ (start .pre .1 .1) (search needs) (search needs)
+    (c .before .loop .inv .1))
 
 pub frame-counts-spec : {M : Type 1} → statement M
 frame-counts-spec =

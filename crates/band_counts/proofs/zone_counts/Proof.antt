@@ -58,7 +58,8 @@ same-length c = c .before .loop .inv .1 .0
 returns : tie.Need-returns Inv-loop μ-loop
 returns c =
     let start = c .before .before .before .before in
-    filled-all (entryOf (start .args .e)) (start .args .counts .now) (c .before .loop .k) 8 _ (start .pre .1 .2) (search needs) (c .before .loop .inv .0) (c .before .loop .inv .1)
+    filled-all (entryOf (start .args .e)) (start .args .counts .now) (c .before .loop .k) 8 _ (start .pre .1 .2) (search needs) (c .before .loop .inv .0)
+    (c .before .loop .inv .1)
 
 pub zone-counts-spec : {M : Type 1} → statement M
 zone-counts-spec =

@@ -97,7 +97,8 @@ loop-again c =
     let a = start .args in
     let h = c .before .before .before .before .before .loop-test .taken in (
       next-le _ _ h,
-      blocked-more (codesAt (a .resolutions .now) (a .scaled .now)) 1024 (a .layout .channels) (a .codes .now) (λ i h. codes-size _ _) (s .loop .c) (s .loop .codes)
+      blocked-more (codesAt (a .resolutions .now) (a .scaled .now)) 1024 (a .layout .channels) (a .codes .now) (λ i h. codes-size _ _) (s .loop .c)
+          (s .loop .codes)
           h (s .loop .inv .1) (c .before .channel-codes .last .1 .1 .0) (next-ends 1024 _ _ _ h (start .pre .1 .1 .2))
           (c .before .channel-codes .ensures ∙ rw (back-width (s .loop .c * 1024) 1024, back-width (s .loop .c * 128) 128)),
     )

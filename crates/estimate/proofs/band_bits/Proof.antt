@@ -36,7 +36,8 @@ shared-slice-copy-out-taken : tie.Need-shared-slice-copy-out-taken
 shared-slice-copy-out-taken c = search needs
 
 -- the entry as it is read
-entry-read : (sc : List Float) (counts : List ℤ) (b r : ℕ) → BandCounted sc counts b → toZ w32 (ofZ w32 (getD counts (b * 8 + r % 8) (pos 0))) ≡ countEntry sc b (r % 8)
+entry-read : (sc : List Float) (counts : List ℤ) (b r : ℕ) → BandCounted sc counts b → toZ w32 (ofZ w32 (getD counts (b * 8 + r % 8) (pos 0)))
+    ≡ countEntry sc b (r % 8)
 entry-read sc counts b r w =
     let k : r % 8 < 8 = omega arith in
     let x = band-le sc b (r % 8) (omega arith) in
@@ -46,8 +47,10 @@ entry-read sc counts b r w =
 taken-requires : tie.Need-taken-requires
 taken-requires c κs =
     let s = c .before .before .before in
-    let r = c .before .read-curve in
-    (subst (λ z. z ≡ pos (natAbs z)) (sym (entry-read (s .args .scaled .now) (s .args .counts .now) (s .args .band) (r .result) (s .pre .0 .1))) refl, r .ensures .1)
+    let r = c .before .read-curve in (
+      subst (λ z. z ≡ pos (natAbs z)) (sym (entry-read (s .args .scaled .now) (s .args .counts .now) (s .args .band) (r .result) (s .pre .0 .1))) refl,
+      r .ensures .1,
+    )
 
 returns : tie.Need-returns
 returns c =
@@ -55,7 +58,8 @@ returns c =
     let sc = s .args .scaled .now in
     let b = s .args .band in
     let r = c .before .before .read-curve in
-    let e = c .taken .ensures ∙ ap (λ z. countIn z (r .result)) (entry-read sc (s .args .counts .now) b (r .result) (s .pre .0 .1)) ∙ taken-band sc b (r .result) (r .ensures .1) in
+    let e = c .taken .ensures ∙ ap (λ z. countIn z (r .result)) (entry-read sc (s .args .counts .now) b (r .result) (s .pre .0 .1))
+    ∙ taken-band sc b (r .result) (r .ensures .1) in
     let l = band-le sc b (r .result) (r .ensures .1) in
     (e ∙ ap (bandBits sc b) (r .ensures .0), omega arith)
 

@@ -7,7 +7,7 @@ use Rattle.buffers.specs.Walk.{sumTo}
 use Rattle.buffers.proofs.Build.{back-width}
 use Rattle.buffers.proofs.Most.{part-most}
 use Rattle.buffers.proofs.Scan.{sum-none, sum-turn}
-use Rattle.rules.specs.Layout.{codedAt, part}
+use Rattle.rules.specs.Layout.{codedCountAt, part}
 use Rattle.rules.specs.Estimate.{channelBits, spectralBits}
 use Rattle.rules.proofs.LentRows.{below, lent-long}
 use Rattle.rules.proofs.Layouts.{coded-few}
@@ -19,7 +19,7 @@ use Rattle.estimate.proofs.spectral_total.Tie as tie
 abbrev Inv-loop : tie.InvT-loop
 Inv-loop layout curve scaled counts factors level channels sum₀ c₀ sum c =
     (c ≤ channels) × (sum ≤ 12288 * c)
-    × (sum ≡ sumTo (λ (i : ℕ). channelBits (part 1024 scaled i) (part 128 factors i) (codedAt layout i) level 0) c)
+    × (sum ≡ sumTo (λ (i : ℕ). channelBits (part 1024 scaled i) (part 128 factors i) (codedCountAt layout i) level 0) c)
 
 abbrev μ-loop : tie.MeasureT-loop
 μ-loop layout curve scaled counts factors level channels sum₀ c₀ sum c = channels - c

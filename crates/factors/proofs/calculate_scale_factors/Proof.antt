@@ -6,7 +6,7 @@ use borrow.Author.Needs.{needs}
 use lib.Ieee.{Float}
 use Rattle.buffers.proofs.Build.{back-width}
 use Rattle.buffers.proofs.Blocks.{Blocked, blocked-none, blocked-more, blocked-exact}
-use Rattle.rules.specs.Layout.{codedAt, part}
+use Rattle.rules.specs.Layout.{codedCountAt, part}
 use Rattle.rules.specs.Factor.{channelFactors, allFactors}
 use Rattle.rules.specs.declared.Layout.{Layout}
 use Rattle.rules.proofs.LentRows.{next-le, nearer, below, next-fits, start-fits, end-fits, bytes-fits, starts, ends, next-ends, lent-long}
@@ -15,7 +15,7 @@ use Rattle.factors.proofs.calculate_scale_factors.Statement.{statement}
 use Rattle.factors.proofs.calculate_scale_factors.Tie as tie
 
 abbrev factorsAt : Layout → List Float → ℕ → List ℕ
-factorsAt l xs c = channelFactors (part 1024 xs c) (codedAt l c)
+factorsAt l xs c = channelFactors (part 1024 xs c) (codedCountAt l c)
 
 abbrev Inv-loop : tie.InvT-loop
 Inv-loop layout table spectra factors₀ channels c₀ factors c = (c ≤ channels) × Blocked (factorsAt layout spectra) 128 factors₀ c factors
@@ -107,7 +107,10 @@ loop-again c =
       next-le _ _ h,
       blocked-more (factorsAt l xs) 128 (l .channels) (start .args .factors .now) (λ i h. factors-size _ _) (s .loop .c) (s .loop .factors)
           h (s .loop .inv .1) (c .before .before .channel-factors .last .1 .1 .1 .0) (next-ends 128 _ _ _ h (start .pre .1 .1 .1))
-          (c .before .before .channel-factors .ensures ∙ rw (back-width (s .loop .c * 1024) 1024, c .before .before .before .before .before .coded-count .ensures .0)),
+          (c .before .before .channel-factors .ensures ∙ rw (
+            back-width (s .loop .c * 1024) 1024,
+            c .before .before .before .before .before .coded-count .ensures .0,
+          )),
     )
 
 same-length : tie.Need-same-length Inv-loop μ-loop

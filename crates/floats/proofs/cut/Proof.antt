@@ -13,7 +13,8 @@ use Rattle.floats.proofs.cut.Statement.{statement}
 use Rattle.floats.proofs.cut.Tie as tie
 
 -- the contract speaks of the pattern, and the cases of its two fields
-of-fields : (c : tie.Start) → cutTo (2 ^ 31) (ofFields binary32 false (c .args .bits / 8388608) (c .args .bits % 8388608)) ≡ cutTo (2 ^ 31) (ofBits binary32 (c .args .bits))
+of-fields : (c : tie.Start) → cutTo (2 ^ 31) (ofFields binary32 false (c .args .bits / 8388608) (c .args .bits % 8388608))
+    ≡ cutTo (2 ^ 31) (ofBits binary32 (c .args .bits))
 of-fields c = ap (cutTo (2 ^ 31)) (sym (no-sign (c .args .bits) (omega arith)))
 
 field-top : (b : ℕ) → b ≤ 2139095040 → (b / 8388608 < 255) ⊎ ((b / 8388608 ≡ 255) × (b % 8388608 ≡ 0))
@@ -39,7 +40,8 @@ shr-result : tie.Need-shr-result
 shr-result c = search needs
 
 returns-2 : tie.Need-returns-2
-returns-2 c = cut-right (c .before .before .args .bits / 8388608) (c .before .before .args .bits % 8388608) (omega arith) (omega arith) (omega arith) ∙ of-fields (c .before .before)
+returns-2 c = cut-right (c .before .before .args .bits / 8388608) (c .before .before .args .bits % 8388608) (omega arith) (omega arith) (omega arith)
+    ∙ of-fields (c .before .before)
 
 sub-result : tie.Need-sub-result
 sub-result c = search needs
@@ -48,11 +50,13 @@ shl-result : tie.Need-shl-result
 shl-result c = search needs
 
 returns-3 : tie.Need-returns-3
-returns-3 c = cut-left (c .before .before .before .args .bits / 8388608) (c .before .before .before .args .bits % 8388608) (omega arith) (omega arith) (omega arith) ∙ of-fields (c .before .before .before)
+returns-3 c = cut-left (c .before .before .before .args .bits / 8388608) (c .before .before .before .args .bits % 8388608) (omega arith) (omega arith)
+    (omega arith) ∙ of-fields (c .before .before .before)
 
 returns-4 : tie.Need-returns-4
 returns-4 c =
-    cut-beyond (c .before .before .before .args .bits / 8388608) (c .before .before .before .args .bits % 8388608) (omega arith) (field-top (c .before .before .before .args .bits) (c .before .before .before .pre))
+    cut-beyond (c .before .before .before .args .bits / 8388608) (c .before .before .before .args .bits % 8388608) (omega arith)
+    (field-top (c .before .before .before .args .bits) (c .before .before .before .pre))
     ∙ of-fields (c .before .before .before)
 
 pub cut-spec : {M : Type 1} → statement M

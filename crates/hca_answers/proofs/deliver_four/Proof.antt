@@ -4,13 +4,13 @@ use native.Mathlib.Omega.{arith}
 use borrow.Author.Needs.{needs}
 use lib.ListN.{set, length-set}
 use Rattle.hca_answers.specs.Outcomes.{resultOf}
-use Rattle.hca_answers.proofs.Places.{told-short, stored-four}
+use Rattle.hca_answers.proofs.Places.{stored-short, stored-four}
 use Rattle.hca_answers.proofs.deliver_four.Statement.{statement}
 use Rattle.hca_answers.proofs.deliver_four.Tie as tie
 
 returns : tie.Need-returns
 unfolding resultOf
-returns c = record { answered = refl; shown = told-short _ _ (c .if1 .taken) }
+returns c = record { answered = refl; shown = stored-short _ _ (c .if1 .taken) }
 
 cast-answer : tie.Need-cast-answer
 cast-answer c = search needs

@@ -2,7 +2,7 @@
 use mathlib.Core.Path.{refl}
 use borrow.Author.Needs.{needs}
 use Rattle.hca_answers.specs.Outcomes.{resultOf}
-use Rattle.hca_answers.proofs.Places.{told-short, stored-one}
+use Rattle.hca_answers.proofs.Places.{stored-short, stored-one}
 use Rattle.hca_answers.proofs.refuse.Statement.{statement}
 use Rattle.hca_answers.proofs.refuse.Tie as tie
 
@@ -11,7 +11,7 @@ cast-result c = search needs
 
 returns : tie.Need-returns
 unfolding resultOf
-returns c = record { answered = refl; shown = told-short _ _ (c .if1 .taken) }
+returns c = record { answered = refl; shown = stored-short _ _ (c .if1 .taken) }
 
 cast-answer : tie.Need-cast-answer
 cast-answer c = search needs

@@ -37,11 +37,15 @@ loop-less c = search needs
 
 loop-again : tie.Need-loop-again Inv-loop μ-loop
 loop-again c =
-    let h : c .before .before .loop .i < 16 = c .before .loop-test .taken in
-    (search needs, filled-more (channelAt (c .before .before .before .before .args .kinds .now)) blank _ _ _ h (c .before .before .loop .inv .1) (c .channel-at .ensures))
+    let h : c .before .before .loop .i < 16 = c .before .loop-test .taken in (
+      search needs,
+      filled-more (channelAt (c .before .before .before .before .args .kinds .now)) blank _ _ _ h (c .before .before .loop .inv .1)
+          (c .channel-at .ensures),
+    )
 
 returns : tie.Need-returns Inv-loop μ-loop
-returns c = filled-all (channelAt (c .before .before .before .args .kinds .now)) blank _ 16 _ refl (c .loop-test .left) (c .before .loop .inv .0) (c .before .loop .inv .1)
+returns c = filled-all (channelAt (c .before .before .before .args .kinds .now)) blank _ 16 _ refl (c .loop-test .left) (c .before .loop .inv .0)
+    (c .before .loop .inv .1)
 
 pub channels-of-spec : {M : Type 1} → statement M
 channels-of-spec =

@@ -3,14 +3,14 @@ use mathlib.Core.Path.{refl, _∙_}
 use Prim.Native.Nat.{_≤_, _-_}
 use borrow.Author.Needs.{needs}
 use Rattle.buffers.proofs.Blocks.{Blocked, blocked-none, blocked-more, blocked-exact}
-use Rattle.rules.specs.Hfr.{allSide, sideAt}
+use Rattle.rules.specs.Hfr.{allSide, sideOf}
 use Rattle.rules.proofs.LentRows.{next-le, nearer, next-fits, start-fits, end-fits, starts, ends, next-ends, lent-long}
 use Rattle.rules.proofs.Made.{side-size}
 use Rattle.hfr.proofs.fill_side.Statement.{statement}
 use Rattle.hfr.proofs.fill_side.Tie as tie
 
 abbrev Inv-loop : tie.InvT-loop
-Inv-loop layout table spectra scaled intensities side₀ channels c₀ side c = (c ≤ channels) × Blocked (sideAt layout spectra scaled intensities) 8 side₀ c side
+Inv-loop layout table spectra scaled intensities side₀ channels c₀ side c = (c ≤ channels) × Blocked (sideOf layout spectra scaled intensities) 8 side₀ c side
 
 abbrev μ-loop : tie.MeasureT-loop
 μ-loop layout table spectra scaled intensities side₀ channels c₀ side c = channels - c
@@ -74,7 +74,7 @@ loop-again c =
     let a = start .args in
     let h = c .before .before .before .before .loop-test .taken in (
       next-le _ _ h,
-      blocked-more (sideAt (a .layout) (a .spectra .now) (a .scaled .now) (a .intensities .now)) 8 (a .layout .channels) (a .side .now)
+      blocked-more (sideOf (a .layout) (a .spectra .now) (a .scaled .now) (a .intensities .now)) 8 (a .layout .channels) (a .side .now)
           (λ i _. side-size (a .layout) i _ _ _) (s .loop .c) (s .loop .side) h (s .loop .inv .1) (c .before .before .channel-side .last .1 .1 .1 .1 .1 .1 .0)
           (next-ends 8 _ _ _ h (start .pre .1 .1 .1 .1))
           (c .before .before .channel-side .ensures),

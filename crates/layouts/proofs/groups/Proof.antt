@@ -31,7 +31,8 @@ div-result : tie.Need-div-result
 div-result c = search needs
 
 returns-2 : tie.Need-returns-2
-returns-2 c = groups-are (c .before .before .before .before .args .layout) _ _ (c .before .before .before .bands-per-group .ensures .0) (c .before .start .ensures .0) (c .before .before .if1 .left)
+returns-2 c = groups-are (c .before .before .before .before .args .layout) _ _ (c .before .before .before .bands-per-group .ensures .0)
+    (c .before .start .ensures .0) (c .before .before .if1 .left)
 
 pub groups-spec : {M : Type 1} → statement M
 groups-spec =

@@ -20,7 +20,8 @@ returns : tie.Need-returns
 returns c = sym (room-false _ _ _ _ (λ h. omega arith))
 
 part-start-requires-2 : tie.Need-part-start-requires-2
-part-start-requires-2 c κs = product-fits _ _ (c .before .before .before .before .before .before .pre .1) (omega (arith, c .before .before .before .before .before .before .pre .0 .few))
+part-start-requires-2 c κs = product-fits _ _ (c .before .before .before .before .before .before .pre .1)
+    (omega (arith, c .before .before .before .before .before .before .pre .0 .few))
 
 returns-2 : tie.Need-returns-2
 returns-2 c = sym (room-false _ _ _ _ (λ h. omega arith))
@@ -41,13 +42,17 @@ returns-6 : tie.Need-returns-6
 returns-6 c = sym (room-false _ _ _ _ (λ h. omega arith))
 
 part-start-requires-3 : tie.Need-part-start-requires-3
-part-start-requires-3 c κs = product-fits _ _ (c .before .before .before .before .before .before .before .before .before .before .before .before .before .before .before .before .before .before .pre .1) (c .before .before .before .before .before .before .before .before .before .before .before .before .before .before .before .before .before .before .pre .0 .large)
+part-start-requires-3 c κs =
+    let c15 = c .before .before .before .before .before .before .before .before .before .before .before .before .before .before .before in
+    product-fits _ _ (c15 .before .before .before .pre .1) (c15 .before .before .before .pre .0 .large)
 
 returns-7 : tie.Need-returns-7
 returns-7 c = sym (room-false _ _ _ _ (λ h. omega arith))
 
 mul-if8 : tie.Need-mul-if8
-mul-if8 c = record { fits = omega (arith, c .before .before .before .before .before .before .before .before .before .before .before .before .before .before .before .before .before .before .before .before .before .pre .1) }
+mul-if8 c =
+    let c15 = c .before .before .before .before .before .before .before .before .before .before .before .before .before .before .before in
+    record { fits = omega (arith, c15 .before .before .before .before .before .before .pre .1) }
 
 returns-8 : tie.Need-returns-8
 returns-8 c = sym (room-false _ _ _ _ (λ h. omega arith))

@@ -15,12 +15,17 @@ returns : tie.Need-returns
 returns c =
     let s = c .before .before .before .before .before .before .before .before .before in
     let g = c .before .line-gate in
-    line-refuses _ _ (lineLent (s .args .spectra .now) (s .args .intensities .now) (s .args .scaled .now) (s .args .codes .now) (s .args .factors .now) (s .args .side .now) (s .args .frames .now) (s .args .answers .now) (s .args .tally)) _ (g .ensures .0) (c .match .keys2) (g .ensures .1)
+    line-refuses _ _ (lineLent (s .args .spectra .now) (s .args .intensities .now) (s .args .scaled .now) (s .args .codes .now) (s .args .factors .now)
+    (s .args .side .now) (s .args .frames .now) (s .args .answers .now) (s .args .tally)) _ (g .ensures .0) (c .match .keys2) (g .ensures .1)
 
 encode-turns-requires : tie.Need-encode-turns-requires
 encode-turns-requires c κs =
-    let s = c .before .before .before .before .before .before .before .before .before .before .before .before .before .before .before .before in
-    let a = line-admits _ _ (lineLent (s .args .spectra .now) (s .args .intensities .now) (s .args .scaled .now) (s .args .codes .now) (s .args .factors .now) (s .args .side .now) (s .args .frames .now) (s .args .answers .now) (s .args .tally)) _ (c .before .before .before .before .before .before .before .before .line-gate .ensures .0) (c .before .before .before .before .before .before .enum-told .given .1) in
+    let c15 = c .before .before .before .before .before .before .before .before .before .before .before .before .before .before .before in
+    let s = c15 .before in
+    let a = line-admits _ _ (lineLent (s .args .spectra .now) (s .args .intensities .now) (s .args .scaled .now) (s .args .codes .now) (s .args .factors .now)
+    (s .args .side .now) (s .args .frames .now) (s .args .answers .now) (s .args .tally)) _
+    (c .before .before .before .before .before .before .before .before .line-gate .ensures .0)
+    (c .before .before .before .before .before .before .enum-told .given .1) in
     (a .layout, (a .batch, a .room))
 
 same-length : tie.Need-same-length
@@ -43,8 +48,12 @@ same-length-6 c = c .before .before .before .before .before .before .before .bef
 
 returns-2 : tie.Need-returns-2
 returns-2 c =
-    let s = c .before .before .before .before .before .before .before .before .before .before .before .before .before .before .before .before .before .before .before .before .before .before .before .before .before .before .before .before in
-    line-runs _ _ (lineLent (s .args .spectra .now) (s .args .intensities .now) (s .args .scaled .now) (s .args .codes .now) (s .args .factors .now) (s .args .side .now) (s .args .frames .now) (s .args .answers .now) (s .args .tally)) _ (c .before .before .before .before .before .before .before .before .before .before .before .before .before .before .before .before .before .before .before .before .line-gate .ensures .0) (c .before .before .before .before .before .before .before .before .before .before .before .before .before .before .before .before .before .before .enum-told .given .1) _ (c .before .before .before .before .before .before .before .before .before .before .before .encode-turns .ensures)
+    let c15 = c .before .before .before .before .before .before .before .before .before .before .before .before .before .before .before in
+    let s = c15 .before .before .before .before .before .before .before .before .before .before .before .before .before in
+    line-runs _ _ (lineLent (s .args .spectra .now) (s .args .intensities .now) (s .args .scaled .now) (s .args .codes .now) (s .args .factors .now)
+    (s .args .side .now) (s .args .frames .now) (s .args .answers .now) (s .args .tally)) _
+    (c15 .before .before .before .before .before .line-gate .ensures .0) (c15 .before .before .before .enum-told .given .1) _
+    (c .before .before .before .before .before .before .before .before .before .before .before .encode-turns .ensures)
 
 pub encode-frames-spec : {M : Type 1} → statement M
 encode-frames-spec =

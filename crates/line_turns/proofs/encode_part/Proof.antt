@@ -14,19 +14,38 @@ mul-m : tie.Need-mul-m
 mul-m c = search needs
 
 part-start-requires : tie.Need-part-start-requires
-part-start-requires c κs = let s = c .before .before .before .before .before .before .before .before in product-fits _ _ (omega (arith, s .pre .1 .below)) (omega (arith, s .pre .0 .few))
+part-start-requires c κs = let s = c .before .before .before .before .before .before .before .before in
+    product-fits _ _ (omega (arith, s .pre .1 .below)) (omega (arith, s .pre .0 .few))
 
 part-start-requires-2 : tie.Need-part-start-requires-2
-part-start-requires-2 c κs = let s = c .before .before .before .before .before .before .before .before .before in product-fits _ _ (omega (arith, s .pre .1 .below)) (omega (arith, s .pre .0 .few))
+part-start-requires-2 c κs = let s = c .before .before .before .before .before .before .before .before .before in
+    product-fits _ _ (omega (arith, s .pre .1 .below)) (omega (arith, s .pre .0 .few))
 
 part-start-requires-3 : tie.Need-part-start-requires-3
-part-start-requires-3 c κs = let s = c .before .before .before .before .before .before .before .before .before .before in product-fits _ _ (omega (arith, s .pre .1 .below)) (omega (arith, s .pre .0 .large))
+part-start-requires-3 c κs = let s = c .before .before .before .before .before .before .before .before .before .before in
+    product-fits _ _ (omega (arith, s .pre .1 .below)) (omega (arith, s .pre .0 .large))
 
 add-encode-frame : tie.Need-add-encode-frame
-add-encode-frame c = record { fits = omega (arith, ends-low _ _ _ (c .before .before .part-start .ensures) (c .before .before .before .before .before .before .before .before .before .before .before .pre .1 .below) (omega (arith, c .before .before .before .before .before .before .before .before .before .before .before .pre .0 .few))) }
+add-encode-frame c =
+    record {
+      fits = omega (
+        arith,
+        ends-low _ _ _ (c .before .before .part-start .ensures)
+            (c .before .before .before .before .before .before .before .before .before .before .before .pre .1 .below)
+            (omega (arith, c .before .before .before .before .before .before .before .before .before .before .before .pre .0 .few)),
+      );
+    }
 
 mul-encode-frame : tie.Need-mul-encode-frame
-mul-encode-frame c = record { fits = omega (arith, ends-low _ _ _ (c .before .before .part-start .ensures) (c .before .before .before .before .before .before .before .before .before .before .before .pre .1 .below) (omega (arith, c .before .before .before .before .before .before .before .before .before .before .before .pre .0 .few))) }
+mul-encode-frame c =
+    record {
+      fits = omega (
+        arith,
+        ends-low _ _ _ (c .before .before .part-start .ensures)
+            (c .before .before .before .before .before .before .before .before .before .before .before .pre .1 .below)
+            (omega (arith, c .before .before .before .before .before .before .before .before .before .before .before .pre .0 .few)),
+      );
+    }
 
 sub-encode-frame : tie.Need-sub-encode-frame
 sub-encode-frame c = omega arith
@@ -35,10 +54,19 @@ part-encode-frame-start : tie.Need-part-encode-frame-start
 part-encode-frame-start c = omega arith
 
 part-encode-frame-end : tie.Need-part-encode-frame-end
-part-encode-frame-end c = ends-within _ _ _ (c .before .before .part-start .ensures) _ (c .before .before .before .before .before .before .before .before .before .before .before .pre .1 .spectra)
+part-encode-frame-end c = ends-within _ _ _ (c .before .before .part-start .ensures) _
+    (c .before .before .before .before .before .before .before .before .before .before .before .pre .1 .spectra)
 
 add-encode-frame-2 : tie.Need-add-encode-frame-2
-add-encode-frame-2 c = record { fits = omega (arith, ends-low _ _ _ (c .before .before .part-start2 .ensures) (c .before .before .before .before .before .before .before .before .before .before .before .before .pre .1 .below) (omega (arith, c .before .before .before .before .before .before .before .before .before .before .before .before .pre .0 .few))) }
+add-encode-frame-2 c =
+    record {
+      fits = omega (
+        arith,
+        ends-low _ _ _ (c .before .before .part-start2 .ensures)
+            (c .before .before .before .before .before .before .before .before .before .before .before .before .pre .1 .below)
+            (omega (arith, c .before .before .before .before .before .before .before .before .before .before .before .before .pre .0 .few)),
+      );
+    }
 
 sub-encode-frame-2 : tie.Need-sub-encode-frame-2
 sub-encode-frame-2 c = omega arith
@@ -47,10 +75,19 @@ part-encode-frame-start-2 : tie.Need-part-encode-frame-start-2
 part-encode-frame-start-2 c = omega arith
 
 part-encode-frame-end-2 : tie.Need-part-encode-frame-end-2
-part-encode-frame-end-2 c = ends-within _ _ _ (c .before .before .part-start2 .ensures) _ (c .before .before .before .before .before .before .before .before .before .before .before .before .pre .1 .intensities)
+part-encode-frame-end-2 c = ends-within _ _ _ (c .before .before .part-start2 .ensures) _
+    (c .before .before .before .before .before .before .before .before .before .before .before .before .pre .1 .intensities)
 
 add-encode-frame-3 : tie.Need-add-encode-frame-3
-add-encode-frame-3 c = record { fits = omega (arith, ends-low _ _ _ (c .before .before .before .before .before .before .part-start3 .ensures) (c .before .before .before .before .before .before .before .before .before .before .before .before .before .before .before .before .before .pre .1 .below) (omega (arith, c .before .before .before .before .before .before .before .before .before .before .before .before .before .before .before .before .before .pre .0 .large))) }
+add-encode-frame-3 c =
+    let c15 = c .before .before .before .before .before .before .before .before .before .before .before .before .before .before .before in
+    record {
+      fits = omega (
+        arith,
+        ends-low _ _ _ (c .before .before .before .before .before .before .part-start3 .ensures) (c15 .before .before .pre .1 .below)
+            (omega (arith, c15 .before .before .pre .0 .large)),
+      );
+    }
 
 sub-encode-frame-3 : tie.Need-sub-encode-frame-3
 sub-encode-frame-3 c = omega arith
@@ -59,7 +96,9 @@ part-encode-frame-start-3 : tie.Need-part-encode-frame-start-3
 part-encode-frame-start-3 c = omega arith
 
 part-encode-frame-end-3 : tie.Need-part-encode-frame-end-3
-part-encode-frame-end-3 c = ends-within _ _ _ (c .before .before .before .before .before .before .part-start3 .ensures) _ (c .before .before .before .before .before .before .before .before .before .before .before .before .before .before .before .before .before .pre .1 .frames)
+part-encode-frame-end-3 c =
+    let c15 = c .before .before .before .before .before .before .before .before .before .before .before .before .before .before .before in
+    ends-within _ _ _ (c .before .before .before .before .before .before .part-start3 .ensures) _ (c15 .before .before .pre .1 .frames)
 
 encode-frame-requires : tie.Need-encode-frame-requires
 encode-frame-requires c κs = search needs
@@ -81,11 +120,12 @@ same-length-5 c = search needs
 
 returns : tie.Need-returns
 returns c =
-    let s = c .before .before .before .before .before .before .before .before .before .before .before .before .before .before .before .before .before .before .before .before .before .before .before .before .before .before .before .before in
+    let c15 = c .before .before .before .before .before .before .before .before .before .before .before .before .before .before .before in
+    let s = c15 .before .before .before .before .before .before .before .before .before .before .before .before .before in
     let r = c .before .before .before .before .before .before .before .before .before .encode-frame in
-    let at = c .before .before .before .before .before .before .before .before .before .before .before .before .before .before .before .before .before .part-start3 .ensures in
+    let at = c15 .before .before .part-start3 .ensures in
     placed _ _ _ (s .args .spectra .now) (s .args .intensities .now) _ _ _ _ (s .args .frames .now) _ _ _ _ (r .last .1 .1 .1 .1 .1 .1 .1 .0) _ _ _
-    (c .before .before .before .before .before .before .before .before .before .before .before .before .before .before .before .before .before .before .before .part-start .ensures) (c .before .before .before .before .before .before .before .before .before .before .before .before .before .before .before .before .before .before .part-start2 .ensures) at
+    (c15 .before .before .before .before .part-start .ensures) (c15 .before .before .before .part-start2 .ensures) at
     (r .kept .1 .1 .1 .1 .1 .1 .1 .0 ∙ lent-long _ _ _ (ends-within _ _ _ at _ (s .pre .1 .frames))) (r .ensures)
 
 pub encode-part-spec : {M : Type 1} → statement M

@@ -21,50 +21,86 @@ loop-holds c = (omega arith, going-none _ _)
 encode-turn-requires : tie.Need-encode-turn-requires Inv-loop μ-loop
 encode-turn-requires c κs =
     let s = c .before .before .before .before .before .before .before .before .before .before .before .before .before .before .before in
-    let t = lineLent (s .args .spectra .now) (s .args .intensities .now) (s .args .scaled .now) (s .args .codes .now) (s .args .factors .now) (s .args .side .now) (s .args .frames .now) (s .args .answers .now) (s .args .tally) in
+    let t = lineLent (s .args .spectra .now) (s .args .intensities .now) (s .args .scaled .now) (s .args .codes .now) (s .args .factors .now)
+    (s .args .side .now) (s .args .frames .now) (s .args .answers .now) (s .args .tally) in
     let l = c .before .before .before .before .before .before .before .loop in
     let g = l .inv .1 in
     let h = c .before .before .before .before .before .before .loop-test .taken in (
       s .pre .0,
-      (turn-there _ t _ _ (l .frames) h (s .pre .1 .0 .few) (s .pre .1 .1) (g .frames), (answers-there (s .args .layout) t _ _ (l .answers) h (s .pre .1 .1) (g .answers), going-counts _ _ _ _ _ _ _ _ _ _ g _ (s .pre .1 .0) (omega arith))),
+      (
+        turn-there _ t _ _ (l .frames) h (s .pre .1 .0 .few) (s .pre .1 .1) (g .frames),
+        (
+          answers-there (s .args .layout) t _ _ (l .answers) h (s .pre .1 .1) (g .answers),
+          going-counts _ _ _ _ _ _ _ _ _ _ g _ (s .pre .1 .0)
+              (omega arith),
+        ),
+      ),
     )
 
 enum-told : tie.Need-enum-told Inv-loop μ-loop
 enum-told c = search needs
 
 same-length : tie.Need-same-length Inv-loop μ-loop
-same-length c = c .before .before .before .before .before .before .before .before .before .before .before .before .encode-turn .kept .1 .1 .1 .1 .0 ∙ c .before .before .before .before .before .before .before .before .before .before .before .before .before .before .before .before .before .before .before .before .loop .inv .1 .scaled
+same-length c =
+    let c15 = c .before .before .before .before .before .before .before .before .before .before .before .before .before .before .before in
+    c .before .before .before .before .before .before .before .before .before .before .before .before .encode-turn .kept .1 .1 .1 .1 .0
+    ∙ c15 .before .before .before .before .before .loop .inv .1 .scaled
 
 same-length-2 : tie.Need-same-length-2 Inv-loop μ-loop
-same-length-2 c = c .before .before .before .before .before .before .before .before .before .before .before .before .encode-turn .kept .1 .1 .1 .1 .1 .0 ∙ c .before .before .before .before .before .before .before .before .before .before .before .before .before .before .before .before .before .before .before .before .loop .inv .1 .codes
+same-length-2 c =
+    let c15 = c .before .before .before .before .before .before .before .before .before .before .before .before .before .before .before in
+    c .before .before .before .before .before .before .before .before .before .before .before .before .encode-turn .kept .1 .1 .1 .1 .1 .0
+    ∙ c15 .before .before .before .before .before .loop .inv .1 .codes
 
 same-length-3 : tie.Need-same-length-3 Inv-loop μ-loop
-same-length-3 c = c .before .before .before .before .before .before .before .before .before .before .before .before .encode-turn .kept .1 .1 .1 .1 .1 .1 .0 ∙ c .before .before .before .before .before .before .before .before .before .before .before .before .before .before .before .before .before .before .before .before .loop .inv .1 .factors
+same-length-3 c =
+    let c15 = c .before .before .before .before .before .before .before .before .before .before .before .before .before .before .before in
+    c .before .before .before .before .before .before .before .before .before .before .before .before .encode-turn .kept .1 .1 .1 .1 .1 .1 .0
+    ∙ c15 .before .before .before .before .before .loop .inv .1 .factors
 
 same-length-4 : tie.Need-same-length-4 Inv-loop μ-loop
-same-length-4 c = c .before .before .before .before .before .before .before .before .before .before .before .before .encode-turn .kept .1 .1 .1 .1 .1 .1 .1 .0 ∙ c .before .before .before .before .before .before .before .before .before .before .before .before .before .before .before .before .before .before .before .before .loop .inv .1 .side
+same-length-4 c =
+    let c15 = c .before .before .before .before .before .before .before .before .before .before .before .before .before .before .before in
+    c .before .before .before .before .before .before .before .before .before .before .before .before .encode-turn .kept .1 .1 .1 .1 .1 .1 .1 .0
+    ∙ c15 .before .before .before .before .before .loop .inv .1 .side
 
 same-length-5 : tie.Need-same-length-5 Inv-loop μ-loop
-same-length-5 c = c .before .before .before .before .before .before .before .before .before .before .before .before .encode-turn .kept .1 .1 .1 .1 .1 .1 .1 .1 .0 ∙ c .before .before .before .before .before .before .before .before .before .before .before .before .before .before .before .before .before .before .before .before .loop .inv .1 .frames
+same-length-5 c =
+    let c15 = c .before .before .before .before .before .before .before .before .before .before .before .before .before .before .before in
+    c .before .before .before .before .before .before .before .before .before .before .before .before .encode-turn .kept .1 .1 .1 .1 .1 .1 .1 .1 .0
+    ∙ c15 .before .before .before .before .before .loop .inv .1 .frames
 
 same-length-6 : tie.Need-same-length-6 Inv-loop μ-loop
-same-length-6 c = c .before .before .before .before .before .before .before .before .before .before .before .before .encode-turn .kept .1 .1 .1 .1 .1 .1 .1 .1 .1 .0 ∙ c .before .before .before .before .before .before .before .before .before .before .before .before .before .before .before .before .before .before .before .before .loop .inv .1 .answers
+same-length-6 c =
+    let c15 = c .before .before .before .before .before .before .before .before .before .before .before .before .before .before .before in
+    c .before .before .before .before .before .before .before .before .before .before .before .before .encode-turn .kept .1 .1 .1 .1 .1 .1 .1 .1 .1 .0
+    ∙ c15 .before .before .before .before .before .loop .inv .1 .answers
 
 returns : tie.Need-returns Inv-loop μ-loop
-returns c = going-stop _ _ _ _ _ _ _ _ _ _ (c .before .before .before .before .before .before .before .before .before .before .before .before .before .before .before .before .before .before .before .before .loop .inv .1) _ _ _ _ _ _ _ _ (c .before .before .before .before .before .before .before .before .before .before .before .before .encode-turn .ensures) _ (c .before .before .before .before .before .before .before .before .before .before .before .before .before .before .before .before .before .before .before .loop-test .taken) (c .match .keys2)
+returns c =
+    let c15 = c .before .before .before .before .before .before .before .before .before .before .before .before .before .before .before in
+    going-stop _ _ _ _ _ _ _ _ _ _ (c15 .before .before .before .before .before .loop .inv .1) _ _ _ _ _ _ _ _
+    (c .before .before .before .before .before .before .before .before .before .before .before .before .encode-turn .ensures) _
+    (c15 .before .before .before .before .loop-test .taken) (c .match .keys2)
 
 add-k : tie.Need-add-k Inv-loop μ-loop
-add-k c = record { fits = omega (arith, c .before .before .before .before .before .before .before .before .before .before .before .before .before .before .before .before .before .before .before .before .before .loop-test .taken, c .before .before .before .before .before .before .before .before .before .before .before .before .before .before .before .before .before .before .before .before .before .before .before .before .before .before .before .before .before .before .pre .1 .0 .few) }
+add-k c =
+    let c15 = c .before .before .before .before .before .before .before .before .before .before .before .before .before .before .before in
+    let c30 = c15 .before .before .before .before .before .before .before .before .before .before .before .before .before .before .before in
+    record { fits = omega (arith, c15 .before .before .before .before .before .before .loop-test .taken, c30 .pre .1 .0 .few) }
 
 loop-less : tie.Need-loop-less Inv-loop μ-loop
 loop-less c = search needs
 
 loop-again : tie.Need-loop-again Inv-loop μ-loop
 loop-again c =
+    let c15 = c .before .before .before .before .before .before .before .before .before .before .before .before .before .before .before in
     let r = c .before .before .before .before .before .before .before .before .before .before .before .before .before .before .encode-turn in (
-      omega (arith, c .before .before .before .before .before .before .before .before .before .before .before .before .before .before .before .before .before .before .before .before .before .loop-test .taken),
-      going-more _ _ _ _ _ _ _ _ _ _ (c .before .before .before .before .before .before .before .before .before .before .before .before .before .before .before .before .before .before .before .before .before .before .loop .inv .1) _ _ _ _ _ _ _ _ (r .ensures) (c .before .enum-told .given .1)
-          (r .kept .1 .1 .1 .1 .0) (r .kept .1 .1 .1 .1 .1 .0) (r .kept .1 .1 .1 .1 .1 .1 .0) (r .kept .1 .1 .1 .1 .1 .1 .1 .0) (r .kept .1 .1 .1 .1 .1 .1 .1 .1 .0) (r .kept .1 .1 .1 .1 .1 .1 .1 .1 .1 .0),
+      omega (arith, c15 .before .before .before .before .before .before .loop-test .taken),
+      going-more _ _ _ _ _ _ _ _ _ _ (c15 .before .before .before .before .before .before .before .loop .inv .1) _ _ _ _ _ _ _ _ (r .ensures)
+          (c .before .enum-told .given .1)
+          (r .kept .1 .1 .1 .1 .0) (r .kept .1 .1 .1 .1 .1 .0) (r .kept .1 .1 .1 .1 .1 .1 .0) (r .kept .1 .1 .1 .1 .1 .1 .1 .0)
+          (r .kept .1 .1 .1 .1 .1 .1 .1 .1 .0) (r .kept .1 .1 .1 .1 .1 .1 .1 .1 .1 .0),
     )
 
 same-length-7 : tie.Need-same-length-7 Inv-loop μ-loop

@@ -1,6 +1,6 @@
 -- `list::list_entry` meets its contract. Assumes nothing.
-use Rattle.rules_files.specs.List.{entryOutcome, lookedAs}
-use Rattle.list.proofs.Answering.{looked-by, judged-by}
+use Rattle.rules_files.specs.List.{entryOutcome, listEntryAs}
+use Rattle.list.proofs.Answering.{entry-by, judged-by}
 use borrow.Author.Needs.{needs}
 use Rattle.list.proofs.list_entry.Statement.{statement}
 use Rattle.list.proofs.list_entry.Tie as tie
@@ -24,16 +24,16 @@ look-good-requires : tie.Need-look-good-requires
 look-good-requires c κs = judged-by _ _ _ (c .before .before .before .judge-list .ensures) (c .before .judgement .given .1)
 
 returns : tie.Need-returns
-unfolding entryOutcome lookedAs
-returns c = looked-by _ _ _ (c .before .before .judge-list .ensures) (c .enum-told .given .1) _
+unfolding entryOutcome listEntryAs
+returns c = entry-by _ _ _ (c .before .before .judge-list .ensures) (c .enum-told .given .1) _
 
 returns-2 : tie.Need-returns-2
-unfolding entryOutcome lookedAs
-returns-2 c = looked-by _ _ _ (c .before .before .judge-list .ensures) (c .enum-told2 .given .1) _
+unfolding entryOutcome listEntryAs
+returns-2 c = entry-by _ _ _ (c .before .before .judge-list .ensures) (c .enum-told2 .given .1) _
 
 returns-3 : tie.Need-returns-3
-unfolding entryOutcome lookedAs
-returns-3 c = looked-by _ _ _ (c .before .before .judge-list .ensures) (c .enum-told3 .given .1) _
+unfolding entryOutcome listEntryAs
+returns-3 c = entry-by _ _ _ (c .before .before .judge-list .ensures) (c .enum-told3 .given .1) _
 
 returns-4 : tie.Need-returns-4
 returns-4 c = search needs

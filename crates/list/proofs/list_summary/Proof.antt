@@ -2,7 +2,7 @@
 use mathlib.Core.Path.{ap, _∙_}
 use native.Mathlib.Omega.{arith}
 use Rattle.rules.specs.Refusals.{delivered}
-use Rattle.rules_files.specs.List.{summaryNumbers, summaryOutcome, summedAs}
+use Rattle.rules_files.specs.List.{summaryNumbers, summaryOutcome, listSummaryAs}
 use Rattle.rules_files.specs.declared.list.Summary.{Summary}
 use Rattle.list.proofs.Answering.{summed-by, judged-by, good-long, good-few}
 use borrow.Author.Needs.{needs}
@@ -31,19 +31,19 @@ sum-entries-requires c κs =
     (g .0, g .1, good-few _ _ good (λ k. omega (arith, c .before .before .before .before .shared-slice-known .given k)))
 
 returns : tie.Need-returns
-unfolding summaryOutcome summedAs
+unfolding summaryOutcome listSummaryAs
 returns c = summed-by _ _ _ (c .before .before .judge-list .ensures) (c .enum-told .given .1)
 
 returns-2 : tie.Need-returns-2
-unfolding summaryOutcome summedAs
+unfolding summaryOutcome listSummaryAs
 returns-2 c = summed-by _ _ _ (c .before .before .judge-list .ensures) (c .enum-told2 .given .1)
 
 returns-3 : tie.Need-returns-3
-unfolding summaryOutcome summedAs
+unfolding summaryOutcome listSummaryAs
 returns-3 c = summed-by _ _ _ (c .before .before .judge-list .ensures) (c .enum-told3 .given .1)
 
 returns-4 : tie.Need-returns-4
-unfolding summaryOutcome summedAs
+unfolding summaryOutcome listSummaryAs
 returns-4 c =
     ap (λ (s : Summary). delivered (summaryNumbers s)) (c .sum-entries .ensures)
     ∙ summed-by _ _ _ (c .before .before .before .before .judge-list .ensures) (c .before .before .judgement .given .1)

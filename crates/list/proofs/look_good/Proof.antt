@@ -4,7 +4,7 @@ use native.Mathlib.Omega.{arith}
 use Rattle.rules.specs.Refusals.{delivered}
 use Rattle.rules_files.specs.List.{entryNumbers, entryOutcome}
 use Rattle.rules_files.specs.declared.list.Entry.{Entry}
-use Rattle.rules_files.proofs.ListCalls.{good-looked, good-past}
+use Rattle.rules_files.proofs.ListCalls.{good-entry, good-past}
 use Rattle.list.proofs.Answering.{good-long}
 use Rattle.list.proofs.look_good.Statement.{statement}
 use Rattle.list.proofs.look_good.Tie as tie
@@ -14,7 +14,8 @@ entry-in-requires c κs = omega (arith, good-long _ _ (c .before .before .pre) .
 
 returns : tie.Need-returns
 unfolding entryOutcome
-returns c = ap (λ (e : Entry). delivered (entryNumbers e)) (c .entry-in .ensures) ∙ sym (good-looked _ _ (c .before .before .before .pre) _ (c .before .if1 .taken))
+returns c = ap (λ (e : Entry). delivered (entryNumbers e)) (c .entry-in .ensures)
+    ∙ sym (good-entry _ _ (c .before .before .before .pre) _ (c .before .if1 .taken))
 
 returns-2 : tie.Need-returns-2
 unfolding entryOutcome

@@ -29,7 +29,8 @@ unfolding listReadOutcome
 returns-2 c =
     let n = c .before .before .before .before .before .before .before .args .n in
     let left : List ℕ → EntriesLeft = λ xs. record { outcome = delivered (n ∷ []); entries = xs } in
-    ap left (c .before .before .store-entries .ensures) ∙ sym (good-read _ n (c .before .before .before .before .before .before .before .pre) _ (c .before .before .before .before .if1 .left))
+    ap left (c .before .before .store-entries .ensures)
+    ∙ sym (good-read _ n (c .before .before .before .before .before .before .before .pre) _ (c .before .before .before .before .if1 .left))
 
 pub read-good-spec : {M : Type 1} → statement M
 read-good-spec = tie.close (tie.spec mul-if1 returns store-entries-requires same-length returns-2)

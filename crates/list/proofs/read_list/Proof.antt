@@ -4,7 +4,7 @@ use mathlib.Core.List.{List}
 use Prim.Native.Nat.{ℕ}
 use native.Mathlib.Omega.{arith}
 use Rattle.rules.specs.Refusals.{Outcome}
-use Rattle.rules_files.specs.List.{EntriesLeft, listReadOutcome, readAs}
+use Rattle.rules_files.specs.List.{EntriesLeft, listReadOutcome, readListAs}
 use Rattle.list.proofs.Answering.{read-by, judged-by, bad-few}
 use borrow.Author.Needs.{needs}
 use Rattle.list.proofs.read_list.Statement.{statement}
@@ -24,7 +24,8 @@ enum-known-judgement c = search needs
 
 bad-entry-requires : tie.Need-bad-entry-requires
 bad-entry-requires c κs =
-    bad-few _ _ (judged-by _ _ _ (c .before .before .before .judge-list .ensures) (c .before .judgement .given .1)) (λ k. omega (arith, c .before .before .before .before .before .shared-slice-known .given k))
+    bad-few _ _ (judged-by _ _ _ (c .before .before .before .judge-list .ensures) (c .before .judgement .given .1))
+    (λ k. omega (arith, c .before .before .before .before .before .shared-slice-known .given k))
 
 enum-known-judgement-2 : tie.Need-enum-known-judgement-2
 enum-known-judgement-2 c = search needs
@@ -33,15 +34,15 @@ read-good-requires : tie.Need-read-good-requires
 read-good-requires c κs = judged-by _ _ _ (c .before .before .before .before .judge-list .ensures) (c .before .before .judgement2 .given .1)
 
 returns : tie.Need-returns
-unfolding listReadOutcome readAs
+unfolding listReadOutcome readListAs
 returns c = read-by _ _ _ (c .before .before .judge-list .ensures) (c .enum-told .given .1) _
 
 returns-2 : tie.Need-returns-2
-unfolding listReadOutcome readAs
+unfolding listReadOutcome readListAs
 returns-2 c = read-by _ _ _ (c .before .before .judge-list .ensures) (c .enum-told2 .given .1) _
 
 returns-3 : tie.Need-returns-3
-unfolding readAs
+unfolding readListAs
 returns-3 c =
     let xs : List ℕ = c .before .before .before .before .before .before .before .args .entries .now in
     let left : Outcome → EntriesLeft = λ o. record { outcome = o; entries = xs } in

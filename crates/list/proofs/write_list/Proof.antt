@@ -4,7 +4,7 @@ use borrow.Author.Tests.{lt-ltb, le-ltb, not-true, not-false}
 use mathlib.Core.List.{List, []}
 use Prim.Native.Nat.{ℕ}
 use Rattle.rules.specs.Refusals.{delivered}
-use Rattle.rules_files.specs.List.{ListLeft, listWrittenOutcome, listWritten}
+use Rattle.rules_files.specs.List.{ListLeft, listWrittenOutcome, writeList}
 use Rattle.rules_files.proofs.ListCalls.{list-written}
 use borrow.Author.Needs.{needs}
 use Rattle.list.proofs.write_list.Statement.{statement}
@@ -14,7 +14,7 @@ mul-if1 : tie.Need-mul-if1
 mul-if1 c = search needs
 
 returns : tie.Need-returns
-unfolding listWrittenOutcome listWritten
+unfolding listWrittenOutcome writeList
 returns c = rw (lt-ltb _ _ (c .if1 .taken))
 
 mul-if2 : tie.Need-mul-if2
@@ -24,16 +24,21 @@ add-if2 : tie.Need-add-if2
 add-if2 c = search needs
 
 returns-2 : tie.Need-returns-2
-unfolding listWrittenOutcome listWritten
+unfolding listWrittenOutcome writeList
 returns-2 c = rw (le-ltb _ _ (c .before .if1 .left), lt-ltb _ _ (c .if2 .taken))
 
 entries-legal-requires : tie.Need-entries-legal-requires
 entries-legal-requires c κs = search needs
 
 returns-3 : tie.Need-returns-3
-unfolding listWrittenOutcome listWritten
+unfolding listWrittenOutcome writeList
 returns-3 c =
-    rw (le-ltb _ _ (c .before .before .before .if1 .left), le-ltb _ _ (c .before .before .if2 .left), sym (c .before .entries-legal .ensures) ∙ not-true _ (c .if3 .taken))
+    rw (
+      le-ltb _ _ (c .before .before .before .if1 .left),
+      le-ltb _ _ (c .before .before .if2 .left),
+      sym (c .before .entries-legal .ensures)
+          ∙ not-true _ (c .if3 .taken),
+    )
 
 put-list-requires : tie.Need-put-list-requires
 put-list-requires c κs = search needs

@@ -43,13 +43,15 @@ same-length-2 c = search needs
 
 returns : tie.Need-returns
 returns c =
-    let s = c .before .before .before .before .before .before .before .before .before .before .before .before .before .before .before .before .before .before in
+    let c15 = c .before .before .before .before .before .before .before .before .before .before .before .before .before .before .before in
+    let s = c15 .before .before .before in
     let l = s .args .layout in
     let f = s .args .frame .now in
     let long = s .pre .1 .1 .1 .0 .1 in
     let w = c .before .before .before .before .before .before .before .before .before .write-fields .ensures in (
       count-is l (s .pre .0) f long (rec s) (w .0) (w .1),
-      c .before .before .clear-u8 .ensures ∙ ap (λ n. replicate n 0) (packed-length l (s .pre .0) f long (rec s) (w .0) (w .1)) ∙ rw (lt-ltb _ _ (c .before .before .before .before .if1 .taken)),
+      c .before .before .clear-u8 .ensures ∙ ap (λ n. replicate n 0) (packed-length l (s .pre .0) f long (rec s) (w .0) (w .1))
+          ∙ rw (lt-ltb _ _ (c .before .before .before .before .if1 .taken)),
     )
 
 seal-requires : tie.Need-seal-requires
@@ -63,7 +65,8 @@ same-length-4 c = search needs
 
 returns-2 : tie.Need-returns-2
 returns-2 c =
-    let s = c .before .before .before .before .before .before .before .before .before .before .before .before .before .before .before .before .before .before in
+    let c15 = c .before .before .before .before .before .before .before .before .before .before .before .before .before .before .before in
+    let s = c15 .before .before .before in
     let l = s .args .layout in
     let f = s .args .frame .now in
     let long = s .pre .1 .1 .1 .0 .1 in

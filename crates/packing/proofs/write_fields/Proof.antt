@@ -29,7 +29,8 @@ slice-aggregate-write-codes-2 c = search needs
 
 write-codes-requires : tie.Need-write-codes-requires
 write-codes-requires c κs =
-    let s = c .before .before .before .before .before .before .before .before .before .before .before .before .before .before .before .before .before in
+    let c15 = c .before .before .before .before .before .before .before .before .before .before .before .before .before .before .before in
+    let s = c15 .before .before in
     let a = s .args in
     let more = s .pre .1 .1 .1 in
     let lent = more .0 .0 in
@@ -58,14 +59,16 @@ same-length-2 c = search needs
 
 returns : tie.Need-returns
 returns c =
-    let s = c .before .before .before .before .before .before .before .before .before .before .before .before .before .before .before .before .before .before .before .before .before .before .before .before .before .before .before .before in
+    let c15 = c .before .before .before .before .before .before .before .before .before .before .before .before .before .before .before in
+    let s = c15 .before .before .before .before .before .before .before .before .before .before .before .before .before in
     let a = s .args in
-    let head = c .before .before .before .before .before .before .before .before .before .before .before .before .before .before .before .before .before .before .before .before .before .write-head .ensures in
-    let channels = c .before .before .before .before .before .before .before .before .before .before .before .before .before .before .before .before .before .write-channels .ensures in
+    let head = c15 .before .before .before .before .before .before .write-head .ensures in
+    let channels = c15 .before .before .write-channels .ensures in
     let codes = c .before .before .before .before .before .before .before .before .before .before .write-codes .ensures in
     let end = c .before .before .close .ensures in
     let all = emits-then (head .0) (emits-then (channels .0) (codes .0)) in
-    let e = fields-packed (a .layout) (a .level) (a .boundary) (a .factors .now) (a .side .now) (a .codes .now) (a .resolutions .now) (s .pre .0) (s .pre .1 .1 .0 .0) (s .pre .1 .1 .1 .0 .0) in
+    let e = fields-packed (a .layout) (a .level) (a .boundary) (a .factors .now) (a .side .now) (a .codes .now) (a .resolutions .now) (s .pre .0)
+    (s .pre .1 .1 .0 .0) (s .pre .1 .1 .1 .0 .0) in
     (end .same ∙ all .same, rw e (closed-written (all .runs [] (emitted-none (a .bytes .now) 0)) end))
 
 pub write-fields-spec : {M : Type 1} → statement M

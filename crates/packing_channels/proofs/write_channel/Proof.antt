@@ -1,7 +1,7 @@
 -- `packing_channels::write_channel` meets its contract: the factors, then the side values. Assumes nothing.
 use native.Mathlib.Omega.{arith}
 use Rattle.emission.proofs.Runs.{emits-then}
-use Rattle.rules.specs.Layout.{codedAt, sidesAt}
+use Rattle.rules.specs.Layout.{codedCountAt, sideCountAt}
 use borrow.Author.Needs.{needs}
 use Rattle.packing_channels.proofs.write_channel.Statement.{statement}
 use Rattle.packing_channels.proofs.write_channel.Tie as tie
@@ -25,7 +25,7 @@ same-length : tie.Need-same-length
 same-length c = search needs
 
 returns : tie.Need-returns
-unfolding codedAt sidesAt
+unfolding codedCountAt sideCountAt
 returns c =
     let w = c .before .before .before .before .before .before .before .before .write-scale-factors .ensures in
     let v = c .before .before .write-side .ensures in

@@ -23,8 +23,12 @@ same-length c = search needs
 returns : tie.Need-returns
 returns c =
     let a = c .before .before .before .before .before .before .before .before .args in
-    let w = c .before .before .write .ensures in
-    (rw (first-factor (a .width) (a .i) (getD (a .factors .now) (a .i - 1) 0) (getD (a .factors .now) (a .i) 0) (c .before .before .before .before .if1 .taken)) (w .0), omega arith)
+    let w = c .before .before .write .ensures in (
+      rw (first-factor (a .width) (a .i) (getD (a .factors .now) (a .i - 1) 0) (getD (a .factors .now) (a .i) 0)
+          (c .before .before .before .before .if1 .taken))
+          (w .0),
+      omega arith,
+    )
 
 cast-write-2 : tie.Need-cast-write-2
 cast-write-2 c = omega (arith, c .before .before .before .shared-slice-known2 .given (c .before .before .before .before .before .before .args .i))
@@ -38,8 +42,11 @@ same-length-2 c = search needs
 returns-2 : tie.Need-returns-2
 returns-2 c =
     let a = c .before .before .before .before .before .before .before .before .before .args in
-    let w = c .before .before .write2 .ensures in
-    (rw (six-factor (a .width) (factorBefore (a .i) (getD (a .factors .now) (a .i - 1) 0)) (getD (a .factors .now) (a .i) 0) (c .before .before .before .before .if2 .taken)) (w .0), omega arith)
+    let w = c .before .before .write2 .ensures in (
+      rw (six-factor (a .width) (factorBefore (a .i) (getD (a .factors .now) (a .i - 1) 0)) (getD (a .factors .now) (a .i) 0)
+          (c .before .before .before .before .if2 .taken)) (w .0),
+      omega arith,
+    )
 
 sub-write-delta : tie.Need-sub-write-delta
 sub-write-delta c = search needs
@@ -57,8 +64,11 @@ returns-3 : tie.Need-returns-3
 returns-3 c =
     let a = c .before .before .before .before .before .before .before .before .before .before .args in
     let w = c .before .before .write-delta .ensures in
-    let later = c .before .before .before .before .before in
-    (rw (later-factor (a .width) (a .i) (getD (a .factors .now) (a .i - 1) 0) (getD (a .factors .now) (a .i) 0) (later .before .if1 .left) (later .if2 .left)) (w .0), omega arith)
+    let later = c .before .before .before .before .before in (
+      rw (later-factor (a .width) (a .i) (getD (a .factors .now) (a .i - 1) 0) (getD (a .factors .now) (a .i) 0) (later .before .if1 .left) (later .if2 .left))
+          (w .0),
+      omega arith,
+    )
 
 pub write-factor-spec : {M : Type 1} → statement M
 write-factor-spec =

@@ -11,7 +11,8 @@ use Rattle.packing_channels.proofs.write_factors.Statement.{statement}
 use Rattle.packing_channels.proofs.write_factors.Tie as tie
 
 abbrev Inv-loop : tie.InvT-loop
-Inv-loop payload₀ factors coded width at₀ i₀ payload at i = (i ≤ coded) × Sent (λ k. factorBits width (factorBefore k (getD factors (k - 1) 0)) (getD factors k 0)) 11 at₀ payload₀ i at payload
+Inv-loop payload₀ factors coded width at₀ i₀ payload at i = (i ≤ coded)
+    × Sent (λ k. factorBits width (factorBefore k (getD factors (k - 1) 0)) (getD factors k 0)) 11 at₀ payload₀ i at payload
 
 abbrev μ-loop : tie.MeasureT-loop
 μ-loop payload₀ factors coded width at₀ i₀ payload at i = coded - i
@@ -39,8 +40,10 @@ same-length c = c .before .loop .inv .1 .run .same
 returns : tie.Need-returns Inv-loop μ-loop
 returns c =
     let a = c .before .before .before .before .args in
-    let l = c .before .loop in
-    (sent-all _ _ _ _ (factors-blocks (a .width) (a .factors .now) (a .coded) (omega arith) (omega arith)) (omega arith) (l .inv .1), omega (arith, l .inv .1 .bound))
+    let l = c .before .loop in (
+      sent-all _ _ _ _ (factors-blocks (a .width) (a .factors .now) (a .coded) (omega arith) (omega arith)) (omega arith) (l .inv .1),
+      omega (arith, l .inv .1 .bound),
+    )
 
 pub write-factors-spec : {M : Type 1} → statement M
 write-factors-spec =

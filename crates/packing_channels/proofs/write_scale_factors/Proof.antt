@@ -21,8 +21,10 @@ same-length c = search needs
 
 returns : tie.Need-returns
 returns c =
-    let w = c .before .before .before .write .ensures in
-    (rw (← c .before .before .before .before .before .calculate-optimal-delta-length .ensures .0, no-factors _ _ _ (c .if1 .taken), append-nil) (w .0), omega arith)
+    let w = c .before .before .before .write .ensures in (
+      rw (← c .before .before .before .before .before .calculate-optimal-delta-length .ensures .0, no-factors _ _ _ (c .if1 .taken), append-nil) (w .0),
+      omega arith,
+    )
 
 write-factors-requires : tie.Need-write-factors-requires
 write-factors-requires c κs = search needs
@@ -33,8 +35,10 @@ same-length-2 c = search needs
 returns-2 : tie.Need-returns-2
 returns-2 c =
     let w = c .before .before .before .before .before .before .before .write .ensures in
-    let v = c .before .before .write-factors .ensures in
-    (rw (← c .before .before .before .before .before .before .before .before .before .calculate-optimal-delta-length .ensures .0) (emits-then (w .0) (v .0)), omega arith)
+    let v = c .before .before .write-factors .ensures in (
+      rw (← c .before .before .before .before .before .before .before .before .before .calculate-optimal-delta-length .ensures .0) (emits-then (w .0) (v .0)),
+      omega arith,
+    )
 
 pub write-scale-factors-spec : {M : Type 1} → statement M
 write-scale-factors-spec =

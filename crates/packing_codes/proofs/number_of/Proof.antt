@@ -19,10 +19,12 @@ sub-result c = less-fits (c .before .args .code) (c .before .fits .code) (c .bef
 cast-result : tie.Need-cast-result
 cast-result c =
     let m = ordinal-most (c .before .args .code) (c .before .pre) in
-    subst (λ z. T (nonNeg z) × Fits w32 (natAbs z)) (sym (less-back (c .before .args .code) (c .before .fits .code) (c .before .pre) (c .if1 .taken))) (tt, record { fits = omega arith })
+    subst (λ z. T (nonNeg z) × Fits w32 (natAbs z)) (sym (less-back (c .before .args .code) (c .before .fits .code) (c .before .pre) (c .if1 .taken)))
+    (tt, record { fits = omega arith })
 
 returns : tie.Need-returns
-returns c = let e = ap natAbs (less-back (c .before .args .code) (c .before .fits .code) (c .before .pre) (c .if1 .taken)) in (e, rw e (ordinal-most (c .before .args .code) (c .before .pre)))
+returns c = let e = ap natAbs (less-back (c .before .args .code) (c .before .fits .code) (c .before .pre) (c .if1 .taken)) in
+    (e, rw e (ordinal-most (c .before .args .code) (c .before .pre)))
 
 add-result-2 : tie.Need-add-result-2
 add-result-2 c = sum-fits (c .before .args .code) (c .before .fits .code) (c .before .pre)
@@ -33,10 +35,12 @@ sub-result-2 c = turned-fits (c .before .args .code) (c .before .fits .code) (c 
 cast-result-2 : tie.Need-cast-result-2
 cast-result-2 c =
     let m = ordinal-most (c .before .args .code) (c .before .pre) in
-    subst (λ z. T (nonNeg z) × Fits w32 (natAbs z)) (sym (turned-back (c .before .args .code) (c .before .fits .code) (c .before .pre) (c .if1 .left))) (tt, record { fits = omega arith })
+    subst (λ z. T (nonNeg z) × Fits w32 (natAbs z)) (sym (turned-back (c .before .args .code) (c .before .fits .code) (c .before .pre) (c .if1 .left)))
+    (tt, record { fits = omega arith })
 
 returns-2 : tie.Need-returns-2
-returns-2 c = let e = ap natAbs (turned-back (c .before .args .code) (c .before .fits .code) (c .before .pre) (c .if1 .left)) in (e, rw e (ordinal-most (c .before .args .code) (c .before .pre)))
+returns-2 c = let e = ap natAbs (turned-back (c .before .args .code) (c .before .fits .code) (c .before .pre) (c .if1 .left)) in
+    (e, rw e (ordinal-most (c .before .args .code) (c .before .pre)))
 
 pub number-of-spec : {M : Type 1} → statement M
 number-of-spec =

@@ -18,7 +18,8 @@ use Rattle.packing_codes.proofs.write_codes.Tie as tie
 abbrev Inv-loop : tie.InvT-loop
 Inv-loop payload₀ layout resolutions codes rows words₀ lengths₀ at₀ s₀ payload words lengths at s =
     (s ≤ 8)
-    × Sent (λ k. eachBits (eachBits codeBits) (build (codedResolutions layout resolutions) (layout .channels)) (build (codesIn layout codes k) (layout .channels))) 24576
+    × Sent (λ k. eachBits (eachBits codeBits) (build (codedResolutions layout resolutions) (layout .channels))
+    (build (codesIn layout codes k) (layout .channels))) 24576
     at₀ payload₀ s at payload
     × (length words ≡ length words₀)
     × (length lengths ≡ length lengths₀)
@@ -40,8 +41,17 @@ write-subframe-requires c κs =
     let l = c .before .before .before .before .before .loop in (
       st .pre .0,
       (
-        (l .inv .1 .run .few, omega (arith, l .inv .1 .bound, p .0 .1), omega (arith, c .before .before .before .before .loop-test .taken), search needs, p .0 .3, omega (arith, l .inv .2, p .0 .5), omega (arith, l .inv .3, p .0 .6)),
-        rows-ruled (a .layout) (a .resolutions .now) (a .codes .now) (st .pre .0) (p .0 .2) (p .0 .3) (p .1 .0) (p .1 .1) (p .1 .2) (c .before .before .before .before .before .before .before .before .code-rules .ensures),
+        (
+          l .inv .1 .run .few,
+          omega (arith, l .inv .1 .bound, p .0 .1),
+          omega (arith, c .before .before .before .before .loop-test .taken),
+          search needs,
+          p .0 .3,
+          omega (arith, l .inv .2, p .0 .5),
+          omega (arith, l .inv .3, p .0 .6),
+        ),
+        rows-ruled (a .layout) (a .resolutions .now) (a .codes .now) (st .pre .0) (p .0 .2) (p .0 .3) (p .1 .0) (p .1 .1) (p .1 .2)
+            (c .before .before .before .before .before .before .before .before .code-rules .ensures),
       ),
     )
 
@@ -53,13 +63,21 @@ loop-less c = omega (arith, c .before .before .before .before .before .before .b
 
 loop-again : tie.Need-loop-again Inv-loop μ-loop
 loop-again c =
-    let st = c .before .before .before .before .before .before .before .before .before .before .before .before .before .before .before .before .before .before .before .before .before .before in
+    let c15 = c .before .before .before .before .before .before .before .before .before .before .before .before .before .before .before in
+    let st = c15 .before .before .before .before .before .before .before in
     let a = st .args in
     let p = st .pre .1 in
     let l = c .before .before .before .before .before .before .before .before .before .before .before .before .loop in
     let w = c .before .before .before .before .before .before .write-subframe .ensures in
-    let e = subframe-bits (a .layout) (a .resolutions .now) (a .codes .now) (st .pre .0) (p .0 .2) (p .0 .3) (p .1 .0) (p .1 .1) (p .1 .2) (c .before .before .before .before .before .before .before .before .before .before .before .before .before .before .before .code-rules .ensures) (l .s) (omega (arith, c .before .before .before .before .before .before .before .before .before .before .before .loop-test .taken)) in
-    (omega (arith, c .before .before .before .before .before .before .before .before .before .before .before .loop-test .taken), sent-more _ _ _ _ (l .inv .1) (rw e at (w .0)) (w .1), search needs, search needs)
+    let e = subframe-bits (a .layout) (a .resolutions .now) (a .codes .now) (st .pre .0) (p .0 .2) (p .0 .3) (p .1 .0) (p .1 .1) (p .1 .2)
+    (c .before .before .before .before .before .before .before .before .before .before .before .before .before .before .before .code-rules .ensures) (l .s)
+    (omega (arith, c .before .before .before .before .before .before .before .before .before .before .before .loop-test .taken)) in (
+      omega (arith, c .before .before .before .before .before .before .before .before .before .before .before .loop-test .taken),
+      sent-more _ _ _ _ (l .inv .1)
+          (rw e at (w .0)) (w .1),
+      search needs,
+      search needs,
+    )
 
 same-length : tie.Need-same-length Inv-loop μ-loop
 same-length c = c .before .loop .inv .1 .run .same
@@ -77,8 +95,10 @@ returns : tie.Need-returns Inv-loop μ-loop
 returns c =
     let a = c .before .before .before .before .before .before .before .before .before .before .before .args in
     let l = c .before .loop in
-    let each = eachBits (eachBits codeBits) (build (codedResolutions (a .layout) (a .resolutions .now)) (a .layout .channels)) in
-    (sent-all _ _ _ _ (times-blocks each (λ s. build (codesIn (a .layout) (a .codes .now) s) (a .layout .channels)) 8) (omega arith) (l .inv .1), omega (arith, l .inv .1 .bound))
+    let each = eachBits (eachBits codeBits) (build (codedResolutions (a .layout) (a .resolutions .now)) (a .layout .channels)) in (
+      sent-all _ _ _ _ (times-blocks each (λ s. build (codesIn (a .layout) (a .codes .now) s) (a .layout .channels)) 8) (omega arith) (l .inv .1),
+      omega (arith, l .inv .1 .bound),
+    )
 
 pub write-codes-spec : {M : Type 1} → statement M
 write-codes-spec =

@@ -7,7 +7,7 @@ use lib.ListN.{length, take, drop}
 use Rattle.buffers.proofs.Build.{back-width}
 use Rattle.emission.proofs.Loops.{Sent, sent-none, sent-more, sent-all}
 use Rattle.rules.specs.Format.{eachBits}
-use Rattle.rules.specs.Layout.{codedAt}
+use Rattle.rules.specs.Layout.{codedCountAt}
 use Rattle.rules.proofs.Cuts.{subframe-cut}
 use Rattle.rules.proofs.LentRows.{next-le, nearer, next-fits}
 use Rattle.rules_formats.proofs.Written.{each-blocks}
@@ -49,38 +49,38 @@ mul-s-2 c = search needs
 add-s : tie.Need-add-s Inv-loop μ-loop
 add-s c = search needs
 
-add-write-spectra : tie.Need-add-write-spectra Inv-loop μ-loop
-add-write-spectra c = search needs
+add-write-band-codes : tie.Need-add-write-band-codes Inv-loop μ-loop
+add-write-band-codes c = search needs
 
-mul-write-spectra : tie.Need-mul-write-spectra Inv-loop μ-loop
-mul-write-spectra c = search needs
+mul-write-band-codes : tie.Need-mul-write-band-codes Inv-loop μ-loop
+mul-write-band-codes c = search needs
 
-sub-write-spectra : tie.Need-sub-write-spectra Inv-loop μ-loop
-sub-write-spectra c = search needs
+sub-write-band-codes : tie.Need-sub-write-band-codes Inv-loop μ-loop
+sub-write-band-codes c = search needs
 
-part-write-spectra-start : tie.Need-part-write-spectra-start Inv-loop μ-loop
-part-write-spectra-start c = search needs
+part-write-band-codes-start : tie.Need-part-write-band-codes-start Inv-loop μ-loop
+part-write-band-codes-start c = search needs
 
-part-write-spectra-end : tie.Need-part-write-spectra-end Inv-loop μ-loop
-part-write-spectra-end c = search needs
+part-write-band-codes-end : tie.Need-part-write-band-codes-end Inv-loop μ-loop
+part-write-band-codes-end c = search needs
 
-add-write-spectra-2 : tie.Need-add-write-spectra-2 Inv-loop μ-loop
-add-write-spectra-2 c = search needs
+add-write-band-codes-2 : tie.Need-add-write-band-codes-2 Inv-loop μ-loop
+add-write-band-codes-2 c = search needs
 
-mul-write-spectra-2 : tie.Need-mul-write-spectra-2 Inv-loop μ-loop
-mul-write-spectra-2 c = search needs
+mul-write-band-codes-2 : tie.Need-mul-write-band-codes-2 Inv-loop μ-loop
+mul-write-band-codes-2 c = search needs
 
-sub-write-spectra-2 : tie.Need-sub-write-spectra-2 Inv-loop μ-loop
-sub-write-spectra-2 c = search needs
+sub-write-band-codes-2 : tie.Need-sub-write-band-codes-2 Inv-loop μ-loop
+sub-write-band-codes-2 c = search needs
 
-part-write-spectra-start-2 : tie.Need-part-write-spectra-start-2 Inv-loop μ-loop
-part-write-spectra-start-2 c = search needs
+part-write-band-codes-start-2 : tie.Need-part-write-band-codes-start-2 Inv-loop μ-loop
+part-write-band-codes-start-2 c = search needs
 
-part-write-spectra-end-2 : tie.Need-part-write-spectra-end-2 Inv-loop μ-loop
-part-write-spectra-end-2 c = search needs
+part-write-band-codes-end-2 : tie.Need-part-write-band-codes-end-2 Inv-loop μ-loop
+part-write-band-codes-end-2 c = search needs
 
-write-spectra-requires : tie.Need-write-spectra-requires Inv-loop μ-loop
-write-spectra-requires c κs =
+write-band-codes-requires : tie.Need-write-band-codes-requires Inv-loop μ-loop
+write-band-codes-requires c κs =
     let s = c .before .before .before .before .before .before .before .before .before .before .before .before in
     let l = c .before .before .before .before .before .before .before .loop in
     let k = c .before .before .before .before .before .coded-count .ensures in
@@ -90,25 +90,47 @@ write-spectra-requires c κs =
     let few : (n + 7) / 8 * 8 ≤ 128 = omega (arith, k .1, s .pre .0 .bands) in
     let all : AllRuled ((n + 7) / 8 * 8) (take 128 (drop (l .c * 128) (s .args .rows .now))) (take 128 (drop at (s .args .codes .now))) =
     λ b h. rw (subframe-cut (s .args .codes .now) (l .c) (s .args .subframe) (s .pre .1 .0 .2)) at (ruled b (omega arith)) in (
-      (l .inv .1 .run .few, omega (arith, l .inv .1 .bound, s .pre .0 .few), search needs, search needs, few, omega arith, omega (arith, l .inv .2), omega (arith, l .inv .3)),
+      (
+        l .inv .1 .run .few,
+        omega (arith, l .inv .1 .bound, s .pre .0 .few),
+        search needs,
+        search needs,
+        few,
+        omega arith,
+        omega (arith, l .inv .2),
+        omega (arith, l .inv .3),
+      ),
       rw (back-width (l .c * 128) 128, back-width at 128) all,
     )
 
 add-c : tie.Need-add-c Inv-loop μ-loop
-add-c c = next-fits _ _ (c .before .before .before .before .before .before .before .before .before .before .before .before .before .loop-test .taken) 16 refl (c .before .before .before .before .before .before .before .before .before .before .before .before .before .before .before .before .before .before .before .pre .0 .few)
+add-c c =
+    let c15 = c .before .before .before .before .before .before .before .before .before .before .before .before .before .before .before in
+    next-fits _ _ (c .before .before .before .before .before .before .before .before .before .before .before .before .before .loop-test .taken) 16 refl
+    (c15 .before .before .before .before .pre .0 .few)
 
 loop-less : tie.Need-loop-less Inv-loop μ-loop
 loop-less c = nearer _ _ (c .before .before .before .before .before .before .before .before .before .before .before .before .before .loop-test .taken)
 
 loop-again : tie.Need-loop-again Inv-loop μ-loop
 loop-again c =
-    let s = c .before .before .before .before .before .before .before .before .before .before .before .before .before .before .before .before .before .before .before in
+    let c15 = c .before .before .before .before .before .before .before .before .before .before .before .before .before .before .before in
+    let s = c15 .before .before .before .before in
     let l = c .before .before .before .before .before .before .before .before .before .before .before .before .before .before .loop in
-    let w = c .before .before .before .before .before .before .write-spectra .ensures in
+    let w = c .before .before .before .before .before .before .write-band-codes .ensures in
     let at = l .c * 1024 + s .args .subframe * 128 in
-    let h = rw (back-width (l .c * 128) 128, back-width at 128, c .before .before .before .before .before .before .before .before .before .before .before .before .coded-count .ensures .0) at (w .0) in
-    let next = next-le _ _ (c .before .before .before .before .before .before .before .before .before .before .before .before .before .loop-test .taken) in
-    (next, sent-more _ _ _ _ (l .inv .1) (rw (subframe-cut (s .args .codes .now) (l .c) (s .args .subframe) (s .pre .1 .0 .2)) h) (w .1), search needs, search needs)
+    let h = rw (
+      back-width (l .c * 128) 128,
+      back-width at 128,
+      c .before .before .before .before .before .before .before .before .before .before .before .before .coded-count .ensures .0,
+    ) at (w .0) in
+    let next = next-le _ _ (c .before .before .before .before .before .before .before .before .before .before .before .before .before .loop-test .taken) in (
+      next,
+      sent-more _ _ _ _ (l .inv .1) (rw (subframe-cut (s .args .codes .now) (l .c) (s .args .subframe) (s .pre .1 .0 .2)) h) (w .1),
+      search needs,
+      search
+          needs,
+    )
 
 same-length : tie.Need-same-length Inv-loop μ-loop
 same-length c = c .before .loop .inv .1 .run .same
@@ -123,7 +145,8 @@ returns : tie.Need-returns Inv-loop μ-loop
 returns c =
     let a = c .before .before .before .before .before .before .args in
     let l = c .before .loop in
-    let blocks = each-blocks (eachBits ruleBits) (paddedRows (a .layout) (a .rows .now)) (paddedCodes (a .layout) (a .codes .now) (a .subframe)) (a .layout .channels) in
+    let blocks = each-blocks (eachBits ruleBits) (paddedRows (a .layout) (a .rows .now)) (paddedCodes (a .layout) (a .codes .now) (a .subframe))
+    (a .layout .channels) in
     (sent-all _ _ _ _ blocks (omega arith) (l .inv .1), omega (arith, l .inv .1 .bound, c .before .before .before .before .before .before .pre .0 .few))
 
 pub write-subframe-spec : {M : Type 1} → statement M
@@ -140,17 +163,17 @@ write-subframe-spec =
     mul-s
     mul-s-2
     add-s
-    add-write-spectra
-    mul-write-spectra
-    sub-write-spectra
-    part-write-spectra-start
-    part-write-spectra-end
-    add-write-spectra-2
-    mul-write-spectra-2
-    sub-write-spectra-2
-    part-write-spectra-start-2
-    part-write-spectra-end-2
-    write-spectra-requires
+    add-write-band-codes
+    mul-write-band-codes
+    sub-write-band-codes
+    part-write-band-codes-start
+    part-write-band-codes-end
+    add-write-band-codes-2
+    mul-write-band-codes-2
+    sub-write-band-codes-2
+    part-write-band-codes-start-2
+    part-write-band-codes-end-2
+    write-band-codes-requires
     add-c
     loop-less
     loop-again

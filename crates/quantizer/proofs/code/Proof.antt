@@ -31,7 +31,8 @@ raw-code-requires c κs = search needs
 held-requires : tie.Need-held-requires
 held-requires c κs = search needs
 
-low : (c : tie.After-held) → toZ w64 (ofZ w64 (c .held .result)) ≡ heldZ (negsuc 7) (pos 7) (rawCode (c .before .before .before .args .r) (c .before .before .before .args .scaled))
+low : (c : tie.After-held) → toZ w64 (ofZ w64 (c .held .result))
+    ≡ heldZ (negsuc 7) (pos 7) (rawCode (c .before .before .before .args .r) (c .before .before .before .args .scaled))
 low c =
     toZ-ofZ w64 (c .held .result) (record { sfits = c .held .ok })
     ∙ c .held .ensures
@@ -71,7 +72,9 @@ held-requires-2 c κs = search needs
 held : {a a' b b' z z' : ℤ} → a ≡ a' → b ≡ b' → z ≡ z' → heldZ a b z ≡ heldZ a' b' z'
 held p q r = cc
 
-wide : (c : tie.After-held2) → toZ w64 (ofZ w64 (c .held2 .result)) ≡ heldZ (negℤ (pos (top (c .before)))) (pos (top (c .before))) (rawCode (c .before .before .before .before .args .r) (c .before .before .before .before .args .scaled))
+wide : (c : tie.After-held2) → toZ w64 (ofZ w64 (c .held2 .result))
+    ≡ heldZ (negℤ (pos (top (c .before)))) (pos (top (c .before)))
+    (rawCode (c .before .before .before .before .args .r) (c .before .before .before .before .args .scaled))
 wide c =
     toZ-ofZ w64 (c .held2 .result) (record { sfits = c .held2 .ok })
     ∙ c .held2 .ensures

@@ -39,8 +39,18 @@ slice-aggregate-read-exact-4 c = sym (length-take-le _ _ (c .before .before .bef
 
 read-exact-requires : tie.Need-read-exact-requires
 read-exact-requires c κs =
-    let a = c .before .before .before .before .before .before .before .before .before .before .pre in
-    (a .0, (length-take-le _ _ (a .1 .frame), record { factors = length-take-le _ _ (a .1 .factors); side = length-take-le _ _ (a .1 .side); codes = length-take-le _ _ (a .1 .codes) }))
+    let a = c .before .before .before .before .before .before .before .before .before .before .pre in (
+      a .0,
+      (
+        length-take-le _ _ (a .1 .frame),
+        record {
+          factors = length-take-le _ _ (a .1 .factors);
+          side = length-take-le _ _ (a .1 .side);
+          codes =
+              length-take-le _ _ (a .1 .codes);
+        },
+      ),
+    )
 
 same-length : tie.Need-same-length
 same-length c = search needs
@@ -53,8 +63,9 @@ same-length-3 c = search needs
 
 returns : tie.Need-returns
 returns c =
-    let a = c .before .before .before .before .before .before .before .before .before .before .before .before .before .before .before .before .args in
-    let p = c .before .before .before .before .before .before .before .before .before .before .before .before .before .before .before .before .pre .1 in
+    let c15 = c .before .before .before .before .before .before .before .before .before .before .before .before .before .before .before in
+    let a = c15 .before .args in
+    let p = c15 .before .pre .1 in
     let r = c .before .before .before .before .before .read-exact in
     let k = r .kept .1 .1 in
     parts-laid (readerLent (a .frame .now) (a .factors .now) (a .side .now) (a .codes .now)) (r .result)

@@ -24,7 +24,8 @@ same-length c = search needs
 returns : tie.Need-returns
 returns c =
     let a = c .before .before .before .before .before .before .before .before .before .before .args in
-    channel-cut (a .layout) (a .channel) (a .part .now) (a .place .at) (c .before .before .before .before .before .before .coded-count .ensures .0) (c .before .before .before .before .read-width .ensures) (c .enum-told .given .1)
+    channel-cut (a .layout) (a .channel) (a .part .now) (a .place .at) (c .before .before .before .before .before .before .coded-count .ensures .0)
+    (c .before .before .before .before .read-width .ensures) (c .enum-told .given .1)
 
 side-count-requires : tie.Need-side-count-requires
 side-count-requires c κs = search needs
@@ -34,7 +35,8 @@ side-width-requires c κs = search needs
 
 read-side-requires : tie.Need-read-side-requires
 read-side-requires c κs =
-    let t = stored-of (c .before .before .before .before .step .given .1) (c .before .before .before .before .before .before .before .before .read-width .ensures) in
+    let t = stored-of (c .before .before .before .before .step .given .1)
+    (c .before .before .before .before .before .before .before .before .read-width .ensures) in
     (record { within = t .done .within; short = omega arith }, (omega arith, omega arith, omega arith))
 
 same-length-2 : tie.Need-same-length-2
@@ -45,9 +47,14 @@ same-length-3 c = search needs
 
 returns-2 : tie.Need-returns-2
 returns-2 c =
-    let a = c .before .before .before .before .before .before .before .before .before .before .before .before .before .before .before .before .before .args in
-    channel-stored (a .layout) (a .channel) (a .part .now) (a .place .at) (c .before .before .before .before .before .before .before .before .before .before .before .before .before .coded-count .ensures .0) (c .before .before .before .before .before .before .before .before .before .before .before .read-width .ensures) (c .before .before .before .before .before .before .before .step .given .1)
-    (c .before .before .before .before .before .side-count .ensures .0) (c .before .before .before .before .side-width .ensures .0) (c .before .before .read-side .result) (c .before .before .read-side .ensures)
+    let c15 = c .before .before .before .before .before .before .before .before .before .before .before .before .before .before .before in
+    let a = c15 .before .before .args in
+    channel-stored (a .layout) (a .channel) (a .part .now) (a .place .at)
+    (c .before .before .before .before .before .before .before .before .before .before .before .before .before .coded-count .ensures .0)
+    (c .before .before .before .before .before .before .before .before .before .before .before .read-width .ensures)
+    (c .before .before .before .before .before .before .before .step .given .1)
+    (c .before .before .before .before .before .side-count .ensures .0) (c .before .before .before .before .side-width .ensures .0)
+    (c .before .before .read-side .result) (c .before .before .read-side .ensures)
 
 pub read-channel-spec : {M : Type 1} → statement M
 read-channel-spec =

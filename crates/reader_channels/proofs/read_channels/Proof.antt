@@ -13,7 +13,8 @@ use Rattle.reader_channels.proofs.read_channels.Statement.{statement}
 use Rattle.reader_channels.proofs.read_channels.Tie as tie
 
 abbrev Inv-loop : tie.InvT-loop
-Inv-loop layout part factors₀ side₀ channels at₀ c₀ factors side at c = Reading layout part (each (readChannel layout) (kindsOf layout) (leftAt part (at₀ .at))) c (at .at) factors side
+Inv-loop layout part factors₀ side₀ channels at₀ c₀ factors side at c =
+    Reading layout part (each (readChannel layout) (kindsOf layout) (leftAt part (at₀ .at))) c (at .at) factors side
 
 abbrev μ-loop : tie.MeasureT-loop
 μ-loop layout part factors₀ side₀ channels at₀ c₀ factors side at c = channels - c
@@ -73,7 +74,9 @@ same-length-2 c = search needs
 returns : tie.Need-returns Inv-loop μ-loop
 returns c =
     let a = c .before .before .before .before .before .before .before .before .before .before .before .before .before .before .args in
-    reading-stop (a .layout) (a .part .now) (c .before .before .before .before .before .before .before .before .before .before .loop .inv) (c .before .before .before .before .before .before .before .before .before .loop-test .taken) (c .enum-told .given .1) (c .before .before .before .before .before .before .read-channel .ensures)
+    reading-stop (a .layout) (a .part .now) (c .before .before .before .before .before .before .before .before .before .before .loop .inv)
+    (c .before .before .before .before .before .before .before .before .before .loop-test .taken) (c .enum-told .given .1)
+    (c .before .before .before .before .before .before .read-channel .ensures)
 
 add-c : tie.Need-add-c Inv-loop μ-loop
 add-c c = search needs
@@ -89,7 +92,9 @@ loop-again c =
     let zs = r .last .1 .1 .1 .1 .1 .0 in
     let fl : length ys ≡ 128 = search needs in
     let sl : length zs ≡ 8 = search needs in
-    reading-more (a .layout) (a .part .now) (c .before .before .before .before .before .before .before .before .before .before .before .loop .inv) (c .before .before .before .before .before .before .before .before .before .before .loop-test .taken) ys zs fl sl (c .before .step .given .1) (r .ensures)
+    reading-more (a .layout) (a .part .now) (c .before .before .before .before .before .before .before .before .before .before .before .loop .inv)
+    (c .before .before .before .before .before .before .before .before .before .before .loop-test .taken) ys zs fl sl (c .before .step .given .1)
+    (r .ensures)
 
 same-length-3 : tie.Need-same-length-3 Inv-loop μ-loop
 same-length-3 c = search needs
@@ -100,7 +105,8 @@ same-length-4 c = search needs
 returns-2 : tie.Need-returns-2 Inv-loop μ-loop
 returns-2 c =
     let l = c .before .loop in
-    reading-all (c .before .before .before .before .before .args .layout) (c .before .before .before .before .before .args .part .now) (l .inv) (l .at) refl (omega arith)
+    reading-all (c .before .before .before .before .before .args .layout) (c .before .before .before .before .before .args .part .now) (l .inv) (l .at) refl
+    (omega arith)
 
 pub read-channels-spec : {M : Type 1} → statement M
 read-channels-spec =

@@ -20,7 +20,8 @@ returns c = head-refused (c .before .before .read-head .ensures (c .before .befo
 
 read-channels-requires : tie.Need-read-channels-requires
 read-channels-requires c κs =
-    let t = head-of (c .before .before .before .before .before .read-head .ensures (c .before .before .before .before .before .before .before .before .before .args .layout)) (c .before .before .before .head .given .1) in
+    let t = head-of (c .before .before .before .before .before .read-head .ensures
+    (c .before .before .before .before .before .before .before .before .before .args .layout)) (c .before .before .before .head .given .1) in
     (search needs, (record { within = t .within; short = omega arith }, (search needs, search needs)))
 
 head-after-requires : tie.Need-head-after-requires
@@ -35,8 +36,10 @@ same-length-2 c = search needs
 returns-2 : tie.Need-returns-2
 returns-2 c =
     let a = c .before .before .before .before .before .before .before .before .before .before .before .before .before .before .before .args in
-    let t = head-of (c .before .before .before .before .before .before .before .before .before .before .before .read-head .ensures (a .layout)) (c .before .before .before .before .before .before .before .before .before .head .given .1) in
-    headed-after (a .layout) (a .part .now) _ _ t (c .before .before .before .before .before .read-channels .result) (c .before .before .before .before .before .read-channels .ensures) (c .head-after .ensures)
+    let t = head-of (c .before .before .before .before .before .before .before .before .before .before .before .read-head .ensures (a .layout))
+    (c .before .before .before .before .before .before .before .before .before .head .given .1) in
+    headed-after (a .layout) (a .part .now) _ _ t (c .before .before .before .before .before .read-channels .result)
+    (c .before .before .before .before .before .read-channels .ensures) (c .head-after .ensures)
 
 pub read-header-spec : {M : Type 1} → statement M
 read-header-spec =

@@ -7,7 +7,7 @@ use lib.ListN.{length, take}
 use Rattle.bits.specs.Place.{leftAt}
 use Rattle.buffers.proofs.Build.{back-width}
 use Rattle.rules.specs.Format.{each}
-use Rattle.rules.specs.Layout.{codedAt, part}
+use Rattle.rules.specs.Layout.{codedCountAt, part}
 use Rattle.rules.specs.Reading.{readCode}
 use Rattle.reader_codes.specs.Rows.{StoredCodes}
 use Rattle.reader_codes.proofs.CodeChannels.{Upto, upto-none, upto-all, upto-stop, upto-more}
@@ -41,35 +41,35 @@ add-to c = omega arith
 mul-to-2 : tie.Need-mul-to-2 Inv-loop μ-loop
 mul-to-2 c = omega arith
 
-add-read-spectra : tie.Need-add-read-spectra Inv-loop μ-loop
-add-read-spectra c = omega arith
+add-read-band-codes : tie.Need-add-read-band-codes Inv-loop μ-loop
+add-read-band-codes c = omega arith
 
-sub-read-spectra : tie.Need-sub-read-spectra Inv-loop μ-loop
-sub-read-spectra c = omega arith
+sub-read-band-codes : tie.Need-sub-read-band-codes Inv-loop μ-loop
+sub-read-band-codes c = omega arith
 
-part-read-spectra-start : tie.Need-part-read-spectra-start Inv-loop μ-loop
-part-read-spectra-start c = omega arith
+part-read-band-codes-start : tie.Need-part-read-band-codes-start Inv-loop μ-loop
+part-read-band-codes-start c = omega arith
 
-part-read-spectra-end : tie.Need-part-read-spectra-end Inv-loop μ-loop
-part-read-spectra-end c = omega arith
+part-read-band-codes-end : tie.Need-part-read-band-codes-end Inv-loop μ-loop
+part-read-band-codes-end c = omega arith
 
-add-read-spectra-2 : tie.Need-add-read-spectra-2 Inv-loop μ-loop
-add-read-spectra-2 c = omega arith
+add-read-band-codes-2 : tie.Need-add-read-band-codes-2 Inv-loop μ-loop
+add-read-band-codes-2 c = omega arith
 
-mul-read-spectra : tie.Need-mul-read-spectra Inv-loop μ-loop
-mul-read-spectra c = omega arith
+mul-read-band-codes : tie.Need-mul-read-band-codes Inv-loop μ-loop
+mul-read-band-codes c = omega arith
 
-sub-read-spectra-2 : tie.Need-sub-read-spectra-2 Inv-loop μ-loop
-sub-read-spectra-2 c = omega arith
+sub-read-band-codes-2 : tie.Need-sub-read-band-codes-2 Inv-loop μ-loop
+sub-read-band-codes-2 c = omega arith
 
-part-read-spectra-start-2 : tie.Need-part-read-spectra-start-2 Inv-loop μ-loop
-part-read-spectra-start-2 c = omega arith
+part-read-band-codes-start-2 : tie.Need-part-read-band-codes-start-2 Inv-loop μ-loop
+part-read-band-codes-start-2 c = omega arith
 
-part-read-spectra-end-2 : tie.Need-part-read-spectra-end-2 Inv-loop μ-loop
-part-read-spectra-end-2 c = omega arith
+part-read-band-codes-end-2 : tie.Need-part-read-band-codes-end-2 Inv-loop μ-loop
+part-read-band-codes-end-2 c = omega arith
 
-read-spectra-requires : tie.Need-read-spectra-requires Inv-loop μ-loop
-read-spectra-requires c κs =
+read-band-codes-requires : tie.Need-read-band-codes-requires Inv-loop μ-loop
+read-band-codes-requires c κs =
     let a = c .before .before .before .before .before .before .before in
     let l = c .before .before .before .before .loop in
     let from = l .c * 128 in (
@@ -83,19 +83,22 @@ read-spectra-requires c κs =
     )
 
 -- the row's place in the buffer, its length, and what it told
-fits : (c : tie.After-read-spectra Inv-loop μ-loop) → let n = c .before .before .before .before .before .loop in let a = c .before .before .before .before .before .before .before .before .args in
+fits : (c : tie.After-read-band-codes Inv-loop μ-loop) → let n = c .before .before .before .before .before .loop in
+    let a = c .before .before .before .before .before .before .before .before .args in
     (n .c * 8 + a .subframe) * 128 + 128 ≤ length (n .codes)
 fits c = omega (arith, c .before .before .before .before .before .loop .inv .same)
 
-long : (c : tie.After-read-spectra Inv-loop μ-loop) → length (c .read-spectra .last .1 .1 .1 .1 .0) ≡ 128
-long c = c .read-spectra .kept .1 .1 .1 .1 .0 ∙ lent-length _ 128 (c .before .before .before .before .before .loop .codes) (fits c)
+long : (c : tie.After-read-band-codes Inv-loop μ-loop) → length (c .read-band-codes .last .1 .1 .1 .1 .0) ≡ 128
+long c = c .read-band-codes .kept .1 .1 .1 .1 .0 ∙ lent-length _ 128 (c .before .before .before .before .before .loop .codes) (fits c)
 
-told : (c : tie.After-read-spectra Inv-loop μ-loop) → let n = c .before .before .before .before .before .loop in let a = c .before .before .before .before .before .before .before .before .args in
-    StoredCodes (a .part .now) (each readCode (take (codedAt (a .layout) (n .c)) (part 128 (a .resolutions .now) (n .c))) (leftAt (a .part .now) (n .at .at))) (codedAt (a .layout) (n .c))
-    (c .read-spectra .last .1 .1 .1 .1 .0) (c .read-spectra .result)
-told c =
+agrees : (c : tie.After-read-band-codes Inv-loop μ-loop) → let n = c .before .before .before .before .before .loop in
+    let a = c .before .before .before .before .before .before .before .before .args in
+    StoredCodes (a .part .now) (each readCode (take (codedCountAt (a .layout) (n .c)) (part 128 (a .resolutions .now) (n .c)))
+    (leftAt (a .part .now) (n .at .at))) (codedCountAt (a .layout) (n .c))
+    (c .read-band-codes .last .1 .1 .1 .1 .0) (c .read-band-codes .result)
+agrees c =
     let n = c .before .before .before .before .before .loop in
-    rw (back-width (n .c * 128) 128, c .before .before .before .coded-count .ensures .0) at (c .read-spectra .ensures)
+    rw (back-width (n .c * 128) 128, c .before .before .before .coded-count .ensures .0) at (c .read-band-codes .ensures)
 
 enum-known-step : tie.Need-enum-known-step Inv-loop μ-loop
 enum-known-step c = search needs
@@ -108,14 +111,15 @@ same-length c =
     let r = c .before .before .before in
     let l = r .before .before .before .before .before .loop in
     let a = r .before .before .before .before .before .before .before .before .args in
-    renewed-length 128 (l .c * 8 + a .subframe) (l .codes) (r .read-spectra .last .1 .1 .1 .1 .0) (fits r) (long r) ∙ l .inv .same
+    renewed-length 128 (l .c * 8 + a .subframe) (l .codes) (r .read-band-codes .last .1 .1 .1 .1 .0) (fits r) (long r) ∙ l .inv .same
 
 returns : tie.Need-returns Inv-loop μ-loop
 returns c =
     let r = c .before .before .before in
     let l = r .before .before .before .before .before .loop in
     let a = r .before .before .before .before .before .before .before .before .args in
-    upto-stop (a .layout) (a .subframe) (a .part .now) (a .resolutions .now) (a .codes .now) (a .place .at) (l .codes) (l .at .at) (l .c) (l .inv) (omega arith) (c .enum-told .given .1) (told r)
+    upto-stop (a .layout) (a .subframe) (a .part .now) (a .resolutions .now) (a .codes .now) (a .place .at) (l .codes) (l .at .at) (l .c) (l .inv) (omega arith)
+    (c .enum-told .given .1) (agrees r)
 
 add-c : tie.Need-add-c Inv-loop μ-loop
 add-c c = omega arith
@@ -128,8 +132,9 @@ loop-again c =
     let r = c .before .before .before .before in
     let l = r .before .before .before .before .before .loop in
     let a = r .before .before .before .before .before .before .before .before in
-    upto-more (a .args .layout) (a .args .subframe) (a .args .part .now) (a .args .resolutions .now) (a .args .codes .now) (a .args .place .at) (l .codes) (l .at .at) (l .c) (l .inv) (omega arith)
-    (omega arith) (a .pre .1 .1 .1) (r .read-spectra .last .1 .1 .1 .1 .0) (long r) (c .before .step .given .1) (told r)
+    upto-more (a .args .layout) (a .args .subframe) (a .args .part .now) (a .args .resolutions .now) (a .args .codes .now) (a .args .place .at) (l .codes)
+    (l .at .at) (l .c) (l .inv) (omega arith)
+    (omega arith) (a .pre .1 .1 .1) (r .read-band-codes .last .1 .1 .1 .1 .0) (long r) (c .before .step .given .1) (agrees r)
 
 same-length-2 : tie.Need-same-length-2 Inv-loop μ-loop
 same-length-2 c = c .before .loop .inv .same
@@ -149,16 +154,16 @@ read-subframe-spec =
     mul-to
     add-to
     mul-to-2
-    add-read-spectra
-    sub-read-spectra
-    part-read-spectra-start
-    part-read-spectra-end
-    add-read-spectra-2
-    mul-read-spectra
-    sub-read-spectra-2
-    part-read-spectra-start-2
-    part-read-spectra-end-2
-    read-spectra-requires
+    add-read-band-codes
+    sub-read-band-codes
+    part-read-band-codes-start
+    part-read-band-codes-end
+    add-read-band-codes-2
+    mul-read-band-codes
+    sub-read-band-codes-2
+    part-read-band-codes-start-2
+    part-read-band-codes-end-2
+    read-band-codes-requires
     enum-known-step
     enum-told
     same-length

@@ -92,7 +92,10 @@ loop-again c =
       blocked-more (resolutionsAt (a .layout) (a .level) (a .boundary) (a .factors .now)) 128 (a .layout .channels) (a .resolutions .now)
           (λ i q. channel-size _ _ _ _) (s .loop .c) (s .loop .resolutions) h (s .loop .inv .1)
           (c .before .before .channel-resolutions .last .1 .1 .1 .1 .0) (next-ends 128 _ _ _ h (start .pre .1 .1 .1))
-          (c .before .before .channel-resolutions .ensures ∙ rw (back-width (s .loop .c * 128) 128, c .before .before .before .before .before .coded-count .ensures .0)),
+          (c .before .before .channel-resolutions .ensures ∙ rw (
+            back-width (s .loop .c * 128) 128,
+            c .before .before .before .before .before .coded-count .ensures .0,
+          )),
     )
 
 same-length : tie.Need-same-length Inv-loop μ-loop

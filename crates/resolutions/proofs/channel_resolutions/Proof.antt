@@ -8,7 +8,8 @@ use Rattle.resolutions.proofs.channel_resolutions.Statement.{statement}
 use Rattle.resolutions.proofs.channel_resolutions.Tie as tie
 
 abbrev Inv-loop : tie.InvT-loop
-Inv-loop level boundary factors coded resolutions₀ b₀ resolutions b = (b ≤ 128) × Filled (bandResolution level boundary factors coded) resolutions₀ b resolutions
+Inv-loop level boundary factors coded resolutions₀ b₀ resolutions b = (b ≤ 128)
+    × Filled (bandResolution level boundary factors coded) resolutions₀ b resolutions
 
 abbrev μ-loop : tie.MeasureT-loop
 μ-loop level boundary factors coded resolutions₀ b₀ resolutions b = 128 - b
@@ -44,7 +45,8 @@ returns : tie.Need-returns Inv-loop μ-loop
 unfolding channelResolutions
 returns c =
     let s = c .before in
-    filled-all _ (s .before .before .before .args .resolutions .now) (s .loop .b) 128 _ (s .before .before .before .pre .1 .1) (search needs) (s .loop .inv .0) (s .loop .inv .1)
+    filled-all _ (s .before .before .before .args .resolutions .now) (s .loop .b) 128 _ (s .before .before .before .pre .1 .1) (search needs) (s .loop .inv .0)
+    (s .loop .inv .1)
 
 pub channel-resolutions-spec : {M : Type 1} → statement M
 channel-resolutions-spec =

@@ -35,7 +35,8 @@ returns-2 c =
           (c .smaller .ensures
           ∙ ap (λ (n : ℕ). min n (a .highest))
           (c .before .larger .ensures
-          ∙ ap (λ (n : ℕ). max n (a .lowest)) (c .before .before .curve .ensures .0 ∙ ap (λ (n : ℕ). getD resolutionCurve n 0) (s .held-position .ensures .0)))),
+          ∙ ap (λ (n : ℕ). max n (a .lowest)) (c .before .before .curve .ensures .0
+          ∙ ap (λ (n : ℕ). getD resolutionCurve n 0) (s .held-position .ensures .0)))),
       omega (arith, c .smaller .ensures),
     )
 

@@ -3,7 +3,7 @@ use mathlib.Core.Path.{refl}
 use borrow.Author.Needs.{needs}
 use Rattle.rules.specs.Refusals.{stageOutcome}
 use Rattle.rules_line.specs.Line.{lineOutcome, lineIndex, turnOutcome, turnIndex}
-use Rattle.rules_line.proofs.Answers.{refused-told}
+use Rattle.rules_line.proofs.Answers.{refused-said}
 use Rattle.rules_line.proofs.line_answer.Statement.{statement}
 use Rattle.rules_line.proofs.line_answer.Tie as tie
 
@@ -12,7 +12,7 @@ enum-told c = search needs
 
 returns : tie.Need-returns
 unfolding lineOutcome lineIndex
-returns c = refused-told _ (c .match .keys2) _
+returns c = refused-said _ (c .match .keys2) _
 
 returns-2 : tie.Need-returns-2
 unfolding lineOutcome lineIndex stageOutcome turnOutcome turnIndex

@@ -6,7 +6,7 @@ use borrow.Author.Needs.{needs}
 use lib.Ieee.{Float}
 use Rattle.buffers.proofs.Build.{back-width}
 use Rattle.buffers.proofs.Blocks.{Blocked, blocked-none, blocked-more, blocked-exact}
-use Rattle.rules.specs.Layout.{codedAt, part}
+use Rattle.rules.specs.Layout.{codedCountAt, part}
 use Rattle.rules.specs.Scaling.{channelScaled, allScaled}
 use Rattle.rules.specs.declared.Layout.{Layout}
 use Rattle.rules.proofs.LentRows.{next-le, nearer, below, next-fits, start-fits, end-fits, bytes-fits, starts, ends, next-ends, lent-long}
@@ -16,7 +16,7 @@ use Rattle.scaling.proofs.scale_spectra.Statement.{statement}
 use Rattle.scaling.proofs.scale_spectra.Tie as tie
 
 abbrev scaledAt : Layout → List Float → List ℕ → ℕ → List Float
-scaledAt l xs fs c = channelScaled (part 1024 xs c) (part 128 fs c) (codedAt l c)
+scaledAt l xs fs c = channelScaled (part 1024 xs c) (part 128 fs c) (codedCountAt l c)
 
 abbrev Inv-loop : tie.InvT-loop
 Inv-loop layout table spectra factors scaled₀ channels c₀ scaled c = (c ≤ channels) × Blocked (scaledAt layout spectra factors) 1024 scaled₀ c scaled
@@ -150,7 +150,11 @@ loop-again c =
       blocked-more (scaledAt l xs fs) 1024 (l .channels) (start .args .scaled .now) (λ i h. scaled-size _ _ _) (s .loop .c) (s .loop .scaled)
           h (s .loop .inv .1) (c .before .before .scale-channel .last .1 .1 .1 .1 .0) (next-ends 1024 _ _ _ h (start .pre .1 .1 .1 .2))
           (c .before .before .scale-channel .ensures
-          ∙ rw (back-width (s .loop .c * 1024) 1024, back-width (s .loop .c * 128) 128, c .before .before .before .before .before .before .coded-count .ensures .0)),
+          ∙ rw (
+            back-width (s .loop .c * 1024) 1024,
+            back-width (s .loop .c * 128) 128,
+            c .before .before .before .before .before .before .coded-count .ensures .0,
+          )),
     )
 
 same-length : tie.Need-same-length Inv-loop μ-loop

@@ -47,8 +47,16 @@ add-mid c = search needs
 
 move-boundary-requires : tie.Need-move-boundary-requires Inv-loop μ-loop
 move-boundary-requires c κs =
-    let s = c .before .before .before .before .before in
-    (s .pre .0, (s .pre .1 .0, ((s .pre .1 .1 .0 .0, s .pre .1 .1 .0 .1), ((s .pre .1 .1 .0 .2, s .pre .1 .1 .0 .3, search needs, search needs), (search needs, search needs)))))
+    let s = c .before .before .before .before .before in (
+      s .pre .0,
+      (
+        s .pre .1 .0,
+        (
+          (s .pre .1 .1 .0 .0, s .pre .1 .1 .0 .1),
+          ((s .pre .1 .1 .0 .2, s .pre .1 .1 .0 .3, search needs, search needs), (search needs, search needs)),
+        ),
+      ),
+    )
 
 sub-high : tie.Need-sub-high Inv-loop μ-loop
 sub-high c = search needs
@@ -92,8 +100,16 @@ returns c =
 
 move-boundary-requires-2 : tie.Need-move-boundary-requires-2 Inv-loop μ-loop
 move-boundary-requires-2 c κs =
-    let s = c .before .before .before .before .before .before in
-    (s .pre .0, (s .pre .1 .0, ((s .pre .1 .1 .0 .0, s .pre .1 .1 .0 .1), ((s .pre .1 .1 .0 .2, s .pre .1 .1 .0 .3, search needs, search needs), (search needs, search needs)))))
+    let s = c .before .before .before .before .before .before in (
+      s .pre .0,
+      (
+        s .pre .1 .0,
+        (
+          (s .pre .1 .1 .0 .0, s .pre .1 .1 .0 .1),
+          ((s .pre .1 .1 .0 .2, s .pre .1 .1 .0 .3, search needs, search needs), (search needs, search needs)),
+        ),
+      ),
+    )
 
 returns-2 : tie.Need-returns-2 Inv-loop μ-loop
 unfolding lastOf

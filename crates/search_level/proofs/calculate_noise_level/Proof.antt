@@ -7,7 +7,7 @@ use Rattle.buffers.specs.Walk.{AtMost}
 use borrow.Author.Needs.{needs}
 use Rattle.rules.specs.Layout.{frameSize}
 use Rattle.rules.specs.Level.{levelOf, remove, noiseLevel}
-use Rattle.rules.specs.Stage.{foundOf}
+use Rattle.rules.specs.Stage.{levelFound}
 use Rattle.rules.proofs.Levels.{remove-done, remove-stop, remove-turn}
 use Rattle.search_level.specs.Bits.{levelBits}
 use Rattle.search_level.proofs.Cleared.{clear-most}
@@ -18,7 +18,7 @@ use Rattle.search_level.proofs.calculate_noise_level.Tie as tie
 abbrev Inv-loop : tie.InvT-loop
 Inv-loop layout curve scaled counts factors₀ top₀ pairs₀ found₀ factors top pairs found =
     (length factors ≡ length factors₀) × (2 * pairs + top ≤ 128) × (found .level ≤ 255) × (found .level ≡ levelOf (overAt layout scaled factors))
-    × (foundOf layout scaled factors₀ ≡ remove layout (overAt layout scaled) (64 - pairs) top pairs factors)
+    × (levelFound layout scaled factors₀ ≡ remove layout (overAt layout scaled) (64 - pairs) top pairs factors)
     × (found .used ≡ levelBits layout scaled factors (found .level)) × (found .used ≤ 8 * frameSize layout) × AtMost 63 factors
 
 abbrev μ-loop : tie.MeasureT-loop
@@ -69,12 +69,23 @@ add-pairs c = search needs
 
 -- what is removed stays small
 removed : (c : tie.After-binary-search-level-arg2 Inv-loop μ-loop) → AtMost 63 (c .before .before .before .clear-pair .last .1 .0)
-removed c = subst (λ fs. AtMost 63 fs) (sym (c .before .before .before .clear-pair .ensures)) (clear-most 63 _ (c .before .before .before .before .before .before .before .before .loop .factors) _ (c .before .before .before .before .before .before .before .before .loop .inv .7))
+removed c = subst (λ fs. AtMost 63 fs) (sym (c .before .before .before .clear-pair .ensures))
+    (clear-most 63 _ (c .before .before .before .before .before .before .before .before .loop .factors) _
+    (c .before .before .before .before .before .before .before .before .loop .inv .7))
 
 binary-search-level-requires-2 : tie.Need-binary-search-level-requires-2 Inv-loop μ-loop
 binary-search-level-requires-2 c κs =
-    let s = c .before .before .before .before .before .before .before .before .before .before .before .before .before .before in
-    (s .pre .0, ((s .pre .1 .0 .0, s .pre .1 .0 .1, removed c), (s .pre .1 .1 .0, c .before .before .before .clear-pair .kept .1 .0 ∙ c .before .before .before .before .before .before .before .before .loop .inv .0 ∙ s .pre .1 .1 .1)))
+    let s = c .before .before .before .before .before .before .before .before .before .before .before .before .before .before in (
+      s .pre .0,
+      (
+        (s .pre .1 .0 .0, s .pre .1 .0 .1, removed c),
+        (
+          s .pre .1 .1 .0,
+          c .before .before .before .clear-pair .kept .1 .0 ∙ c .before .before .before .before .before .before .before .before .loop .inv .0
+              ∙ s .pre .1 .1 .1,
+        ),
+      ),
+    )
 
 loop-less : tie.Need-loop-less Inv-loop μ-loop
 loop-less c = search needs

@@ -54,7 +54,8 @@ loop-again c =
           (c .before .before .clear-two .last .0) (omega arith)
           (c .before .before .clear-two .ensures
           ∙ ap (λ (fs : List ℕ). clearTwo fs (a .band))
-          (blocked-lent (clearedAt (a .factors .now) (a .band)) 128 (a .layout .channels) (a .factors .now) size (s .loop .c) (s .loop .factors) t (s .loop .inv .1))),
+          (blocked-lent (clearedAt (a .factors .now) (a .band)) 128 (a .layout .channels) (a .factors .now) size (s .loop .c) (s .loop .factors) t
+          (s .loop .inv .1))),
     )
 
 same-length : tie.Need-same-length Inv-loop μ-loop

@@ -1,7 +1,7 @@
 -- `stage::encode_frame` meets its contract: what the gate refuses is kept, and the rest is the run on its parts. Assumes nothing.
 use mathlib.Core.Path.{refl, sym, ap, _∙_}
 use Rattle.rules.specs.Refusals.{stageOutcome}
-use Rattle.rules.specs.Stage.{gated}
+use Rattle.rules.specs.Stage.{behindGate}
 use Rattle.stage_gate.specs.Gate.{gateOutcome}
 use Rattle.stage_gate.specs.declared.Gate.the-variants.{Open, BadLayout, ShortBuffer, BadIntensity, BadSpectrum}
 use Rattle.stage_gate.proofs.Rooms.{gate-open, gate-lets}
@@ -29,22 +29,23 @@ enum-told-3 c = search needs
 
 encode-parts-requires : tie.Need-encode-parts-requires
 unfolding gateOutcome
-encode-parts-requires c κs = gate-open _ _ _ _ (sym (c .before .before .before .before .before .before .before .first-refusal .ensures) ∙ ap gateOutcome (c .before .before .before .before .before .enum-told3 .given .1))
+encode-parts-requires c κs = gate-open _ _ _ _ (sym (c .before .before .before .before .before .before .before .first-refusal .ensures)
+    ∙ ap gateOutcome (c .before .before .before .before .before .enum-told3 .given .1))
 
 returns : tie.Need-returns
-unfolding gated gateOutcome stageOutcome
+unfolding behindGate gateOutcome stageOutcome
 returns c = gate-lets _ _ BadLayout _ (ap gateOutcome (sym (c .enum-told .given .1)) ∙ c .before .before .first-refusal .ensures) refl
 
 returns-2 : tie.Need-returns-2
-unfolding gated gateOutcome stageOutcome
+unfolding behindGate gateOutcome stageOutcome
 returns-2 c = gate-lets _ _ ShortBuffer _ (ap gateOutcome (sym (c .enum-told2 .given .1)) ∙ c .before .before .first-refusal .ensures) refl
 
 returns-3 : tie.Need-returns-3
-unfolding gated gateOutcome stageOutcome
+unfolding behindGate gateOutcome stageOutcome
 returns-3 c = gate-lets _ _ (BadIntensity _) _ (ap gateOutcome (sym (c .before .i .given .1)) ∙ c .before .before .before .first-refusal .ensures) refl
 
 returns-4 : tie.Need-returns-4
-unfolding gated gateOutcome stageOutcome
+unfolding behindGate gateOutcome stageOutcome
 returns-4 c = gate-lets _ _ (BadSpectrum _) _ (ap gateOutcome (sym (c .before .i2 .given .1)) ∙ c .before .before .before .first-refusal .ensures) refl
 
 same-length : tie.Need-same-length
@@ -63,8 +64,13 @@ same-length-5 : tie.Need-same-length-5
 same-length-5 c = c .before .before .before .before .before .before .before .before .before .encode-parts .kept .1 .1 .1 .1 .1 .1 .1 .0
 
 returns-5 : tie.Need-returns-5
-unfolding gated gateOutcome
-returns-5 c = gate-lets _ _ Open _ (ap gateOutcome (sym (c .before .before .before .before .before .before .before .before .before .before .before .before .before .before .before .enum-told3 .given .1)) ∙ c .before .before .before .before .before .before .before .before .before .before .before .before .before .before .before .before .before .first-refusal .ensures) (c .before .before .before .before .before .before .before .before .before .encode-parts .ensures)
+unfolding behindGate gateOutcome
+returns-5 c =
+    let c15 = c .before .before .before .before .before .before .before .before .before .before .before .before .before .before .before in
+    gate-lets _ _ Open _
+    (ap gateOutcome
+    (sym (c .before .before .before .before .before .before .before .before .before .before .before .before .before .before .before .enum-told3 .given .1))
+    ∙ c15 .before .before .first-refusal .ensures) (c .before .before .before .before .before .before .before .before .before .encode-parts .ensures)
 
 pub encode-frame-spec : {M : Type 1} → statement M
 encode-frame-spec =

@@ -3,12 +3,12 @@ ghost use mathlib.Core.Path.{_≡_};
 ghost use Prim.Native.Nat.{_*_, _≤_};
 ghost use lib.ListN.{length};
 ghost use Rattle.buffers.specs.Walk.{AtMost};
-ghost use Rattle.rules.specs.Layout.{Sizes, frameSize, spectrumLength, factorLength, sideLength};
+ghost use Rattle.rules.specs.Layout.{LegalLayout, frameSize, spectrumLength, factorLength, sideLength};
 ghost use Rattle.rules.specs.Estimate.{usedBits};
-ghost use Rattle.rules.specs.Stage.{foundOf, stageLeft, madeFrom, packed, settled};
+ghost use Rattle.rules.specs.Stage.{levelFound, stageLeft, analysisFrom, afterPacking, afterLevel};
 ghost use Rattle.resolutions.specs.Stretched.{IsStretched};
 ghost use Rattle.band_counts.specs.Counts.{Counted};
-ghost use Rattle.stage.specs.Delivery.{Sized, Delivers, foundAs, wiped};
+ghost use Rattle.stage.specs.Delivery.{ExactBuffers, Delivers, foundAs, wiped};
 use band_counts::frame_counts;
 use codes::quantize_spectra;
 use packing::pack_frame;
@@ -24,7 +24,7 @@ use stage_answers::is_no_level;
 use stage_answers::no_level;
 
 // Codes and frame. Resolutions are worked out once, for the quantiser and the packer. Answers how many bits the fields are.
-fn quantize(
+fn codes_and_frame(
     layout: Layout,
     level: usize,
     boundary: usize,
@@ -35,7 +35,7 @@ fn quantize(
     codes: &mut [i32],
     frame: &mut [u8],
 ) -> usize
-    requires { ⌜ Sizes layout ⌝ }
+    requires { ⌜ LegalLayout layout ⌝ }
     requires { ⌜ (level ≤ 511) × (boundary ≤ 127) ⌝ }
     requires { ⌜ (length (now scaled) ≡ spectrumLength layout) × (length (now factors) ≡ factorLength layout) × (length (now side) ≡ sideLength layout) ⌝ }
     requires { ⌜ (length (now resolutions) ≡ factorLength layout) × (length (now codes) ≡ spectrumLength layout) × (length (now frame) ≡ frameSize layout) ⌝ }
@@ -57,7 +57,7 @@ fn quantize(
 }
 
 // Room for the resolutions of sixteen channels, of which the layout's are lent.
-fn deliver(
+fn with_resolutions(
     layout: Layout,
     level: usize,
     boundary: usize,
@@ -67,7 +67,7 @@ fn deliver(
     codes: &mut [i32],
     frame: &mut [u8],
 ) -> usize
-    requires { ⌜ Sizes layout ⌝ }
+    requires { ⌜ LegalLayout layout ⌝ }
     requires { ⌜ (level ≤ 511) × (boundary ≤ 127) ⌝ }
     requires { ⌜ (length (now scaled) ≡ spectrumLength layout) × (length (now factors) ≡ factorLength layout) × (length (now side) ≡ sideLength layout) ⌝ }
     requires { ⌜ (length (now codes) ≡ spectrumLength layout) × (length (now frame) ≡ frameSize layout) ⌝ }
@@ -76,7 +76,7 @@ fn deliver(
 {
     let n = layout.channels * 128;
     let mut resolutions = [0u8; RESOLUTION_ROOM];
-    quantize(
+    codes_and_frame(
         layout,
         level,
         boundary,
@@ -102,13 +102,13 @@ fn boundary_to_frame(
     side: &[u8],
     frame: &mut [u8],
 ) -> StageAnswer
-    requires { ⌜ Sizes layout ⌝ }
+    requires { ⌜ LegalLayout layout ⌝ }
     requires { ⌜ IsStretched (now curve) × Counted layout (now scaled) (now codes) × AtMost 63 (now factors) ⌝ }
     requires { ⌜ level ≤ 254 ⌝ }
     requires { ⌜ (used ≡ usedBits layout (now scaled) (now factors) level 0) × (used ≤ 8 * frameSize layout) ⌝ }
-    requires { ⌜ Sized layout (length (now scaled)) (length (now codes)) (length (now factors)) (length (now side)) (length (now frame)) ⌝ }
+    requires { ⌜ ExactBuffers layout (length (now scaled)) (length (now codes)) (length (now factors)) (length (now side)) (length (now frame)) ⌝ }
     ensures { λ r. ⌜ wiped layout (stageLeft r (now (scaled .entry)) (now (codes .exit)) (now (factors .entry)) (now (side .entry))
-        (now (frame .exit))) ≡ packed layout (madeFrom layout (now (scaled .entry)) (now (side .entry)) (foundAs level pairs (now (factors .entry))))
+        (now (frame .exit))) ≡ afterPacking layout (analysisFrom layout (now (scaled .entry)) (now (side .entry)) (foundAs level pairs (now (factors .entry))))
         ⌝ }
 {
     let boundary = calculate_evaluation_boundary(
@@ -120,11 +120,12 @@ fn boundary_to_frame(
         level,
         used,
     );
-    let bits = deliver(layout, level, boundary, scaled, factors, side, codes, frame);
+    let bits = with_resolutions(layout, level, boundary, scaled, factors, side, codes, frame);
     answered(8 * (layout.frame_size - 2), level, boundary, pairs, bits)
 }
 
-// From prepared buffers on: all bands are counted once, in the buffer that the codes overwrite. No level is **refusal 5**. What a refusal leaves is cleared later.
+// From prepared buffers on: all bands are counted once, in the buffer that the codes overwrite. No level is **refusal 5**. What a refusal leaves is
+// cleared later.
 pub(crate) fn level_to_frame(
     layout: Layout,
     scaled: &[f32],
@@ -133,12 +134,12 @@ pub(crate) fn level_to_frame(
     side: &[u8],
     frame: &mut [u8],
 ) -> StageAnswer
-    requires { ⌜ Sizes layout ⌝ }
+    requires { ⌜ LegalLayout layout ⌝ }
     requires { ⌜ AtMost 63 (now factors) ⌝ }
-    requires { ⌜ Sized layout (length (now scaled)) (length (now codes)) (length (now factors)) (length (now side)) (length (now frame)) ⌝ }
+    requires { ⌜ ExactBuffers layout (length (now scaled)) (length (now codes)) (length (now factors)) (length (now side)) (length (now frame)) ⌝ }
     ensures { λ r. ⌜ wiped layout (stageLeft r (now (scaled .entry)) (now (codes .exit)) (now (factors .exit)) (now (side .entry))
-        (now (frame .exit))) ≡ settled layout (madeFrom layout (now (scaled .entry)) (now (side .entry))
-        (foundOf layout (now (scaled .entry)) (now (factors .entry)))) ⌝ }
+        (now (frame .exit))) ≡ afterLevel layout (analysisFrom layout (now (scaled .entry)) (now (side .entry))
+        (levelFound layout (now (scaled .entry)) (now (factors .entry)))) ⌝ }
 {
     frame_counts(layout, scaled, codes);
     let curve = curve_table();

@@ -11,10 +11,14 @@ encode-parts-requires : tie.Need-encode-parts-requires
 encode-parts-requires c κs = search needs
 
 same-length : tie.Need-same-length
-same-length c = c .before .before .before .before .before .before .before .before .before .before .before .before .before .before .before .before .before .before .before .before .before .mix-parts .kept .1 .0
+same-length c =
+    let c15 = c .before .before .before .before .before .before .before .before .before .before .before .before .before .before .before in
+    c15 .before .before .before .before .before .before .mix-parts .kept .1 .0
 
 same-length-2 : tie.Need-same-length-2
-same-length-2 c = c .before .before .before .before .before .before .before .before .before .before .before .before .before .before .before .before .before .before .before .before .before .mix-parts .kept .1 .1 .0
+same-length-2 c =
+    let c15 = c .before .before .before .before .before .before .before .before .before .before .before .before .before .before .before in
+    c15 .before .before .before .before .before .before .mix-parts .kept .1 .1 .0
 
 same-length-3 : tie.Need-same-length-3
 same-length-3 c = c .before .before .before .before .before .before .before .before .before .encode-parts .kept .1 .1 .1 .0
@@ -33,8 +37,10 @@ same-length-7 c = c .before .before .before .before .before .before .before .bef
 
 returns : tie.Need-returns
 returns c =
-    let m = c .before .before .before .before .before .before .before .before .before .before .before .before .before .before .before .before .before .before .before .before .before .mix-parts in
-    mixed-run _ _ _ _ _ _ _ _ _ _ (m .ensures .0) (m .ensures .1) (c .before .before .before .before .before .before .before .before .before .encode-parts .ensures)
+    let c15 = c .before .before .before .before .before .before .before .before .before .before .before .before .before .before .before in
+    let m = c15 .before .before .before .before .before .before .mix-parts in
+    mixed-run _ _ _ _ _ _ _ _ _ _ (m .ensures .0) (m .ensures .1)
+    (c .before .before .before .before .before .before .before .before .before .encode-parts .ensures)
 
 pub encode-mixed-spec : {M : Type 1} → statement M
 encode-mixed-spec =

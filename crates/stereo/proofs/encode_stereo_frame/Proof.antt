@@ -1,6 +1,6 @@
 -- `stereo::encode_stereo_frame` meets its contract: what the gate refuses is kept, and the rest is the run on what is mixed. Assumes nothing.
 use mathlib.Core.Path.{refl, sym, ap, _∙_}
-use Rattle.rules_stereo.specs.Stereo.{stereoOutcome, stereoGated}
+use Rattle.rules_stereo.specs.Stereo.{stereoOutcome, stereoBehindGate}
 use Rattle.stereo_gate.specs.StereoGates.{stereoGateOutcome}
 use Rattle.stereo_gate.specs.declared.StereoGate.the-variants.{Open, Refused}
 use Rattle.stereo_gate.proofs.Opened.{stereo-open, stereo-lets}
@@ -19,7 +19,8 @@ enum-told c = search needs
 
 encode-mixed-requires : tie.Need-encode-mixed-requires
 unfolding stereoGateOutcome
-encode-mixed-requires c κs = stereo-open _ _ _ _ (sym (c .before .before .before .before .before .before .before .before .before .first-stereo-refusal .ensures) ∙ ap stereoGateOutcome (c .before .before .before .before .before .before .before .enum-told .given .1))
+encode-mixed-requires c κs = stereo-open _ _ _ _ (sym (c .before .before .before .before .before .before .before .before .before .first-stereo-refusal .ensures)
+    ∙ ap stereoGateOutcome (c .before .before .before .before .before .before .before .enum-told .given .1))
 
 same-length : tie.Need-same-length
 same-length c = search needs
@@ -28,8 +29,9 @@ same-length-2 : tie.Need-same-length-2
 same-length-2 c = search needs
 
 returns : tie.Need-returns
-unfolding stereoGated stereoGateOutcome
-returns c = stereo-lets _ _ (Refused _) _ (ap stereoGateOutcome (sym (c .before .answer .given .1)) ∙ c .before .before .before .first-stereo-refusal .ensures) refl
+unfolding stereoBehindGate stereoGateOutcome
+returns c = stereo-lets _ _ (Refused _) _ (ap stereoGateOutcome (sym (c .before .answer .given .1)) ∙ c .before .before .before .first-stereo-refusal .ensures)
+    refl
 
 same-length-3 : tie.Need-same-length-3
 same-length-3 c = c .before .before .before .before .before .before .before .before .before .before .before .before .before .encode-mixed .kept .1 .0
@@ -44,17 +46,24 @@ same-length-6 : tie.Need-same-length-6
 same-length-6 c = c .before .before .before .before .before .before .before .before .before .before .before .before .before .encode-mixed .kept .1 .1 .1 .1 .0
 
 same-length-7 : tie.Need-same-length-7
-same-length-7 c = c .before .before .before .before .before .before .before .before .before .before .before .before .before .encode-mixed .kept .1 .1 .1 .1 .1 .0
+same-length-7 c =
+    c .before .before .before .before .before .before .before .before .before .before .before .before .before .encode-mixed .kept .1 .1 .1 .1 .1 .0
 
 same-length-8 : tie.Need-same-length-8
-same-length-8 c = c .before .before .before .before .before .before .before .before .before .before .before .before .before .encode-mixed .kept .1 .1 .1 .1 .1 .1 .0
+same-length-8 c =
+    c .before .before .before .before .before .before .before .before .before .before .before .before .before .encode-mixed .kept .1 .1 .1 .1 .1 .1 .0
 
 same-length-9 : tie.Need-same-length-9
-same-length-9 c = c .before .before .before .before .before .before .before .before .before .before .before .before .before .encode-mixed .kept .1 .1 .1 .1 .1 .1 .1 .0
+same-length-9 c =
+    c .before .before .before .before .before .before .before .before .before .before .before .before .before .encode-mixed .kept .1 .1 .1 .1 .1 .1 .1 .0
 
 returns-2 : tie.Need-returns-2
-unfolding stereoGated stereoGateOutcome stereoOutcome
-returns-2 c = stereo-lets _ _ Open _ (ap stereoGateOutcome (sym (c .before .before .before .before .before .before .before .before .before .before .before .before .before .before .before .before .before .before .before .before .before .enum-told .given .1)) ∙ c .before .before .before .before .before .before .before .before .before .before .before .before .before .before .before .before .before .before .before .before .before .before .before .first-stereo-refusal .ensures) (c .before .before .before .before .before .before .before .before .before .before .before .before .before .encode-mixed .ensures)
+unfolding stereoBehindGate stereoGateOutcome stereoOutcome
+returns-2 c =
+    let c15 = c .before .before .before .before .before .before .before .before .before .before .before .before .before .before .before in
+    stereo-lets _ _ Open _ (ap stereoGateOutcome (sym (c15 .before .before .before .before .before .before .enum-told .given .1))
+    ∙ c15 .before .before .before .before .before .before .before .before .first-stereo-refusal .ensures)
+    (c .before .before .before .before .before .before .before .before .before .before .before .before .before .encode-mixed .ensures)
 
 pub encode-stereo-frame-spec : {M : Type 1} → statement M
 encode-stereo-frame-spec =

@@ -10,7 +10,8 @@ use Rattle.stereo_mixing.proofs.encode_intensity_stereo.Statement.{stat
 use Rattle.stereo_mixing.proofs.encode_intensity_stereo.Tie as tie
 
 abbrev Inv-loop : tie.InvT-loop
-Inv-loop layout spectra₀ intensities₀ channels c₀ spectra intensities c = (c ≤ channels) × (length spectra ≡ length spectra₀) × (length intensities ≡ length intensities₀) × (signal spectra intensities ≡ channelsMixed layout c (signal spectra₀ intensities₀))
+Inv-loop layout spectra₀ intensities₀ channels c₀ spectra intensities c = (c ≤ channels) × (length spectra ≡ length spectra₀)
+    × (length intensities ≡ length intensities₀) × (signal spectra intensities ≡ channelsMixed layout c (signal spectra₀ intensities₀))
 
 abbrev μ-loop : tie.MeasureT-loop
 μ-loop layout spectra₀ intensities₀ channels c₀ spectra intensities c = channels - c

@@ -55,7 +55,8 @@ same-length-2 : tie.Need-same-length-2
 same-length-2 c = search needs
 
 returns : tie.Need-returns
-returns c = channel-mixed _ _ _ _ _ _ (sym (c .before .before .before .before .before .before .before .before .paired .ensures) ∙ c .before .before .before .before .before .before .before .if1 .taken) (c .before .before .before .before .mix-pair .ensures)
+returns c = channel-mixed _ _ _ _ _ _ (sym (c .before .before .before .before .before .before .before .before .paired .ensures)
+    ∙ c .before .before .before .before .before .before .before .if1 .taken) (c .before .before .before .before .mix-pair .ensures)
 
 returns-2 : tie.Need-returns-2
 returns-2 c = channel-not _ _ _ _ (sym (c .before .paired .ensures) ∙ c .if1 .left)

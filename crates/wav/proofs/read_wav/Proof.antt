@@ -23,7 +23,8 @@ enum-told c = search needs
 
 returns-2 : tie.Need-returns-2
 returns-2 c =
-    file-ended _ _ (sym (c .before .before .before .before .is-wave .ensures) ∙ not-false _ (c .before .before .before .if1 .left)) _ (c .before .before .find-data .ensures .0) (c .enum-told .given .1)
+    file-ended _ _ (sym (c .before .before .before .before .is-wave .ensures) ∙ not-false _ (c .before .before .before .if1 .left)) _
+    (c .before .before .find-data .ensures .0) (c .enum-told .given .1)
 
 read-data-requires : tie.Need-read-data-requires
 read-data-requires c κs = found-fits _ _ _ (c .before .before .found .given .1) (c .before .before .before .before .find-data .ensures .1)
@@ -33,7 +34,10 @@ same-length c = search needs
 
 returns-3 : tie.Need-returns-3
 returns-3 c = (
-  file-read _ _ (sym (c .before .before .before .before .before .before .before .before .before .is-wave .ensures) ∙ not-false _ (c .before .before .before .before .before .before .before .before .if1 .left)) _ (c .before .before .before .before .before .before .before .find-data .ensures .0) _ (c .before .before .before .before .before .found .given .1) _ _ (c .before .before .read-data .ensures .0),
+  file-read _ _ (sym (c .before .before .before .before .before .before .before .before .before .is-wave .ensures)
+      ∙ not-false _ (c .before .before .before .before .before .before .before .before .if1 .left)) _
+      (c .before .before .before .before .before .before .before .find-data .ensures .0) _ (c .before .before .before .before .before .found .given .1) _ _
+      (c .before .before .read-data .ensures .0),
   c .before .before .read-data .ensures .1,
 )
 

@@ -61,7 +61,8 @@ returns-3 : tie.Need-returns-3 Inv-loop μ-loop
 returns-3 c =
     let t = c .before .before in
     let s = t .before .before in
-    let w = walked-chosen _ _ (s .before .before .before .before .before .pre .1) _ _ (omega arith) (s .loop .inv .2) (t .if2 .left) _ (c .chosen .ensures .0) in
+    let w = walked-chosen _ _ (s .before .before .before .before .before .pre .1) _ _ (omega arith) (s .loop .inv .2) (t .if2 .left) _
+    (c .chosen .ensures .0) in
     (w .0, w .1, search needs, search needs)
 
 pub calculate-optimal-delta-length-spec : {M : Type 1} → statement M

@@ -24,8 +24,16 @@ pack-frame-requires c κs =
     let t = c .before .before in
     let s = t .before .before .before .before .before .before .before .before .before in
     let h : LegalHead (s .args .level) (s .args .boundary) = record-held _ _ _ _ _ _ (s .pre .0) (legal t) .head in
-    let resolved = t .before .before .before .is-legal .ensures .1 (t .if1 .taken) in
-    (s .pre .0, ((omega arith, omega arith), ((s .pre .1 .0, s .pre .1 .1, s .pre .1 .2), ((resolved, s .pre .1 .4), subst (λ rs. AllRanged (s .args .layout) rs (s .args .codes .now)) (sym resolved) (legal-ranged _ _ _ _ _ _ (legal t))))))
+    let resolved = t .before .before .before .is-legal .ensures .1 (t .if1 .taken) in (
+      s .pre .0,
+      (
+        (omega arith, omega arith),
+        (
+          (s .pre .1 .0, s .pre .1 .1, s .pre .1 .2),
+          ((resolved, s .pre .1 .4), subst (λ rs. AllRanged (s .args .layout) rs (s .args .codes .now)) (sym resolved) (legal-ranged _ _ _ _ _ _ (legal t))),
+        ),
+      ),
+    )
 
 sub-answered : tie.Need-sub-answered
 sub-answered c = search needs

@@ -34,12 +34,22 @@ slice-relend-prefix-write-exact : tie.Need-slice-relend-prefix-write-exact
 slice-relend-prefix-write-exact c = search needs
 
 slice-aggregate-write-exact-5 : tie.Need-slice-aggregate-write-exact-5
-slice-aggregate-write-exact-5 c = sym (length-take-le _ _ (c .before .before .before .before .before .before .before .before .before .before .before .pre .1 .frame))
+slice-aggregate-write-exact-5 c = sym (length-take-le _ _
+    (c .before .before .before .before .before .before .before .before .before .before .before .pre .1 .frame))
 
 write-exact-requires : tie.Need-write-exact-requires
 write-exact-requires c κs =
-    let s = c .before .before .before .before .before .before .before .before .before .before .before in
-    (s .pre .0, (length-take-le _ _ (s .pre .1 .factors), length-take-le _ _ (s .pre .1 .side), length-take-le _ _ (s .pre .1 .codes), lent-resolutions _ (s .pre .0), length-take-le _ _ (s .pre .1 .frame)))
+    let s = c .before .before .before .before .before .before .before .before .before .before .before in (
+      s .pre .0,
+      (
+        length-take-le _ _ (s .pre .1 .factors),
+        length-take-le _ _ (s .pre .1 .side),
+        length-take-le _ _ (s .pre .1 .codes),
+        lent-resolutions _
+            (s .pre .0),
+        length-take-le _ _ (s .pre .1 .frame),
+      ),
+    )
 
 same-length : tie.Need-same-length
 same-length c = search needs

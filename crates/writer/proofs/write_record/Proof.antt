@@ -35,7 +35,8 @@ same-length c = search needs
 returns-3 : tie.Need-returns-3
 returns-3 c =
     let t = c .before .before .before .before in
-    c .before .before .write-parts .ensures ∙ room-granted _ _ _ _ _ _ _ (lawful (t .before .before)) (sym (t .before .has-room .ensures) ∙ not-false _ (t .if2 .left))
+    c .before .before .write-parts .ensures ∙ room-granted _ _ _ _ _ _ _ (lawful (t .before .before))
+    (sym (t .before .has-room .ensures) ∙ not-false _ (t .if2 .left))
 
 pub write-record-spec : {M : Type 1} → statement M
 write-record-spec =

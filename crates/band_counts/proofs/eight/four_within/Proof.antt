@@ -18,7 +18,8 @@ is-within-requires-4 : tie.Need-is-within-requires-4
 is-within-requires-4 c κs = search needs
 
 returns : tie.Need-returns
-returns c = ap₂ _&&_ (ap₂ _&&_ (ap₂ _&&_ (c .before .before .before .is-within .ensures) (c .before .before .is-within2 .ensures)) (c .before .is-within3 .ensures)) (c .is-within4 .ensures)
+returns c = ap₂ _&&_ (ap₂ _&&_ (ap₂ _&&_ (c .before .before .before .is-within .ensures) (c .before .before .is-within2 .ensures))
+    (c .before .is-within3 .ensures)) (c .is-within4 .ensures)
 
 pub four-within-spec : {M : Type 1} → statement M
 four-within-spec =

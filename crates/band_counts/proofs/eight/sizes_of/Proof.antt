@@ -31,8 +31,29 @@ size-requires-8 c κs = search needs
 returns : tie.Need-returns
 unfolding sizesOf
 returns c = (
-  rw (c .before .before .before .before .before .before .before .size .ensures .0, c .before .before .before .before .before .before .size2 .ensures .0, c .before .before .before .before .before .size3 .ensures .0, c .before .before .before .before .size4 .ensures .0, c .before .before .before .size5 .ensures .0, c .before .before .size6 .ensures .0, c .before .size7 .ensures .0, c .size8 .ensures .0),
-  record { f0 = c .before .before .before .before .before .before .before .size .ensures .1; f1 = c .before .before .before .before .before .before .size2 .ensures .1; f2 = c .before .before .before .before .before .size3 .ensures .1; f3 = c .before .before .before .before .size4 .ensures .1; f4 = c .before .before .before .size5 .ensures .1; f5 = c .before .before .size6 .ensures .1; f6 = c .before .size7 .ensures .1; f7 = c .size8 .ensures .1 },
+  rw (
+    c .before .before .before .before .before .before .before .size .ensures .0,
+    c .before .before .before .before .before .before .size2 .ensures .0,
+    c .before .before .before .before .before .size3 .ensures .0,
+    c .before .before .before .before .size4 .ensures .0,
+    c .before .before .before .size5 .ensures .0,
+    c .before .before .size6 .ensures .0,
+    c .before .size7 .ensures .0,
+    c .size8 .ensures .0,
+  ),
+  record {
+    f0 = c .before .before .before .before .before .before .before .size .ensures .1;
+    f1 =
+        c .before .before .before .before .before .before .size2 .ensures .1;
+    f2 = c .before .before .before .before .before .size3 .ensures .1;
+    f3 =
+        c .before .before .before .before .size4 .ensures .1;
+    f4 = c .before .before .before .size5 .ensures .1;
+    f5 = c .before .before .size6 .ensures .1;
+    f6 =
+        c .before .size7 .ensures .1;
+    f7 = c .size8 .ensures .1;
+  },
 )
 
 pub sizes-of-spec : {M : Type 1} → statement M

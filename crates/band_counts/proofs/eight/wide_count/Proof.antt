@@ -19,8 +19,10 @@ add-result c = omega (arith, bits-le (c .before .args .r) (c .before .pre .2), c
 returns : tie.Need-returns
 returns c =
     let s = c .before in
-    let n : c .eight-reached .result ≡ _ = c .eight-reached .ensures .0 ∙ ap₂ eightReached (s .pre .3) (s .pre .0) in
-    (ap₂ _+_ (s .pre .4) n ∙ eight-wide (s .args .r) (s .pre .1) (s .args .e), omega (arith, bits-le (s .args .r) (s .pre .2), s .pre .4, c .eight-reached .ensures .1))
+    let n : c .eight-reached .result ≡ _ = c .eight-reached .ensures .0 ∙ ap₂ eightReached (s .pre .3) (s .pre .0) in (
+      ap₂ _+_ (s .pre .4) n ∙ eight-wide (s .args .r) (s .pre .1) (s .args .e),
+      omega (arith, bits-le (s .args .r) (s .pre .2), s .pre .4, c .eight-reached .ensures .1),
+    )
 
 pub wide-count-spec : {M : Type 1} → statement M
 wide-count-spec = tie.close (tie.spec eight-reached-requires add-result returns)

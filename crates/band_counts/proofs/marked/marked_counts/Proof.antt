@@ -52,7 +52,8 @@ same-length c = c .before .loop .inv .1 .0
 returns : tie.Need-returns Inv-loop μ-loop
 returns c =
     let start = c .before .before in
-    filled-all (entryOf (start .args .e)) (start .args .counts .now) (c .before .loop .k) 8 _ (start .pre) (search needs) (c .before .loop .inv .0) (c .before .loop .inv .1)
+    filled-all (entryOf (start .args .e)) (start .args .counts .now) (c .before .loop .k) 8 _ (start .pre) (search needs) (c .before .loop .inv .0)
+    (c .before .loop .inv .1)
 
 pub marked-counts-spec : {M : Type 1} → statement M
 marked-counts-spec =

@@ -51,7 +51,8 @@ returns c =
     let l = c .before .loop in
     let d = l .inv .1 in
     let e : 8 * run .at + run .n ≡ run .at * 8 + run .n = omega arith in
-    rw e at (closed {run = run} {s = c .before .before .before .before .args .payload .now} {s′ = l .payload} (d .same) (λ k h. d .before k (omega arith)) (λ k h g. d .clear k (omega arith) (omega arith)))
+    rw e at (closed {run = run} {s = c .before .before .before .before .args .payload .now} {s′ = l .payload} (d .same) (λ k h. d .before k (omega arith))
+    (λ k h g. d .clear k (omega arith) (omega arith)))
 
 pub close-spec : {M : Type 1} → statement M
 close-spec =

@@ -32,7 +32,8 @@ returns : tie.Need-returns
 returns c =
     let s = c .before .before .before .before .before .before .before .before .before in
     let run = s .args .self in
-    rw (and-mask (run .n) 3) (flushed {run = run} {s = s .args .payload .now} (s .pre .0) (c .before .before .before .before .store .ensures) (top-bits (run .bits) (run .n) (omega arith)))
+    rw (and-mask (run .n) 3) (flushed {run = run} {s = s .args .payload .now} (s .pre .0) (c .before .before .before .before .store .ensures)
+    (top-bits (run .bits) (run .n) (omega arith)))
 
 pub flush-spec : {M : Type 1} → statement M
 flush-spec =

@@ -12,13 +12,20 @@ use Rattle.emission.proofs.Run.put_all.Tie as tie
 
 abbrev Inv-loop : tie.InvT-loop
 Inv-loop payload₀ words lengths n run₀ i₀ payload run i =
-    (i ≤ n) × (i % 4 ≡ 0) × Emits run₀ payload₀ (fieldBits (take i lengths) (take i words)) run payload × (8 * run .at + run .n ≤ 8 * run₀ .at + run₀ .n + 12 * i)
+    (i ≤ n) × (i % 4 ≡ 0) × Emits run₀ payload₀ (fieldBits (take i lengths) (take i words)) run payload
+    × (8 * run .at + run .n ≤ 8 * run₀ .at + run₀ .n + 12 * i)
 
 abbrev μ-loop : tie.MeasureT-loop
 μ-loop payload₀ words lengths n run₀ i₀ payload run i = n - i
 
 loop-holds : tie.Need-loop-holds Inv-loop μ-loop
-loop-holds c = (search needs, refl, emits-none (c .before .before .before .args .self) (c .before .before .before .args .payload .now) (c .before .before .before .pre .0 .4), search needs)
+loop-holds c = (
+  search needs,
+  refl,
+  emits-none (c .before .before .before .args .self) (c .before .before .before .args .payload .now)
+      (c .before .before .before .pre .0 .4),
+  search needs,
+)
 
 mul-t13 : tie.Need-mul-t13 Inv-loop μ-loop
 mul-t13 c = search needs
@@ -106,14 +113,20 @@ loop-less c = search needs
 
 loop-again : tie.Need-loop-again Inv-loop μ-loop
 loop-again c =
-    let s = c .before .before .before .before .before .before .before .before .before .before .before .before .before .before .before .before .before in
+    let c15 = c .before .before .before .before .before .before .before .before .before .before .before .before .before .before .before in
+    let s = c15 .before .before in
     let l = c .before .before .before .before .before .before .before .before .before .before .before .before .before .loop in
     let w = c .before .before .put-four in
     let fit = s .pre .1 in
     let words = s .args .words .now in
     let lengths = s .args .lengths .now in
     let i : ℕ = l .i in
-    let below : i + 3 < s .args .n = omega (arith, l .inv .1, s .pre .0 .0, c .before .before .before .before .before .before .before .before .before .before .before .before .loop-test .taken) in
+    let below : i + 3 < s .args .n = omega (
+      arith,
+      l .inv .1,
+      s .pre .0 .0,
+      c .before .before .before .before .before .before .before .before .before .before .before .before .loop-test .taken,
+    ) in
     let four = four-more lengths words i (omega (arith, s .pre .0 .1)) (omega (arith, s .pre .0 .2)) in
     let long = four-length lengths words i in
     let f0 = fit i (omega arith) .0 in

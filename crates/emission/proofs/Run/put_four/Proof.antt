@@ -43,7 +43,8 @@ returns c =
     let p = c .before .before .before .before .before .before .before .before .before .before .then in
     let q = c .before .before .before .before .before .before .before .before .before .then2 in
     let fit = c .before .before .before .before .before .before .before .before .before .before .before .before .pre .0 in
-    let h : p .result .length + q .result .length ≤ 64 = omega (arith, p .ensures .long, q .ensures .long, fit .0 .narrow, fit .1 .narrow, fit .2 .narrow, fit .3 .narrow) in
+    let h : p .result .length + q .result .length ≤ 64 =
+    omega (arith, p .ensures .long, q .ensures .long, fit .0 .narrow, fit .1 .narrow, fit .2 .narrow, fit .3 .narrow) in
     let e = or-join 64 (p .result .length) (q .result .length) (p .result .word) (q .result .word) (p .ensures .fits) (q .ensures .fits) h in
     let j = bits-join (p .result .length) (q .result .length) (p .result .word) (q .result .word) (q .ensures .fits) in
     rw (e, j, p .ensures .both, q .ensures .both) at (c .before .before .put-wide .ensures)

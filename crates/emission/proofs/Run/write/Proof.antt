@@ -23,7 +23,8 @@ same-length c = search needs
 returns : tie.Need-returns
 returns c =
     let a = c .before .before .before .before .before .before .args in
-    let w = rw (c .before .before .before .before .ones .ensures, and-mask (a .value) (a .count), bits-low (a .count) (a .value)) at (c .before .before .put .ensures) in
+    let w = rw (c .before .before .before .before .ones .ensures, and-mask (a .value) (a .count), bits-low (a .count) (a .value))
+    at (c .before .before .put .ensures) in
     (w, rw (length-bits (a .count) (a .value)) at (w .next))
 
 pub write-spec : {M : Type 1} → statement M

@@ -43,7 +43,8 @@ loop-less c = omega arith
 loop-again : tie.Need-loop-again Inv-loop μ-loop
 loop-again c =
     let at-loop = c .before .before .before in
-    take-more _ _ _ _ _ (at-loop .loop .i) (at-loop .loop .k) (at-loop .loop .sum) _ (omega arith) (at-loop .loop .inv) (ap (add binary32 (at-loop .loop .sum)) (c .magnitude .ensures))
+    take-more _ _ _ _ _ (at-loop .loop .i) (at-loop .loop .k) (at-loop .loop .sum) _ (omega arith) (at-loop .loop .inv)
+    (ap (add binary32 (at-loop .loop .sum)) (c .magnitude .ensures))
 
 add-t13 : tie.Need-add-t13 Inv-loop μ-loop
 add-t13 c = omega arith

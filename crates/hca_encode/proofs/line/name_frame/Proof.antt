@@ -3,7 +3,7 @@ use mathlib.Core.Path.{refl}
 use borrow.Author.Tests.{lt-ltb, le-ltb}
 use borrow.Author.Needs.{needs}
 use Rattle.rules_line.specs.Line.{lineIndex}
-use Rattle.hca_encode.specs.Lined.{indexIn, IndexFits}
+use Rattle.hca_encode.specs.EncodeLine.{indexIn, IndexFits}
 use Rattle.hca_encode.proofs.LinePlaces.{unnamed-in}
 use Rattle.hca_encode.proofs.line.name_frame.Statement.{statement}
 use Rattle.hca_encode.proofs.line.name_frame.Tie as tie

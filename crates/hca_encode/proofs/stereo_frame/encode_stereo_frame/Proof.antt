@@ -2,15 +2,15 @@
 use mathlib.Core.Path.{_≡_, sym, _∙_}
 use mathlib.Core.Bool.{true}
 use borrow.Author.Tests.{not-true, not-false}
-use Rattle.hca_layout.specs.Layouts.{named}
+use Rattle.hca_layout.specs.Layouts.{isLayout}
 use Rattle.hca_layout.proofs.Naming.{named-five}
-use Rattle.hca_encode.proofs.StereoTellings.{stereo-unnamed, stereo-short, stereo-done}
+use Rattle.hca_encode.proofs.StereoStores.{stereo-unnamed, stereo-short, stereo-done}
 use borrow.Author.Needs.{needs}
 use Rattle.hca_encode.proofs.stereo_frame.encode_stereo_frame.Statement.{statement}
 use Rattle.hca_encode.proofs.stereo_frame.encode_stereo_frame.Tie as tie
 
-is-named-requires : tie.Need-is-named-requires
-is-named-requires c κs = search needs
+is-layout-requires : tie.Need-is-layout-requires
+is-layout-requires c κs = search needs
 
 refuse-requires : tie.Need-refuse-requires
 refuse-requires c κs = search needs
@@ -19,10 +19,12 @@ same-length : tie.Need-same-length
 same-length c = c .before .before .refuse .kept .1 .1 .0
 
 returns : tie.Need-returns
-returns c = stereo-unnamed _ _ _ _ _ _ (sym (c .before .before .before .before .before .is-named .ensures) ∙ not-true _ (c .before .before .before .before .if1 .taken)) (c .before .before .refuse .ensures)
+returns c = stereo-unnamed _ _ _ _ _ _ (sym (c .before .before .before .before .before .is-layout .ensures)
+    ∙ not-true _ (c .before .before .before .before .if1 .taken)) (c .before .before .refuse .ensures)
 
-lawful : (c : tie.Else1) → named (c .before .before .before .before .before .before .before .before .before .before .before .args .layout .now) (c .before .before .before .before .before .before .before .before .before .before .before .args .kinds .now) ≡ true
-lawful c = sym (c .before .is-named .ensures) ∙ not-false _ (c .if1 .left)
+lawful : (c : tie.Else1) → isLayout (c .before .before .before .before .before .before .before .before .before .before .before .args .layout .now)
+    (c .before .before .before .before .before .before .before .before .before .before .before .args .kinds .now) ≡ true
+lawful c = sym (c .before .is-layout .ensures) ∙ not-false _ (c .if1 .left)
 
 returns-2 : tie.Need-returns-2
 returns-2 c = stereo-short _ _ _ _ (lawful (c .before)) (c .if2 .taken)
@@ -30,47 +32,66 @@ returns-2 c = stereo-short _ _ _ _ (lawful (c .before)) (c .if2 .taken)
 layout-of-requires : tie.Need-layout-of-requires
 layout-of-requires c κs = named-five _ _ (lawful (c .before))
 
-stereo-told-requires : tie.Need-stereo-told-requires
-stereo-told-requires c κs = search needs
+stereo-and-store-requires : tie.Need-stereo-and-store-requires
+stereo-and-store-requires c κs = search needs
 
 same-length-2 : tie.Need-same-length-2
-same-length-2 c = c .before .before .before .before .before .before .before .before .before .before .before .before .before .before .before .stereo-told .kept .1 .0
+same-length-2 c =
+    c .before .before .before .before .before .before .before .before .before .before .before .before .before .before .before .stereo-and-store .kept .1 .0
 
 same-length-3 : tie.Need-same-length-3
-same-length-3 c = c .before .before .before .before .before .before .before .before .before .before .before .before .before .before .before .stereo-told .kept .1 .1 .0
+same-length-3 c =
+    c .before .before .before .before .before .before .before .before .before .before .before .before .before .before .before .stereo-and-store .kept .1 .1 .0
 
 same-length-4 : tie.Need-same-length-4
-same-length-4 c = c .before .before .before .before .before .before .before .before .before .before .before .before .before .before .before .stereo-told .kept .1 .1 .1 .0
+same-length-4 c =
+    c .before .before .before .before .before .before .before .before .before .before .before .before .before .before .before .stereo-and-store .kept .1 .1 .1
+    .0
 
 same-length-5 : tie.Need-same-length-5
-same-length-5 c = c .before .before .before .before .before .before .before .before .before .before .before .before .before .before .before .stereo-told .kept .1 .1 .1 .1 .0
+same-length-5 c =
+    c .before .before .before .before .before .before .before .before .before .before .before .before .before .before .before .stereo-and-store .kept .1 .1 .1
+    .1 .0
 
 same-length-6 : tie.Need-same-length-6
-same-length-6 c = c .before .before .before .before .before .before .before .before .before .before .before .before .before .before .before .stereo-told .kept .1 .1 .1 .1 .1 .0
+same-length-6 c =
+    c .before .before .before .before .before .before .before .before .before .before .before .before .before .before .before .stereo-and-store .kept .1 .1 .1
+    .1 .1 .0
 
 same-length-7 : tie.Need-same-length-7
-same-length-7 c = c .before .before .before .before .before .before .before .before .before .before .before .before .before .before .before .stereo-told .kept .1 .1 .1 .1 .1 .1 .0
+same-length-7 c =
+    c .before .before .before .before .before .before .before .before .before .before .before .before .before .before .before .stereo-and-store .kept .1 .1 .1
+    .1 .1 .1 .0
 
 same-length-8 : tie.Need-same-length-8
-same-length-8 c = c .before .before .before .before .before .before .before .before .before .before .before .before .before .before .before .stereo-told .kept .1 .1 .1 .1 .1 .1 .1 .0
+same-length-8 c =
+    c .before .before .before .before .before .before .before .before .before .before .before .before .before .before .before .stereo-and-store .kept .1 .1 .1
+    .1 .1 .1 .1 .0
 
 same-length-9 : tie.Need-same-length-9
-same-length-9 c = c .before .before .before .before .before .before .before .before .before .before .before .before .before .before .before .stereo-told .kept .1 .1 .1 .1 .1 .1 .1 .1 .0
+same-length-9 c =
+    c .before .before .before .before .before .before .before .before .before .before .before .before .before .before .before .stereo-and-store .kept .1 .1 .1
+    .1 .1 .1 .1 .1 .0
 
 returns-3 : tie.Need-returns-3
-returns-3 c = stereo-done _ _ _ _ (lawful (c .before .before .before .before .before .before .before .before .before .before .before .before .before .before .before .before .before .before .before .before .before .before .before .before .before .before)) _ _ (c .before .before .before .before .before .before .before .before .before .before .before .before .before .before .before .before .before .before .before .before .before .before .before .before .layout-of .ensures) (c .before .before .before .before .before .before .before .before .before .before .before .before .before .before .before .before .before .before .before .before .before .before .before .before .before .if2 .left) (c .before .before .before .before .before .before .before .before .before .before .before .before .before .before .before .stereo-told .ensures)
+returns-3 c =
+    let c15 = c .before .before .before .before .before .before .before .before .before .before .before .before .before .before .before in
+    stereo-done _ _ _ _ (lawful (c15 .before .before .before .before .before .before .before .before .before .before .before)) _ _
+    (c15 .before .before .before .before .before .before .before .before .before .layout-of .ensures)
+    (c15 .before .before .before .before .before .before .before .before .before .before .if2 .left)
+    (c .before .before .before .before .before .before .before .before .before .before .before .before .before .before .before .stereo-and-store .ensures)
 
 pub encode-stereo-frame-spec : {M : Type 1} → statement M
 encode-stereo-frame-spec =
     tie.close
     (tie.spec
-    is-named-requires
+    is-layout-requires
     refuse-requires
     same-length
     returns
     returns-2
     layout-of-requires
-    stereo-told-requires
+    stereo-and-store-requires
     same-length-2
     same-length-3
     same-length-4

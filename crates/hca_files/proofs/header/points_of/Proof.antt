@@ -1,6 +1,6 @@
 -- `hca_files::header::points_of` meets its contract. Assumes nothing.
 use borrow.Author.Tests.{lt-ltb, le-ltb}
-use Rattle.hca_files.specs.HeaderWrote.{pointsOf}
+use Rattle.hca_files.specs.WriteHeader.{pointsOf}
 use borrow.Author.Needs.{needs}
 use Rattle.hca_files.proofs.header.points_of.Statement.{statement}
 use Rattle.hca_files.proofs.header.points_of.Tie as tie

@@ -1,5 +1,5 @@
 -- `hca_files::header::stream_of` meets its contract. Assumes nothing.
-use Rattle.hca_files.specs.HeaderWrote.{streamOf}
+use Rattle.hca_files.specs.WriteHeader.{streamOf}
 use borrow.Author.Needs.{needs}
 use Rattle.hca_files.proofs.header.stream_of.Statement.{statement}
 use Rattle.hca_files.proofs.header.stream_of.Tie as tie

@@ -1,7 +1,7 @@
 -- `hca_files::lists::list_write` meets its contract. Assumes nothing.
 use native.Mathlib.Omega.{arith}
 use Rattle.hca_files.proofs.ListRefusing.{result-is, written-small}
-use Rattle.hca_files.proofs.ListTellings.{write-tells}
+use Rattle.hca_files.proofs.ListStores.{write-stores}
 use borrow.Author.Needs.{needs}
 use Rattle.hca_files.proofs.lists.list_write.Statement.{statement}
 use Rattle.hca_files.proofs.lists.list_write.Tie as tie
@@ -19,7 +19,7 @@ same-length : tie.Need-same-length
 same-length c = search needs
 
 returns : tie.Need-returns
-returns c = write-tells _ _ _ _ _ _ (c .before .before .before .before .write-list .ensures) (result-is _ _ (c .before .list-write-refusal .ensures))
+returns c = write-stores _ _ _ _ _ _ (c .before .before .before .before .write-list .ensures) (result-is _ _ (c .before .list-write-refusal .ensures))
 
 pub list-write-spec : {M : Type 1} → statement M
 list-write-spec =

@@ -26,7 +26,12 @@ cast-answer-3 c = search needs
 slice-write-answer-3 : tie.Need-slice-write-answer-3
 slice-write-answer-3 c =
     let s = c .before .before .before in
-    omega (arith, length-set (s .args .answer .now) 0 (s .args .take .channels), length-set (set (s .args .answer .now) 0 (s .args .take .channels)) 1 (s .args .take .rate))
+    omega (
+      arith,
+      length-set (s .args .answer .now) 0 (s .args .take .channels),
+      length-set (set (s .args .answer .now) 0 (s .args .take .channels)) 1
+          (s .args .take .rate),
+    )
 
 cast-answer-4 : tie.Need-cast-answer-4
 cast-answer-4 c = search needs

@@ -1,5 +1,5 @@
 -- `hca_files::wavs::store_note` meets its contract. Assumes nothing.
-use Rattle.hca_files.proofs.WavTellings.{over-two}
+use Rattle.hca_files.proofs.WavStores.{over-two}
 use borrow.Author.Needs.{needs}
 use Rattle.hca_files.proofs.wavs.store_note.Statement.{statement}
 use Rattle.hca_files.proofs.wavs.store_note.Tie as tie

@@ -32,7 +32,8 @@ none-requires : tie.Need-none-requires Inv-loop μ-loop
 none-requires c κs = search needs
 
 -- the group's first value of b
-reached : (c : tie.After-none Inv-loop μ-loop) → c .before .before .before .before .before .before .before .args .group * c .before .before .before .before .bands-per-group .result ≤ 128
+reached : (c : tie.After-none Inv-loop μ-loop) → c .before .before .before .before .before .before .before .args .group
+    * c .before .before .before .before .bands-per-group .result ≤ 128
 reached c = group-reach _ _ (omega arith) (omega arith)
 
 mul-b : tie.Need-mul-b Inv-loop μ-loop
@@ -69,7 +70,8 @@ returns c =
     let s = c .before in
     let none = s .before in
     let e = take-all _ _ _ _ _ (s .loop .b) (s .loop .average) (omega arith) (s .loop .inv) in (
-      e ∙ source-is (none .before .before .before .before .before .before .before .args .layout) _ _ _ _ _ (none .before .before .before .before .before .start .ensures .0) (none .before .before .before .before .bands-per-group .ensures .0)
+      e ∙ source-is (none .before .before .before .before .before .before .before .args .layout) _ _ _ _ _
+          (none .before .before .before .before .before .start .ensures .0) (none .before .before .before .before .bands-per-group .ensures .0)
           (none .before .group-end .ensures ∙ ap (min _) (none .before .before .lesser .ensures)),
       omega arith,
     )

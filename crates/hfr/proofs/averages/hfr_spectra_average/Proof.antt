@@ -59,8 +59,11 @@ returns : tie.Need-returns Inv-loop μ-loop
 returns c =
     let s = c .before in
     let none = s .before in
-    let e = take-all _ _ _ _ _ (s .loop .b) (s .loop .average) (omega arith) (s .loop .inv) in
-    (e ∙ spectrum-is (none .before .before .before .before .before .args .layout) _ _ _ _ _ (none .before .before .before .start .ensures .0) (none .before .before .bands-per-group .ensures .0) (none .before .group-end .ensures), omega arith)
+    let e = take-all _ _ _ _ _ (s .loop .b) (s .loop .average) (omega arith) (s .loop .inv) in (
+      e ∙ spectrum-is (none .before .before .before .before .before .args .layout) _ _ _ _ _ (none .before .before .before .start .ensures .0)
+          (none .before .before .bands-per-group .ensures .0) (none .before .group-end .ensures),
+      omega arith,
+    )
 
 pub hfr-spectra-average-spec : {M : Type 1} → statement M
 hfr-spectra-average-spec =

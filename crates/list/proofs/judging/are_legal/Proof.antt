@@ -33,7 +33,8 @@ returns c =
     let a = c .before .before .before .before .before .before in
     let h = c .before .before .before .loop-test .taken in
     sym (every-fails _ (a .args .n) (c .before .before .before .before .loop .i) h
-    (entry-judged (a .args .list .now) _ _ (a .pre .0) h _ _ (c .before .before .entry-in .ensures) (c .before .is-legal-entry .ensures) ∙ not-true _ (c .if1 .taken)))
+    (entry-judged (a .args .list .now) _ _ (a .pre .0) h _ _ (c .before .before .entry-in .ensures) (c .before .is-legal-entry .ensures)
+    ∙ not-true _ (c .if1 .taken)))
 
 add-i : tie.Need-add-i Inv-loop μ-loop
 add-i c = search needs
@@ -48,7 +49,8 @@ loop-again c =
     let h = c .before .before .before .loop-test .taken in (
       search needs,
       every-more _ _ (c .before .before .before .before .loop .inv .1)
-          (entry-judged (a .args .list .now) _ _ (a .pre .0) h _ _ (c .before .before .entry-in .ensures) (c .before .is-legal-entry .ensures) ∙ not-false _ (c .if1 .left)),
+          (entry-judged (a .args .list .now) _ _ (a .pre .0) h _ _ (c .before .before .entry-in .ensures) (c .before .is-legal-entry .ensures)
+          ∙ not-false _ (c .if1 .left)),
     )
 
 returns-2 : tie.Need-returns-2 Inv-loop μ-loop

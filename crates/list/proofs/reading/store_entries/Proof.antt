@@ -46,7 +46,9 @@ part-store-entry-end : tie.Need-part-store-entry-end Inv-loop μ-loop
 part-store-entry-end c = search needs
 
 store-entry-requires : tie.Need-store-entry-requires Inv-loop μ-loop
-store-entry-requires c κs = rw (back-width (c .before .before .before .loop .i * 4) 4) (length-part 4 (c .before .before .before .before .before .before .args .n) _ (c .before .before .before .loop .entries) (omega arith) (c .before .before .loop-test .taken))
+store-entry-requires c κs = rw (back-width (c .before .before .before .loop .i * 4) 4)
+    (length-part 4 (c .before .before .before .before .before .before .args .n) _ (c .before .before .before .loop .entries) (omega arith)
+    (c .before .before .loop-test .taken))
 
 add-i : tie.Need-add-i Inv-loop μ-loop
 add-i c = search needs
@@ -60,7 +62,8 @@ loop-again c =
     let start = c .before .before .before .before .before .before .before .before .before in (
       search needs,
       blocked-more (numbersAt (start .args .list .now)) 4 (start .args .n) (start .args .entries .now) (λ _ _. refl) (s .loop .i) (s .loop .entries)
-          (c .before .before .before .before .before .loop-test .taken) (s .loop .inv .1) _ (omega arith) (c .before .before .store-entry .ensures ∙ ap entryNumbers (c .before .before .before .before .entry-in .ensures)),
+          (c .before .before .before .before .before .loop-test .taken) (s .loop .inv .1) _ (omega arith)
+          (c .before .before .store-entry .ensures ∙ ap entryNumbers (c .before .before .before .before .entry-in .ensures)),
     )
 
 same-length : tie.Need-same-length Inv-loop μ-loop

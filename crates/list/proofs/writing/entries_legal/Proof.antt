@@ -29,7 +29,8 @@ is-legal-entry-requires c κs = search needs
 returns : tie.Need-returns Inv-loop μ-loop
 unfolding legalEntries
 returns c =
-    sym (every-fails _ (c .before .before .before .before .before .before .args .n) (c .before .before .before .before .loop .i) (c .before .before .before .loop-test .taken)
+    sym (every-fails _ (c .before .before .before .before .before .before .args .n) (c .before .before .before .before .loop .i)
+    (c .before .before .before .loop-test .taken)
     (ap legalEntry (sym (c .before .before .entry-at .ensures)) ∙ sym (c .before .is-legal-entry .ensures) ∙ not-true _ (c .if1 .taken)))
 
 add-i : tie.Need-add-i Inv-loop μ-loop

@@ -43,7 +43,9 @@ part-put-entry-end : tie.Need-part-put-entry-end Inv-loop μ-loop
 part-put-entry-end c = search needs
 
 put-entry-requires : tie.Need-put-entry-requires Inv-loop μ-loop
-put-entry-requires c κs = rw (back-width (c .before .before .before .loop .i * 8) 8) (length-part 8 (c .before .before .before .before .before .before .args .n) _ (c .before .before .before .loop .bytes) (omega arith) (c .before .before .loop-test .taken))
+put-entry-requires c κs = rw (back-width (c .before .before .before .loop .i * 8) 8)
+    (length-part 8 (c .before .before .before .before .before .before .args .n) _ (c .before .before .before .loop .bytes) (omega arith)
+    (c .before .before .loop-test .taken))
 
 add-i : tie.Need-add-i Inv-loop μ-loop
 add-i c = search needs
@@ -57,14 +59,16 @@ loop-again c =
     let start = c .before .before .before .before .before .before .before .before .before in (
       search needs,
       blocked-more (bytesAt (start .args .entries .now)) 8 (start .args .n) (start .args .bytes .now) (λ _ _. entry-length _) (s .loop .i) (s .loop .bytes)
-          (c .before .before .before .before .before .loop-test .taken) (s .loop .inv .1) _ (omega arith) (c .before .before .put-entry .ensures ∙ ap entryBytes (c .before .before .before .before .entry-at .ensures)),
+          (c .before .before .before .before .before .loop-test .taken) (s .loop .inv .1) _ (omega arith)
+          (c .before .before .put-entry .ensures ∙ ap entryBytes (c .before .before .before .before .entry-at .ensures)),
     )
 
 same-length : tie.Need-same-length Inv-loop μ-loop
 same-length c = c .before .loop .inv .1 .0
 
 returns : tie.Need-returns Inv-loop μ-loop
-returns c = blocked-all _ 8 (c .before .before .before .before .args .bytes .now) (c .before .loop .i) _ _ (search needs) (search needs) (c .before .loop .inv .1)
+returns c = blocked-all _ 8 (c .before .before .before .before .args .bytes .now) (c .before .loop .i) _ _ (search needs) (search needs)
+    (c .before .loop .inv .1)
 
 pub put-entries-spec : {M : Type 1} → statement M
 put-entries-spec =

@@ -21,7 +21,10 @@ same-length c = search needs
 
 returns : tie.Need-returns
 returns c =
-    entry-laid _ _ _ _ _ _ (c .before .before .before .before .before .before .before .before .before .before .before .before .before .before .before .before .before .pre) (c .before .before .before .before .before .before .before .before .before .before .before .before .before .before .put-word .ensures) (c .before .before .before .before .before .before .before .before .before .before .put-word2 .ensures)
+    let c15 = c .before .before .before .before .before .before .before .before .before .before .before .before .before .before .before in
+    entry-laid _ _ _ _ _ _ (c15 .before .before .pre)
+    (c .before .before .before .before .before .before .before .before .before .before .before .before .before .before .put-word .ensures)
+    (c .before .before .before .before .before .before .before .before .before .before .put-word2 .ensures)
     (c .before .before .before .before .before .before .put-word3 .ensures) (c .before .before .put-word4 .ensures)
 
 pub put-entry-spec : {M : Type 1} → statement M

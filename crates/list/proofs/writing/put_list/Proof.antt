@@ -23,7 +23,8 @@ same-length : tie.Need-same-length
 same-length c = search needs
 
 returns : tie.Need-returns
-returns c = list-laid _ _ (c .before .before .before .before .before .before .before .before .before .before .args .list .now) _ _ (c .before .before .before .before .before .before .put-head .ensures) (c .before .before .put-entries .ensures)
+returns c = list-laid _ _ (c .before .before .before .before .before .before .before .before .before .before .args .list .now) _ _
+    (c .before .before .before .before .before .before .put-head .ensures) (c .before .before .put-entries .ensures)
 
 pub put-list-spec : {M : Type 1} → statement M
 put-list-spec =

@@ -47,7 +47,8 @@ loop-again : tie.Need-loop-again Inv-loop μ-loop
 loop-again c =
     let l = c .before .before .before .loop in
     let a = c .before .before .before .before .before .args in
-    taken-more (a .bytes .now) (a .at) (a .width) (l .i) (l .number) (c .wide .result) (search needs) (search needs) (l .inv) (c .wide .ensures .0) (c .wide .ensures .1)
+    taken-more (a .bytes .now) (a .at) (a .width) (l .i) (l .number) (c .wide .result) (search needs) (search needs) (l .inv) (c .wide .ensures .0)
+    (c .wide .ensures .1)
 
 returns : tie.Need-returns Inv-loop μ-loop
 returns c =

@@ -19,7 +19,8 @@ sub-left : tie.Need-sub-left Inv-loop μ-loop
 sub-left c = search needs
 
 mul-number : tie.Need-mul-number Inv-loop μ-loop
-mul-number c = record { fits = omega (arith, met-fits _ _ _ (c .before .before .before .pre .0) _ _ 0 (omega arith) (omega arith) (c .before .loop .inv) (omega arith)) }
+mul-number c =
+    record { fits = omega (arith, met-fits _ _ _ (c .before .before .before .pre .0) _ _ 0 (omega arith) (omega arith) (c .before .loop .inv) (omega arith)) }
 
 add-widened : tie.Need-add-widened Inv-loop μ-loop
 add-widened c = search needs

@@ -71,4 +71,5 @@ unfolding deadZoneTable ofBits
 returns-16 c = let e : c .before .args .r ≡ 15 = last-arm 15 _ (c .before .pre) (c .match .rest) in rw e
 
 pub dead-zone-spec : {M : Type 1} → statement M
-dead-zone-spec = tie.close (tie.spec returns returns-2 returns-3 returns-4 returns-5 returns-6 returns-7 returns-8 returns-9 returns-10 returns-11 returns-12 returns-13 returns-14 returns-15 returns-16)
+dead-zone-spec = tie.close (tie.spec returns returns-2 returns-3 returns-4 returns-5 returns-6 returns-7 returns-8 returns-9 returns-10 returns-11 returns-12
+    returns-13 returns-14 returns-15 returns-16)

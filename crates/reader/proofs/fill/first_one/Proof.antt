@@ -35,7 +35,8 @@ first-bit-requires-2 : tie.Need-first-bit-requires-2
 first-bit-requires-2 c κs = search needs
 
 -- no 1 was passed, in either search or between them
-zeros-passed : (c : tie.After-first-bit2) → let a = c .before .before .before .before .before .args in ZerosBetween (a .part .now) (a .place .at) (c .first-bit2 .result)
+zeros-passed : (c : tie.After-first-bit2) → let a = c .before .before .before .before .before .args in
+    ZerosBetween (a .part .now) (a .place .at) (c .first-bit2 .result)
 zeros-passed c =
     let a = c .before .before .before .before .before .args in
     let f = c .before .before .before .first-bit in

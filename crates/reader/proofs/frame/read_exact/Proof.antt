@@ -36,7 +36,9 @@ same-length-3 : tie.Need-same-length-3
 same-length-3 c = search needs
 
 returns : tie.Need-returns
-returns c = ap (foundLeft (c .before .before .before .before .before .before .before .before .before .before .before .before .before .before .before .args .layout) _ _ _) (sym (c .before .level .given .1)) ∙ c .before .before .before .before .before .before .before .before .scan-frame .ensures
+returns c =
+    ap (foundLeft (c .before .before .before .before .before .before .before .before .before .before .before .before .before .before .before .args .layout) _ _
+    _) (sym (c .before .level .given .1)) ∙ c .before .before .before .before .before .before .before .before .scan-frame .ensures
 
 same-length-4 : tie.Need-same-length-4
 same-length-4 c = search needs
@@ -49,14 +51,16 @@ same-length-6 c = search needs
 
 returns-2 : tie.Need-returns-2
 returns-2 c =
-    let s = c .before .before .before .before .before .before .before .before .before .before .before .before .before .before .before .before .before .before .before .before .before .before .before .before .before .before in
-    let f = c .before .before .before .before .before .before .before .before .before .before .before .before .before .before .before .before .before .before .before .scan-frame in
+    let c15 = c .before .before .before .before .before .before .before .before .before .before .before .before .before .before .before in
+    let s = c15 .before .before .before .before .before .before .before .before .before .before .before in
+    let f = c15 .before .before .before .before .scan-frame in
     let k = f .kept .1 .1 in
     cleared-left (s .args .layout) (c .before .before .before .before .before .before .before .before .before .before .before .before .answer .given .0 .0)
     (c .before .before .before .before .before .before .before .before .before .clear-u8 .ensures ∙ ap (λ n. replicate n 0) (k .0 ∙ s .pre .1 .1 .factors))
     (c .before .before .before .before .before .clear-u82 .ensures ∙ ap (λ n. replicate n 0) (k .1 .0 ∙ s .pre .1 .1 .side))
     (c .before .clear-i32 .ensures ∙ ap (λ n. replicate n (pos 0)) (k .1 .1 .0 ∙ s .pre .1 .1 .codes))
-    ∙ ap (foundLeft (s .args .layout) _ _ _) (sym (c .before .before .before .before .before .before .before .before .before .before .before .before .answer .given .1)) ∙ f .ensures
+    ∙ ap (foundLeft (s .args .layout) _ _ _)
+    (sym (c .before .before .before .before .before .before .before .before .before .before .before .before .answer .given .1)) ∙ f .ensures
 
 pub read-exact-spec : {M : Type 1} → statement M
 read-exact-spec =

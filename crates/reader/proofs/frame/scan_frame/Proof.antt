@@ -30,7 +30,9 @@ enum-told : tie.Need-enum-told
 enum-told c = search needs
 
 returns-2 : tie.Need-returns-2
-returns-2 c = absurd (sync-there (c .before .before .before .before .before .before .before .before .args .layout) (c .before .before .before .before .before .before .before .before .args .frame .now) (omega arith) (sym (c .before .before .get .ensures) ∙ c .enum-told .given .1))
+returns-2 c = absurd (sync-there (c .before .before .before .before .before .before .before .before .args .layout)
+    (c .before .before .before .before .before .before .before .before .args .frame .now) (omega arith)
+    (sym (c .before .before .get .ensures) ∙ c .enum-told .given .1))
 
 returns-3 : tie.Need-returns-3
 unfolding readerOutcome
@@ -38,7 +40,8 @@ returns-3 c =
     let a = c .before .before .before .before .before .before .before .before .before .before .args in
     refused-left (a .layout) read.WrongSync
     (unsynced (a .layout) (a .frame .now) (omega arith) (sym (c .before .before .before .before .get .ensures) ∙ c .before .before .sync .given .1)
-    (sym (c .before .before .before .before .before .before .is-sealed .ensures) ∙ not-false _ (c .before .before .before .before .before .if1 .left)) (c .if2 .taken)) refl
+    (sym (c .before .before .before .before .before .before .is-sealed .ensures) ∙ not-false _ (c .before .before .before .before .before .if1 .left))
+    (c .if2 .taken)) refl
 
 sub-end : tie.Need-sub-end
 sub-end c = search needs
@@ -66,11 +69,16 @@ same-length-3 c = search needs
 
 returns-4 : tie.Need-returns-4
 returns-4 c =
-    let a = c .before .before .before .before .before .before .before .before .before .before .before .before .before .before .before .before .before .before .before .before .args in
+    let c15 = c .before .before .before .before .before .before .before .before .before .before .before .before .before .before .before in
+    let a = c15 .before .before .before .before .before .args in
     c .before .before .before .before .before .read-record .ensures
     ∙ ap (scannedLeft (a .layout))
-    (sym (synced (a .layout) (a .frame .now) (omega arith) (sym (c .before .before .before .before .before .before .before .before .before .before .before .before .before .before .get .ensures) ∙ c .before .before .before .before .before .before .before .before .before .before .before .before .sync .given .1)
-    (sym (c .before .before .before .before .before .before .before .before .before .before .before .before .before .before .before .before .is-sealed .ensures) ∙ not-false _ (c .before .before .before .before .before .before .before .before .before .before .before .before .before .before .before .if1 .left)) (c .before .before .before .before .before .before .before .before .before .before .if2 .left)))
+    (sym (synced (a .layout) (a .frame .now) (omega arith)
+    (sym (c .before .before .before .before .before .before .before .before .before .before .before .before .before .before .get .ensures)
+    ∙ c .before .before .before .before .before .before .before .before .before .before .before .before .sync .given .1)
+    (sym (c15 .before .is-sealed .ensures) ∙ not-false _
+    (c .before .before .before .before .before .before .before .before .before .before .before .before .before .before .before .if1 .left))
+    (c .before .before .before .before .before .before .before .before .before .before .if2 .left)))
 
 pub scan-frame-spec : {M : Type 1} → statement M
 scan-frame-spec =

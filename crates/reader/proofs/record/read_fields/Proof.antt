@@ -27,7 +27,8 @@ returns c = head-refused (c .before .before .before .before .before .before .rea
 
 read-codes-requires : tie.Need-read-codes-requires
 read-codes-requires c κs =
-    let h = head-of (c .before .before .before .before .before .before .before .before .before .read-header .ensures) (c .before .before .before .head .given .1) in
+    let h = head-of (c .before .before .before .before .before .before .before .before .before .read-header .ensures)
+    (c .before .before .before .head .given .1) in
     (search needs, ((omega (arith, h .holds .0), search needs, h .within), (search needs, search needs)))
 
 head-after-requires : tie.Need-head-after-requires
@@ -44,10 +45,12 @@ same-length-5 c = search needs
 
 returns-2 : tie.Need-returns-2
 returns-2 c =
-    let a = c .before .before .before .before .before .before .before .before .before .before .before .before .before .before .before .before .before .before .args in
-    let p = c .before .before .before .before .before .before .before .before .before .before .before .before .before .before .before .before .before .before .pre in
+    let c15 = c .before .before .before .before .before .before .before .before .before .before .before .before .before .before .before in
+    let a = c15 .before .before .before .args in
+    let p = c15 .before .before .before .pre in
     let r = c .before .before .before .before .before .before .before .before .before .before .before .before .read-header in
-    fields-after (a .layout) (a .part .now) _ _ _ (head-of (r .ensures) (c .before .before .before .before .before .before .head .given .1)) (p .0) (r .kept .1 .1 .0 ∙ p .1 .1 .factors) (r .kept .1 .1 .1 .0 ∙ p .1 .1 .side)
+    fields-after (a .layout) (a .part .now) _ _ _ (head-of (r .ensures) (c .before .before .before .before .before .before .head .given .1)) (p .0)
+    (r .kept .1 .1 .0 ∙ p .1 .1 .factors) (r .kept .1 .1 .1 .0 ∙ p .1 .1 .side)
     (c .before .before .read-codes .result) (c .before .before .read-codes .ensures) (c .head-after .ensures)
 
 pub read-fields-spec : {M : Type 1} → statement M

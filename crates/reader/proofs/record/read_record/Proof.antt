@@ -13,16 +13,32 @@ enum-known-level : tie.Need-enum-known-level
 enum-known-level c = search needs
 
 first-one-requires : tie.Need-first-one-requires
-first-one-requires c κs = (search needs, head-of (c .before .before .before .before .before .before .before .before .read-fields .ensures) (c .before .level .given .1) .within)
+first-one-requires c κs = (
+  search needs,
+  head-of (c .before .before .before .before .before .before .before .before .read-fields .ensures)
+      (c .before .level .given .1) .within,
+)
 
 after-fill-requires : tie.Need-after-fill-requires
-after-fill-requires c κs = (omega (arith, head-of (c .before .before .before .before .before .before .before .before .before .read-fields .ensures) (c .before .before .level .given .1) .within), fill-in _ (c .before .before .before .before .before .before .before .before .before .before .before .before .before .before .before .before .pre .1 .0) (c .first-one .ensures))
+after-fill-requires c κs =
+    let c15 = c .before .before .before .before .before .before .before .before .before .before .before .before .before .before .before in (
+      omega (
+        arith,
+        head-of (c .before .before .before .before .before .before .before .before .before .read-fields .ensures)
+            (c .before .before .level .given .1) .within,
+      ),
+      fill-in _ (c15 .before .pre .1 .0) (c .first-one .ensures),
+    )
 
 enum-known-fault : tie.Need-enum-known-fault
 enum-known-fault c = search needs
 
 in-frame-requires : tie.Need-in-frame-requires
-in-frame-requires c κs = omega (arith, head-of (c .before .before .before .before .before .before .before .before .read-fields .ensures) (c .before .fault .given .1) .within)
+in-frame-requires c κs = omega (
+  arith,
+  head-of (c .before .before .before .before .before .before .before .before .read-fields .ensures)
+      (c .before .fault .given .1) .within,
+)
 
 same-length : tie.Need-same-length
 same-length c = search needs
@@ -35,8 +51,11 @@ same-length-3 c = search needs
 
 returns : tie.Need-returns
 returns c =
-    let a = c .before .before .before .before .before .before .before .before .before .before .before .before .before .before .before .before .before .args in
-    record-left (a .layout) (a .part .now) _ _ _ (head-of (c .before .before .before .before .before .before .before .before .before .before .read-fields .ensures) (c .before .before .before .level .given .1)) (c .before .first-one .ensures) (c .after-fill .ensures)
+    let c15 = c .before .before .before .before .before .before .before .before .before .before .before .before .before .before .before in
+    let a = c15 .before .before .args in
+    record-left (a .layout) (a .part .now) _ _ _ (head-of
+    (c .before .before .before .before .before .before .before .before .before .before .read-fields .ensures) (c .before .before .before .level .given .1))
+    (c .before .first-one .ensures) (c .after-fill .ensures)
 
 same-length-4 : tie.Need-same-length-4
 same-length-4 c = search needs
@@ -49,8 +68,11 @@ same-length-6 c = search needs
 
 returns-2 : tie.Need-returns-2
 returns-2 c =
-    let a = c .before .before .before .before .before .before .before .before .before .before .before .before .before .before .before .before .args in
-    fault-left (a .layout) (a .part .now) _ _ _ (c .in-frame .result) (head-of (c .before .before .before .before .before .before .before .before .before .read-fields .ensures) (c .before .before .fault .given .1)) (c .in-frame .ensures)
+    let c15 = c .before .before .before .before .before .before .before .before .before .before .before .before .before .before .before in
+    let a = c15 .before .args in
+    fault-left (a .layout) (a .part .now) _ _ _ (c .in-frame .result)
+    (head-of (c .before .before .before .before .before .before .before .before .before .read-fields .ensures) (c .before .before .fault .given .1))
+    (c .in-frame .ensures)
 
 pub read-record-spec : {M : Type 1} → statement M
 read-record-spec =

@@ -20,7 +20,14 @@ returns : tie.Need-returns
 returns c = λ l. level-past l (c .before .before .before .before .args .part .now) (sym (c .before .before .get .ensures) ∙ c .enum-told .given .1)
 
 get-requires-2 : tie.Need-get-requires-2
-get-requires-2 c κs = (omega arith, omega (arith, got (c .before .before .before .before .before .args .part .now) 0 9 (sym (c .before .before .before .get .ensures) ∙ c .before .level .given .1) .fits))
+get-requires-2 c κs = (
+  omega arith,
+  omega (
+    arith,
+    got (c .before .before .before .before .before .args .part .now) 0 9
+        (sym (c .before .before .before .get .ensures) ∙ c .before .level .given .1) .fits,
+  ),
+)
 
 enum-known-boundary : tie.Need-enum-known-boundary
 enum-known-boundary c = search needs
@@ -31,7 +38,8 @@ enum-told-2 c = search needs
 returns-2 : tie.Need-returns-2
 returns-2 c =
     let s = c .before .before .before .before .before .before .before .before .args .part .now in
-    λ l. boundary-past l s (sym (c .before .before .before .before .before .before .get .ensures) ∙ c .before .before .before .before .level .given .1) (sym (c .before .before .get2 .ensures) ∙ c .enum-told2 .given .1)
+    λ l. boundary-past l s (sym (c .before .before .before .before .before .before .get .ensures) ∙ c .before .before .before .before .level .given .1)
+    (sym (c .before .before .get2 .ensures) ∙ c .enum-told2 .given .1)
 
 cast-t11 : tie.Need-cast-t11
 cast-t11 c = search needs
@@ -42,7 +50,8 @@ cast-t12 c = search needs
 returns-3 : tie.Need-returns-3
 returns-3 c =
     let s = c .before .before .before .before .before .before .before .before .before .args .part .now in
-    λ l. started l s (sym (c .before .before .before .before .before .before .before .get .ensures) ∙ c .before .before .before .before .before .level .given .1) (sym (c .before .before .before .get2 .ensures) ∙ c .before .boundary .given .1)
+    λ l. started l s (sym (c .before .before .before .before .before .before .before .get .ensures)
+    ∙ c .before .before .before .before .before .level .given .1) (sym (c .before .before .before .get2 .ensures) ∙ c .before .boundary .given .1)
 
 pub read-head-spec : {M : Type 1} → statement M
 read-head-spec =

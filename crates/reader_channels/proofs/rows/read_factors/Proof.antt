@@ -8,7 +8,7 @@ use Rattle.bits.specs.Place.{leftAt}
 use Rattle.rules.specs.Fields.{asPrevious}
 use Rattle.widths.specs.Previous.{factorBefore}
 use Rattle.rules.specs.Reading.{readFactor, readFactors}
-use Rattle.reader_channels.proofs.Answered.{told-of}
+use Rattle.reader_channels.proofs.Answered.{agrees-of}
 use Rattle.reader_channels.proofs.Walks.{Going, going-none, going-more, going-stop, going-all, before-more, factors-start, factors-none}
 use Rattle.reader_channels.proofs.rows.read_factors.Statement.{statement}
 use Rattle.reader_channels.proofs.rows.read_factors.Tie as tie
@@ -31,7 +31,8 @@ returns : tie.Need-returns Inv-loop μ-loop
 returns c =
     let a = c .before .before .before .before .before .before .before .args in
     let z : length (a .factors .now) ≡ 128 = omega arith in
-    factors-none (a .part .now) (a .place) (omega arith) (a .width) (a .coded) (c .if1 .taken) (omega arith) (c .before .before .before .clear-u8 .last .0) (length (a .factors .now)) (c .before .before .before .clear-u8 .ensures) z
+    factors-none (a .part .now) (a .place) (omega arith) (a .width) (a .coded) (c .if1 .taken) (omega arith) (c .before .before .before .clear-u8 .last .0)
+    (length (a .factors .now)) (c .before .before .before .clear-u8 .ensures) z
 
 loop-holds : tie.Need-loop-holds Inv-loop μ-loop
 loop-holds c =
@@ -60,10 +61,11 @@ same-length-2 c = search needs
 
 returns-2 : tie.Need-returns-2 Inv-loop μ-loop
 returns-2 c =
-    going-stop (c .before .before .before .before .before .loop .inv .1) (omega arith) (c .before .enum-told .given .1) (c .before .before .before .read-factor .ensures) (c .step .ensures)
+    going-stop (c .before .before .before .before .before .loop .inv .1) (omega arith) (c .before .enum-told .given .1)
+    (c .before .before .before .read-factor .ensures) (c .step .ensures)
 
 cast-previous : tie.Need-cast-previous Inv-loop μ-loop
-cast-previous c = omega (arith, told-of (c .before .field .given .1) (c .before .before .before .read-factor .ensures) .small)
+cast-previous c = omega (arith, agrees-of (c .before .field .given .1) (c .before .before .before .read-factor .ensures) .small)
 
 slice-write-factors : tie.Need-slice-write-factors Inv-loop μ-loop
 slice-write-factors c = omega (arith, c .before .before .before .before .before .loop .inv .1 .long)
@@ -77,8 +79,11 @@ loop-less c = omega arith
 loop-again : tie.Need-loop-again Inv-loop μ-loop
 loop-again c =
     let l = c .before .before .before .before .before .loop in
-    let v = c .before .field .given .0 .0 in
-    (l .inv .0, going-more (l .inv .1) (factorBefore (l .i + 1) v) (before-more (l .i) v) (omega arith) (omega arith) (omega arith) (c .before .field .given .1) (c .before .before .before .read-factor .ensures))
+    let v = c .before .field .given .0 .0 in (
+      l .inv .0,
+      going-more (l .inv .1) (factorBefore (l .i + 1) v) (before-more (l .i) v) (omega arith) (omega arith) (omega arith) (c .before .field .given .1)
+          (c .before .before .before .read-factor .ensures),
+    )
 
 same-length-3 : tie.Need-same-length-3 Inv-loop μ-loop
 same-length-3 c = search needs

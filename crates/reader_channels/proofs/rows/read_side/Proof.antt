@@ -7,7 +7,7 @@ use lib.Pow.{pow-mono}
 use lib.ListN.{length}
 use Rattle.bits.specs.Place.{leftAt}
 use Rattle.rules.specs.Format.{stay, each, times, number}
-use Rattle.reader_channels.proofs.Answered.{told-of}
+use Rattle.reader_channels.proofs.Answered.{agrees-of}
 use Rattle.reader_channels.proofs.Walks.{Going, going-none, going-more, going-stop, going-all}
 use Rattle.reader_channels.proofs.rows.read_side.Statement.{statement}
 use Rattle.reader_channels.proofs.rows.read_side.Tie as tie
@@ -26,7 +26,8 @@ loop-holds : tie.Need-loop-holds Inv-loop μ-loop
 loop-holds c =
     let a = c .before .before .before .before .before .before .args in
     let z : length (a .side .now) ≡ 8 = omega arith in
-    going-none {s = a .part .now} (a .count) 8 (a .place .at) tt (omega arith) refl (c .before .before .clear-u8 .last .0) (length (a .side .now)) (c .before .before .clear-u8 .ensures) z
+    going-none {s = a .part .now} (a .count) 8 (a .place .at) tt (omega arith) refl (c .before .before .clear-u8 .last .0) (length (a .side .now))
+    (c .before .before .clear-u8 .ensures) z
 
 read-number-requires : tie.Need-read-number-requires Inv-loop μ-loop
 read-number-requires c κs = search needs
@@ -45,12 +46,14 @@ same-length c = search needs
 
 returns : tie.Need-returns Inv-loop μ-loop
 returns c =
-    going-stop (c .before .before .before .before .before .loop .inv) (omega arith) (c .before .enum-told .given .1) (c .before .before .before .read-number .ensures) (c .step .ensures)
+    going-stop (c .before .before .before .before .before .loop .inv) (omega arith) (c .before .enum-told .given .1)
+    (c .before .before .before .read-number .ensures) (c .step .ensures)
 
 cast-side : tie.Need-cast-side Inv-loop μ-loop
 cast-side c =
-    let t = told-of (c .before .field .given .1) (c .before .before .before .read-number .ensures) in
-    let g : 2 ^ c .before .before .before .before .before .before .before .before .before .before .before .before .args .width ≤ 2 ^ 6 = pow-mono {i = c .before .before .before .before .before .before .before .before .before .before .before .before .args .width} {j = 6} (omega arith) in
+    let t = agrees-of (c .before .field .given .1) (c .before .before .before .read-number .ensures) in
+    let g : 2 ^ c .before .before .before .before .before .before .before .before .before .before .before .before .args .width ≤ 2 ^ 6 =
+    pow-mono {i = c .before .before .before .before .before .before .before .before .before .before .before .before .args .width} {j = 6} (omega arith) in
     omega (arith, t .small)
 
 slice-write-side : tie.Need-slice-write-side Inv-loop μ-loop
@@ -65,7 +68,8 @@ loop-less c = omega arith
 loop-again : tie.Need-loop-again Inv-loop μ-loop
 loop-again c =
     let a = c .before .before .before .before .before .before .before .before .before .before .before .before .args in
-    going-more (c .before .before .before .before .before .loop .inv) tt refl (omega arith) (omega arith) (pow-mono {i = a .width} {j = 6} (omega arith)) (c .before .field .given .1) (c .before .before .before .read-number .ensures)
+    going-more (c .before .before .before .before .before .loop .inv) tt refl (omega arith) (omega arith) (pow-mono {i = a .width} {j = 6} (omega arith))
+    (c .before .field .given .1) (c .before .before .before .read-number .ensures)
 
 same-length-2 : tie.Need-same-length-2 Inv-loop μ-loop
 same-length-2 c = search needs

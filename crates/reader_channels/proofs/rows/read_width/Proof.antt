@@ -9,8 +9,8 @@ use Rattle.bits.specs.Place.{leftAt}
 use Rattle.buffers.proofs.Tests.{and-fst}
 use Rattle.rules.specs.Format.{number}
 use Rattle.reader_channels.specs.declared.values.Value.the-variants as value
-use Rattle.reader_channels.specs.Values.{ValueTold}
-use Rattle.reader_channels.proofs.Answered.{told-of}
+use Rattle.reader_channels.specs.Values.{ValueAgrees}
+use Rattle.reader_channels.proofs.Answered.{agrees-of}
 use Rattle.reader_channels.proofs.Widths.{stored-cut, stored-of, width-cut, width-no, width-stop, width-wrong, width-right}
 use borrow.Author.Needs.{needs}
 use Rattle.reader_channels.proofs.rows.read_width.Statement.{statement}
@@ -31,7 +31,8 @@ step-requires c κs = search needs
 returns : tie.Need-returns
 returns c =
     let a = c .before .before .before .before .before .before .args in
-    stored-cut (c .before .enum-told .given .1) (c .before .before .before .read-number .ensures) (width-cut (a .part .now) (a .place .at) (a .coded)) (c .step .ensures)
+    stored-cut (c .before .enum-told .given .1) (c .before .before .before .read-number .ensures) (width-cut (a .part .now) (a .place .at) (a .coded))
+    (c .step .ensures)
 
 width-fits-requires : tie.Need-width-fits-requires
 width-fits-requires c κs = search needs
@@ -39,15 +40,17 @@ width-fits-requires c κs = search needs
 returns-2 : tie.Need-returns-2
 returns-2 c =
     let a = c .before .before .before .before .before .before .before .before .args in
-    let t = told-of (c .before .before .before .field .given .1) (c .before .before .before .before .before .read-number .ensures) in
+    let t = agrees-of (c .before .before .before .field .given .1) (c .before .before .before .before .before .read-number .ensures) in
     width-no (a .part .now) (a .place .at) (a .coded) (omega arith) t (sym (c .before .width-fits .ensures) ∙ not-true _ (c .if1 .taken))
 
 -- the width that was read, and that it is not refused at once
 width-read : (c : tie.Else1) → let a = c .before .before .before .before .before .before .before .before .args in
-    ValueTold (a .part .now) (number 3 (leftAt (a .part .now) (a .place .at))) 8 (value.Of (c .before .before .before .field .given .0 .0) (c .before .before .before .field .given .0 .1 .0))
-width-read c = told-of (c .before .before .before .field .given .1) (c .before .before .before .before .before .read-number .ensures)
+    ValueAgrees (a .part .now) (number 3 (leftAt (a .part .now) (a .place .at))) 8
+    (value.Of (c .before .before .before .field .given .0 .0) (c .before .before .before .field .given .0 .1 .0))
+width-read c = agrees-of (c .before .before .before .field .given .1) (c .before .before .before .before .before .read-number .ensures)
 
-fits : (c : tie.Else1) → let w = c .before .before .before .field .given .0 .0 in (leb w 6 && (leb 1 (c .before .before .before .before .before .before .before .before .args .coded) || eqb w 0)) ≡ true
+fits : (c : tie.Else1) → let w = c .before .before .before .field .given .0 .0 in
+    (leb w 6 && (leb 1 (c .before .before .before .before .before .before .before .before .args .coded) || eqb w 0)) ≡ true
 fits c = sym (c .before .width-fits .ensures) ∙ not-false _ (c .if1 .left)
 
 read-factors-requires : tie.Need-read-factors-requires
@@ -70,7 +73,8 @@ returns-3 : tie.Need-returns-3
 returns-3 c =
     let e = c .before .before .before .before .before .before in
     let a = e .before .before .before .before .before .before .before .before .args in
-    width-stop (a .part .now) (a .place .at) (a .coded) (omega arith) (width-read e) (fits e) (c .enum-told2 .given .1) (c .before .before .before .before .read-factors .ensures)
+    width-stop (a .part .now) (a .place .at) (a .coded) (omega arith) (width-read e) (fits e) (c .enum-told2 .given .1)
+    (c .before .before .before .before .read-factors .ensures)
 
 is-chosen-requires : tie.Need-is-chosen-requires
 is-chosen-requires c κs = search needs

@@ -30,7 +30,8 @@ module _ (c : tie.After-reach) where
   less = ap₂ (λ (a b : ℤ). a -ℤ b) (toZ-pos w32 {n = c .before .args .v} (omega arith)) (toZ-pos w32 {n = c .reach .result} (omega arith))
 
   less-fits : SFits w32 (toZ w32 (c .before .args .v) -ℤ toZ w32 (c .reach .result))
-  less-fits = subst (λ (z : ℤ). SFits w32 z) (sym less) (record { sfits = lt-of-le-of-lt (mag-sub (pos (c .before .args .v)) (c .reach .result)) (omega arith) })
+  less-fits = subst (λ (z : ℤ). SFits w32 z) (sym less)
+      (record { sfits = lt-of-le-of-lt (mag-sub (pos (c .before .args .v)) (c .reach .result)) (omega arith) })
 
   sum : toZ w32 (c .before .args .previous) +ℤ toZ w32 (ofZ w32 (toZ w32 (c .before .args .v) -ℤ toZ w32 (c .reach .result)))
       ≡ pos (c .before .args .previous) +ℤ (pos (c .before .args .v) -ℤ pos (c .reach .result))

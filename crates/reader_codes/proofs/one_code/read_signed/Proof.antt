@@ -11,7 +11,7 @@ use Rattle.bits.proofs.Fields.{Got, got}
 use Rattle.rules.specs.Format.{ok, number}
 use Rattle.rules.specs.Code.{magnitudeBits}
 use Rattle.rules_formats.proofs.Numbers.{number-got, number-past}
-use Rattle.reader_codes.proofs.Telling.{field-small, signed-cut, signed-none, signed-past, signed-in}
+use Rattle.reader_codes.proofs.CodeAnswers.{field-small, signed-cut, signed-none, signed-past, signed-in}
 use Rattle.reader_codes.proofs.one_code.read_signed.Statement.{statement}
 use Rattle.reader_codes.proofs.one_code.read_signed.Tie as tie
 
@@ -29,7 +29,8 @@ enum-told c = search needs
 
 -- the magnitude's field
 asked : (c : tie.After-get) → let a = c .before .before .before .args in fieldAt (a .part .now) (a .place .at) (magnitudeBits (a .resolution)) ≡ c .get .result
-asked c = let a = c .before .before .before .args in ap (fieldAt (a .part .now) (a .place .at)) (sym (c .before .magnitude-bits .ensures .0)) ∙ sym (c .get .ensures)
+asked c = let a = c .before .before .before .args in
+    ap (fieldAt (a .part .now) (a .place .at)) (sym (c .before .magnitude-bits .ensures .0)) ∙ sym (c .get .ensures)
 
 returns : tie.Need-returns
 returns c =
@@ -37,7 +38,8 @@ returns c =
     let a = g .before .before .before .args in
     let e = asked g ∙ c .enum-told .given .1 in
     record {
-      is = signed-cut (a .resolution) (leftAt (a .part .now) (a .place .at)) (number-past (a .part .now) (a .place .at) (magnitudeBits (a .resolution)) (omega arith) e);
+      is = signed-cut (a .resolution) (leftAt (a .part .now) (a .place .at))
+          (number-past (a .part .now) (a .place .at) (magnitudeBits (a .resolution)) (omega arith) e);
       ends = refl;
     }
 
@@ -51,7 +53,8 @@ had : (c : tie.After-magnitude) → let a = c .before .before .before .before .b
 had c = let a = c .before .before .before .before .before .args in got (a .part .now) (a .place .at) (magnitudeBits (a .resolution)) (found c)
 
 magnitude-read : (c : tie.After-magnitude) → let a = c .before .before .before .before .before .args in
-    number (magnitudeBits (a .resolution)) (leftAt (a .part .now) (a .place .at)) ≡ ok (c .magnitude .given .0 .0) (leftAt (a .part .now) (c .magnitude .given .0 .1 .0 .at))
+    number (magnitudeBits (a .resolution)) (leftAt (a .part .now) (a .place .at))
+    ≡ ok (c .magnitude .given .0 .0) (leftAt (a .part .now) (c .magnitude .given .0 .1 .0 .at))
 magnitude-read c = let a = c .before .before .before .before .before .args in number-got (a .part .now) (a .place .at) (magnitudeBits (a .resolution)) (found c)
 
 returns-2 : tie.Need-returns-2
@@ -76,7 +79,8 @@ returns-3 c =
     let q = m .magnitude .given .0 .1 .0 .at in
     let e : fieldAt (a .part .now) q 1 ≡ field.Past (c .enum-told2 .given .0 .0) = sym (c .before .before .get2 .ensures) ∙ c .enum-told2 .given .1 in
     record {
-      is = signed-past (a .resolution) (leftAt (a .part .now) (a .place .at)) _ _ (magnitude-read m) (c .before .before .before .if1 .left) (number-past (a .part .now) q 1 (had m .fits) e);
+      is = signed-past (a .resolution) (leftAt (a .part .now) (a .place .at)) _ _ (magnitude-read m) (c .before .before .before .if1 .left)
+          (number-past (a .part .now) q 1 (had m .fits) e);
       ends = refl;
     }
 
@@ -92,10 +96,12 @@ returns-4 c =
     let a = m .before .before .before .before .before .args in
     let q = m .magnitude .given .0 .1 .0 .at in
     let n = c .before .before in
-    let e : fieldAt (a .part .now) q 1 ≡ field.Of (n .sign .given .0 .0) (n .sign .given .0 .1 .0) = sym (n .before .before .get2 .ensures) ∙ n .sign .given .1 in
+    let e : fieldAt (a .part .now) q 1 ≡ field.Of (n .sign .given .0 .0) (n .sign .given .0 .1 .0) = sym (n .before .before .get2 .ensures)
+    ∙ n .sign .given .1 in
     let z = toZ-ofZ w32 (c .with-sign .result) (record { sfits = c .with-sign .ok }) ∙ c .with-sign .ensures in
     record {
-      is = signed-in (a .resolution) (leftAt (a .part .now) (a .place .at)) _ _ (magnitude-read m) _ _ (n .before .before .before .if1 .left) (number-got (a .part .now) q 1 e)
+      is = signed-in (a .resolution) (leftAt (a .part .now) (a .place .at)) _ _ (magnitude-read m) _ _ (n .before .before .before .if1 .left)
+          (number-got (a .part .now) q 1 e)
           ∙ ap (λ (x : ℤ). ok x (leftAt (a .part .now) (n .sign .given .0 .1 .0 .at))) (sym z);
       ends = got (a .part .now) q 1 e .fits;
     }

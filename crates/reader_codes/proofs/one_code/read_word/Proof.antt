@@ -11,7 +11,7 @@ use Rattle.bits.proofs.Fields.{got, past}
 use Rattle.rules.specs.Format.{ok}
 use Rattle.reader_codes.specs.Seen.{wordBits}
 use Rattle.reader_codes.proofs.Ahead.{look-small}
-use Rattle.reader_codes.proofs.Telling.{word-in, word-past}
+use Rattle.reader_codes.proofs.CodeAnswers.{word-in, word-past}
 use Rattle.reader_codes.proofs.one_code.read_word.Statement.{statement}
 use Rattle.reader_codes.proofs.one_code.read_word.Tie as tie
 

@@ -3,7 +3,7 @@ use mathlib.Core.Path.{_∙_, ap}
 use Prim.Native.Nat.{ℕ, _%_}
 use native.Mathlib.Omega.{arith}
 use borrow.Author.Needs.{needs}
-use Rattle.quantizer.specs.Packed.{entryOf}
+use Rattle.quantizer.specs.SixteenInOne.{entryOf}
 use Rattle.resolutions.proofs.CurveEntries.{curve-entry}
 use Rattle.resolutions.proofs.noise_curve.curve.Statement.{statement}
 use Rattle.resolutions.proofs.noise_curve.curve.Tie as tie

@@ -17,7 +17,8 @@ element-copy-out-result c = search needs
 returns : tie.Need-returns
 returns c =
     let s = c .before .before in (
-      curve-read (s .args .curve .now) (s .pre .0) (s .args .factor) (s .args .noise) (c .before .place-of .result) (s .pre .1) (s .pre .2) (c .before .place-of .ensures .0),
+      curve-read (s .args .curve .now) (s .pre .0) (s .args .factor) (s .args .noise) (c .before .place-of .result) (s .pre .1) (s .pre .2)
+          (c .before .place-of .ensures .0),
       curve-le (s .args .curve .now) (s .pre .0) (c .before .place-of .result + s .args .noise),
     )
 

@@ -42,8 +42,10 @@ shared-slice-read-factor c = search needs
 band-bits-requires : tie.Need-band-bits-requires Inv-loop μ-loop
 band-bits-requires c κs =
     let s = c .before .before .before .before .before .before in
-    let b = c .before .before .loop .b in
-    ((s .pre .0 .0, s .pre .0 .1 b (coded-band _ _ _ _ (c .before .loop-test .taken) (c .before .before .before .smaller .ensures))), (s .pre .1 .0 .0, search needs, s .pre .0 .2 b, search needs))
+    let b = c .before .before .loop .b in (
+      (s .pre .0 .0, s .pre .0 .1 b (coded-band _ _ _ _ (c .before .loop-test .taken) (c .before .before .before .smaller .ensures))),
+      (s .pre .1 .0 .0, search needs, s .pre .0 .2 b, search needs),
+    )
 
 add-rise : tie.Need-add-rise Inv-loop μ-loop
 add-rise c = search needs
@@ -51,8 +53,10 @@ add-rise c = search needs
 band-bits-requires-2 : tie.Need-band-bits-requires-2 Inv-loop μ-loop
 band-bits-requires-2 c κs =
     let s = c .before .before .before .before .before .before .before in
-    let b = c .before .before .before .loop .b in
-    ((s .pre .0 .0, s .pre .0 .1 b (coded-band _ _ _ _ (c .before .before .loop-test .taken) (c .before .before .before .before .smaller .ensures))), (s .pre .1 .0 .0, search needs, s .pre .0 .2 b, search needs))
+    let b = c .before .before .before .loop .b in (
+      (s .pre .0 .0, s .pre .0 .1 b (coded-band _ _ _ _ (c .before .before .loop-test .taken) (c .before .before .before .before .smaller .ensures))),
+      (s .pre .1 .0 .0, search needs, s .pre .0 .2 b, search needs),
+    )
 
 add-fall : tie.Need-add-fall Inv-loop μ-loop
 add-fall c = search needs
@@ -69,8 +73,10 @@ loop-again c =
     let a = c .before .before .before .before .before .before .before .before .args in
     let b = s .loop .b in
     let i = s .loop .inv in
-    let p = passes (a .scaled .now) (a .factors .now) (a .coded) (a .level) b (coded-band _ _ _ _ (c .before .before .before .loop-test .taken) (c .before .before .before .before .before .smaller .ensures)) in
-    let turn = changed _ _ _ _ _ _ _ b (i .4) p (i .2) (i .3) _ _ (c .before .band-bits .ensures .0) (c .band-bits2 .ensures .0) (c .before .band-bits .ensures .1) (c .band-bits2 .ensures .1) in
+    let p = passes (a .scaled .now) (a .factors .now) (a .coded) (a .level) b
+    (coded-band _ _ _ _ (c .before .before .before .loop-test .taken) (c .before .before .before .before .before .smaller .ensures)) in
+    let turn = changed _ _ _ _ _ _ _ b (i .4) p (i .2) (i .3) _ _ (c .before .band-bits .ensures .0) (c .band-bits2 .ensures .0)
+    (c .before .band-bits .ensures .1) (c .band-bits2 .ensures .1) in
     (search needs, search needs, turn .0, turn .1, turn .2)
 
 returns : tie.Need-returns Inv-loop μ-loop

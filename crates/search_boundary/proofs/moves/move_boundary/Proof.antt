@@ -6,7 +6,7 @@ use borrow.Author.Needs.{needs}
 use Rattle.buffers.specs.Walk.{sumTo}
 use Rattle.buffers.proofs.Build.{back-width}
 use Rattle.buffers.proofs.Most.{part-most}
-use Rattle.rules.specs.Layout.{codedAt, part}
+use Rattle.rules.specs.Layout.{codedCountAt, part}
 use Rattle.rules.specs.Estimate.{channelBits, spectralBits, usedBits}
 use Rattle.rules.proofs.LentRows.{next-le, nearer, below, next-fits, lent-long}
 use Rattle.rules.proofs.Layouts.{coded-few}
@@ -17,7 +17,7 @@ use Rattle.search_boundary.proofs.moves.move_boundary.Tie as tie
 
 abbrev Inv-loop : tie.InvT-loop
 Inv-loop layout curve scaled counts factors level used from to channels rise₀ fall₀ c₀ rise fall c =
-    let bits : ℕ → ℕ → ℕ = λ boundary i. channelBits (part 1024 scaled i) (part 128 factors i) (codedAt layout i) level boundary in
+    let bits : ℕ → ℕ → ℕ = λ boundary i. channelBits (part 1024 scaled i) (part 128 factors i) (codedCountAt layout i) level boundary in
     (c ≤ channels) × (rise ≤ used + 12288 * c) × (fall ≤ 12288 * c) × (sumTo (bits to) c + (fall + used) ≡ sumTo (bits from) c + rise)
 
 abbrev μ-loop : tie.MeasureT-loop
@@ -96,7 +96,11 @@ channel-change-requires c κs =
         part-most 63 (k * 128) (k * 128 + 128 - k * 128) (s .args .factors .now) (s .pre .1 .0 .2),
       ),
       (
-        (lent-long 1024 _ _ _ h (s .pre .1 .0 .1 .long), lent-long 128 _ _ _ h (s .pre .1 .1 .0 .1), omega (arith, coded-few (s .args .layout) (s .pre .0) k, n .ensures .0)),
+        (
+          lent-long 1024 _ _ _ h (s .pre .1 .0 .1 .long),
+          lent-long 128 _ _ _ h (s .pre .1 .1 .0 .1),
+          omega (arith, coded-few (s .args .layout) (s .pre .0) k, n .ensures .0),
+        ),
         s .pre .1 .1 .1 .0,
       ),
     )
@@ -108,7 +112,8 @@ add-fall : tie.Need-add-fall Inv-loop μ-loop
 add-fall c = search needs
 
 add-c : tie.Need-add-c Inv-loop μ-loop
-add-c c = next-fits _ _ (c .before .before .before .before .before .before .before .loop-test .taken) 16 refl (c .before .before .before .before .before .before .before .before .before .before .before .pre .0 .few)
+add-c c = next-fits _ _ (c .before .before .before .before .before .before .before .loop-test .taken) 16 refl
+    (c .before .before .before .before .before .before .before .before .before .before .before .pre .0 .few)
 
 loop-less : tie.Need-loop-less Inv-loop μ-loop
 loop-less c = nearer _ _ (c .before .before .before .before .before .before .before .loop-test .taken)

@@ -34,19 +34,20 @@ same-length-5 : tie.Need-same-length-5
 same-length-5 c = search needs
 
 returns : tie.Need-returns
-returns c = (
-  c .before .before .before .before .before .before .before .before .before .before .before .before .before .before .before .before .before .clear-f32 .ensures,
-  (
-    c .before .before .before .before .before .before .before .before .before .before .before .before .before .clear-i32 .ensures,
-    (
-      c .before .before .before .before .before .before .before .before .before .before .clear-u8 .ensures,
+returns c =
+    let c15 = c .before .before .before .before .before .before .before .before .before .before .before .before .before .before .before in (
+      c15 .before .before .clear-f32 .ensures,
       (
-        c .before .before .before .before .before .before .clear-u82 .ensures,
-        c .before .before .clear-u83 .ensures,
+        c .before .before .before .before .before .before .before .before .before .before .before .before .before .clear-i32 .ensures,
+        (
+          c .before .before .before .before .before .before .before .before .before .before .clear-u8 .ensures,
+          (
+            c .before .before .before .before .before .before .clear-u82 .ensures,
+            c .before .before .clear-u83 .ensures,
+          ),
+        ),
       ),
-    ),
-  ),
-)
+    )
 
 pub clear-all-spec : {M : Type 1} → statement M
 clear-all-spec =

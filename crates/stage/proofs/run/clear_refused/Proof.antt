@@ -28,7 +28,9 @@ same-length-5 c = search needs
 returns : tie.Need-returns
 returns c =
     let e = c .before .before .before .before .before .before .before .before .before .clear-all .ensures in
-    λ l z. wiped-cleared l _ _ _ _ _ _ _ _ _ _ _ (c .before .before .before .before .before .before .before .before .before .before .before .before .before .before .before .match .keys2) z (e .0) (e .1 .0) (e .1 .1 .0) (e .1 .1 .1 .0) (e .1 .1 .1 .1)
+    λ l z. wiped-cleared l _ _ _ _ _ _ _ _ _ _ _
+    (c .before .before .before .before .before .before .before .before .before .before .before .before .before .before .before .match .keys2) z (e .0)
+    (e .1 .0) (e .1 .1 .0) (e .1 .1 .1 .0) (e .1 .1 .1 .1)
 
 returns-2 : tie.Need-returns-2
 returns-2 c = λ l z. wiped-stays l _ _ _ _ _ _ (c .before .match .keys1)

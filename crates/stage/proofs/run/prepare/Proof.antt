@@ -31,7 +31,8 @@ scale-spectra-requires c κs =
 
 fill-side-requires : tie.Need-fill-side-requires
 fill-side-requires c κs =
-    let s = c .before .before .before .before .before .before .before .before .before .before .before .before .before .before .before .before .before .before .before .before in (
+    let c15 = c .before .before .before .before .before .before .before .before .before .before .before .before .before .before .before in
+    let s = c15 .before .before .before .before .before in (
       s .pre .0,
       (
         c .before .before .before .before .before .before .before .before .before .before .before .before .before .before .scaling-table .ensures,
@@ -53,9 +54,12 @@ same-length-3 c = search needs
 
 returns : tie.Need-returns
 returns c =
-    let s = c .before .before .before .before .before .before .before .before .before .before .before .before .before .before .before .before .before .before .before .before .before .before .before in
-    let f = c .before .before .before .before .before .before .before .before .before .before .before .before .before .before .calculate-scale-factors .ensures in
-    let e = c .before .before .before .before .before .before .before .before .scale-spectra .ensures ∙ ap (allScaled (s .args .layout) (s .args .spectra .now)) f in
+    let c15 = c .before .before .before .before .before .before .before .before .before .before .before .before .before .before .before in
+    let s = c15 .before .before .before .before .before .before .before .before in
+    let f =
+    c .before .before .before .before .before .before .before .before .before .before .before .before .before .before .calculate-scale-factors .ensures in
+    let e = c .before .before .before .before .before .before .before .before .scale-spectra .ensures
+    ∙ ap (allScaled (s .args .layout) (s .args .spectra .now)) f in
     (f, (e, c .before .before .fill-side .ensures ∙ ap (λ sc. allSide (s .args .layout) (s .args .spectra .now) sc (s .args .intensities .now)) e))
 
 pub prepare-spec : {M : Type 1} → statement M

@@ -10,7 +10,8 @@ use Rattle.stereo_mixing.proofs.pair.mix_pair.Statement.{statement}
 use Rattle.stereo_mixing.proofs.pair.mix_pair.Tie as tie
 
 abbrev Inv-loop : tie.InvT-loop
-Inv-loop layout pair₀ intensities₀ count s₀ pair intensities s = (s ≤ 8) × (count ≡ layout .total - layout .base) × (length pair ≡ length pair₀) × (length intensities ≡ length intensities₀) × (signal pair intensities ≡ subframesMixed layout s (signal pair₀ intensities₀))
+Inv-loop layout pair₀ intensities₀ count s₀ pair intensities s = (s ≤ 8) × (count ≡ layout .total - layout .base) × (length pair ≡ length pair₀)
+    × (length intensities ≡ length intensities₀) × (signal pair intensities ≡ subframesMixed layout s (signal pair₀ intensities₀))
 
 abbrev μ-loop : tie.MeasureT-loop
 μ-loop layout pair₀ intensities₀ count s₀ pair intensities s = 8 - s
@@ -53,7 +54,8 @@ loop-again c =
       s .loop .inv .1,
       c .before .before .mix-stereo-bands .kept .0 ∙ s .loop .inv .2,
       simp length-set (s .loop .inv .3),
-      subframe-more _ _ _ _ _ _ _ _ _ (s .loop .inv .1) (s .loop .inv .4) (c .before .before .before .before .before .stereo-energy .ensures) (c .before .before .before .before .quantize-intensity .ensures) (c .before .before .mix-stereo-bands .ensures),
+      subframe-more _ _ _ _ _ _ _ _ _ (s .loop .inv .1) (s .loop .inv .4) (c .before .before .before .before .before .stereo-energy .ensures)
+          (c .before .before .before .before .quantize-intensity .ensures) (c .before .before .mix-stereo-bands .ensures),
     )
 
 same-length : tie.Need-same-length Inv-loop μ-loop

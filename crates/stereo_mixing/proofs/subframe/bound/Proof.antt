@@ -35,7 +35,11 @@ loop-less : tie.Need-loop-less Inv-loop μ-loop
 loop-less c = search needs
 
 loop-again : tie.Need-loop-again Inv-loop μ-loop
-loop-again c = (c .before .before .loop .inv .0, search-more _ _ (c .before .before .loop .inv .0) _ (c .before .loop-test .taken) (c .before .before .loop .inv .1) (c .if1 .taken))
+loop-again c = (
+  c .before .before .loop .inv .0,
+  search-more _ _ (c .before .before .loop .inv .0) _ (c .before .loop-test .taken)
+      (c .before .before .loop .inv .1) (c .if1 .taken),
+)
 
 returns : tie.Need-returns Inv-loop μ-loop
 returns c = search-found _ _ (c .before .before .loop .inv .0) _ (c .before .loop-test .taken) (c .before .before .loop .inv .1) (c .if1 .left)

@@ -18,7 +18,8 @@ hold-requires c κs = search needs
 
 returns-2 : tie.Need-returns-2
 unfolding combinedOf storedOf ofBits
-returns-2 c = mixing-held _ _ _ (c .before .before .before .before .before .before .if1 .left) (c .before .before .if2 .taken) (c .before .before .before .before .bound .ensures) (c .hold .ensures)
+returns-2 c = mixing-held _ _ _ (c .before .before .before .before .before .before .if1 .left) (c .before .before .if2 .taken)
+    (c .before .before .before .before .bound .ensures) (c .hold .ensures)
 
 returns-3 : tie.Need-returns-3
 unfolding combinedOf storedOf ofBits

@@ -68,7 +68,8 @@ returns : tie.Need-returns Inv-loop μ-loop
 unfolding ofBits
 returns c =
     let s = c .before in
-    energies-is _ (s .before .before .args .at) (s .loop .b) _ (s .loop .left) (s .loop .right) (s .loop .total) (omega arith) (s .loop .inv .1) (s .loop .inv .2) (s .loop .inv .3)
+    energies-is _ (s .before .before .args .at) (s .loop .b) _ (s .loop .left) (s .loop .right) (s .loop .total) (omega arith) (s .loop .inv .1)
+    (s .loop .inv .2) (s .loop .inv .3)
 
 pub stereo-energy-spec : {M : Type 1} → statement M
 stereo-energy-spec =

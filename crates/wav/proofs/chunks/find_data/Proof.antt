@@ -40,7 +40,8 @@ add-body c = search needs
 returns : tie.Need-returns Inv-loop μ-loop
 returns c =
     let t = c .before .before .before in
-    walk-stops _ (t .before .loop .pos) _ _ _ (t .loop-test .taken) (c .before .before .get-low .ensures .0) (c .before .get-low2 .ensures .0) (t .before .loop .inv) (c .if1 .taken) (c .before .get-low2 .ensures .1)
+    walk-stops _ (t .before .loop .pos) _ _ _ (t .loop-test .taken) (c .before .before .get-low .ensures .0) (c .before .get-low2 .ensures .0)
+    (t .before .loop .inv) (c .if1 .taken) (c .before .get-low2 .ensures .1)
 
 sub-if2 : tie.Need-sub-if2 Inv-loop μ-loop
 sub-if2 c = search needs
@@ -48,7 +49,8 @@ sub-if2 c = search needs
 returns-2 : tie.Need-returns-2 Inv-loop μ-loop
 returns-2 c =
     let t = c .before .before .before .before in
-    walk-leaves _ (t .before .loop .pos) _ _ _ (t .loop-test .taken) (c .before .before .before .get-low .ensures .0) (c .before .before .get-low2 .ensures .0) (t .before .loop .inv) (c .before .if1 .left) (c .if2 .taken)
+    walk-leaves _ (t .before .loop .pos) _ _ _ (t .loop-test .taken) (c .before .before .before .get-low .ensures .0) (c .before .before .get-low2 .ensures .0)
+    (t .before .loop .inv) (c .before .if1 .left) (c .if2 .taken)
 
 format-after-requires : tie.Need-format-after-requires Inv-loop μ-loop
 format-after-requires c κs = (search needs, c .before .before .before .before .before .loop .inv .1)
@@ -65,7 +67,8 @@ loop-less c = search needs
 loop-again : tie.Need-loop-again Inv-loop μ-loop
 loop-again c =
     let t = c .before .before .before .before .before in
-    walk-passes _ (t .before .loop .pos) _ _ _ (t .loop-test .taken) (c .before .before .before .before .get-low .ensures .0) (c .before .before .before .get-low2 .ensures .0) (t .before .loop .inv)
+    walk-passes _ (t .before .loop .pos) _ _ _ (t .loop-test .taken) (c .before .before .before .before .get-low .ensures .0)
+    (c .before .before .before .get-low2 .ensures .0) (t .before .loop .inv)
     (c .before .before .if1 .left) (c .before .if2 .left) _ (c .format-after .ensures .0) (c .format-after .ensures .1)
 
 returns-3 : tie.Need-returns-3 Inv-loop μ-loop

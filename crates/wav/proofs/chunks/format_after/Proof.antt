@@ -1,6 +1,6 @@
 -- `wav::chunks::format_after` meets its contract. Assumes nothing.
 use borrow.Author.Needs.{needs}
-use Rattle.wav.proofs.Turns.{format-other, format-short, format-told}
+use Rattle.wav.proofs.Turns.{format-other, format-short, format-said}
 use Rattle.wav.proofs.chunks.format_after.Statement.{statement}
 use Rattle.wav.proofs.chunks.format_after.Tie as tie
 
@@ -39,7 +39,8 @@ cast-t12 c = search needs
 
 returns-3 : tie.Need-returns-3
 returns-3 c = (
-  format-told _ _ _ _ _ (c .before .before .before .before .if1 .left) (c .before .before .before .if2 .left) _ _ _ (c .before .before .get-low .ensures .0) (c .before .get-low2 .ensures .0) (c .get-low3 .ensures .0),
+  format-said _ _ _ _ _ (c .before .before .before .before .if1 .left) (c .before .before .before .if2 .left) _ _ _ (c .before .before .get-low .ensures .0)
+      (c .before .get-low2 .ensures .0) (c .get-low3 .ensures .0),
   record { channels = c .before .before .get-low .ensures .1; rate = c .before .get-low2 .ensures .1; depth = c .get-low3 .ensures .1 },
 )
 

@@ -24,7 +24,8 @@ loop-holds : tie.Need-loop-holds Inv-loop μ-loop
 loop-holds c = (search needs, finite-none _ _ _)
 
 -- the sample's bytes lie in the file
-ahead : (c : tie.In-loop Inv-loop μ-loop) → c .before .before .before .before .args .body + c .before .loop .k * 4 + 4 ≤ length (c .before .before .before .before .args .wav .now)
+ahead : (c : tie.In-loop Inv-loop μ-loop) → c .before .before .before .before .args .body + c .before .loop .k * 4 + 4 ≤ length
+    (c .before .before .before .before .args .wav .now)
 ahead c =
     let s = c .before .before .before .before in
     within (s .args .body) (s .args .count) (c .before .loop .k) 4 _ (c .loop-test .taken) (of-four _ _ _ _ (c .before .before .if1 .left) (s .pre .ends))
@@ -45,7 +46,8 @@ returns-2 : tie.Need-returns-2 Inv-loop μ-loop
 returns-2 c =
     let s = c .before .before .before .before .before .before .before .args in
     finite-fails (s .wav .now) (s .depth) (s .body) _ _ (c .before .before .before .loop-test .taken)
-    (sym (by-pattern (s .wav .now) (s .depth) (s .body) _ _ (c .before .before .before .before .before .if1 .left) (c .before .before .get-low .ensures .0)) ∙ sym (c .before .is-finite-pattern .ensures) ∙ not-true _ (c .if2 .taken))
+    (sym (by-pattern (s .wav .now) (s .depth) (s .body) _ _ (c .before .before .before .before .before .if1 .left) (c .before .before .get-low .ensures .0))
+    ∙ sym (c .before .is-finite-pattern .ensures) ∙ not-true _ (c .if2 .taken))
 
 add-k : tie.Need-add-k Inv-loop μ-loop
 add-k c = search needs
@@ -58,7 +60,8 @@ loop-again c =
     let s = c .before .before .before .before .before .before .before .args in (
       search needs,
       finite-more (s .wav .now) (s .depth) (s .body) _ (c .before .before .before .before .loop .inv .1)
-          (sym (by-pattern (s .wav .now) (s .depth) (s .body) _ _ (c .before .before .before .before .before .if1 .left) (c .before .before .get-low .ensures .0)) ∙ sym (c .before .is-finite-pattern .ensures) ∙ not-false _ (c .if2 .left)),
+          (sym (by-pattern (s .wav .now) (s .depth) (s .body) _ _ (c .before .before .before .before .before .if1 .left)
+          (c .before .before .get-low .ensures .0)) ∙ sym (c .before .is-finite-pattern .ensures) ∙ not-false _ (c .if2 .left)),
     )
 
 returns-3 : tie.Need-returns-3 Inv-loop μ-loop

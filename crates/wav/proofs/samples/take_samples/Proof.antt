@@ -7,18 +7,18 @@ use lib.ListN.{length}
 use Rattle.buffers.specs.Walk.{build}
 use Rattle.buffers.proofs.Build.{Filled, filled-none, filled-more, filled-all}
 use Rattle.rules_files.specs.Wav.{sampleWidth, sampleAt}
-use Rattle.wav.specs.Levels.{levelAfter}
+use Rattle.wav.specs.Loudness.{loudnessAfter}
 use Rattle.wav.proofs.Growing.{level-none, level-next, level-counted, level-noted}
 use Rattle.wav.proofs.Taking.{finite-at, within}
 use Rattle.wav.proofs.samples.take_samples.Statement.{statement}
 use Rattle.wav.proofs.samples.take_samples.Tie as tie
 
 abbrev Inv-loop : tie.InvT-loop
-Inv-loop wav depth body samples₀ width level₀ k₀ samples level k =
-    (k ≤ length samples₀) × Filled (sampleAt wav depth body) samples₀ k samples × (level ≡ levelAfter (build (sampleAt wav depth body) k))
+Inv-loop wav depth body samples₀ width level₀ k₀ samples loudness k =
+    (k ≤ length samples₀) × Filled (sampleAt wav depth body) samples₀ k samples × (loudness ≡ loudnessAfter (build (sampleAt wav depth body) k))
 
 abbrev μ-loop : tie.MeasureT-loop
-μ-loop wav depth body samples₀ width level₀ k₀ samples level k = length samples₀ - k
+μ-loop wav depth body samples₀ width level₀ k₀ samples loudness k = length samples₀ - k
 
 none-requires : tie.Need-none-requires Inv-loop μ-loop
 none-requires c κs = search needs
@@ -27,7 +27,8 @@ loop-holds : tie.Need-loop-holds Inv-loop μ-loop
 loop-holds c = (search needs, filled-none _ _, c .none .ensures ∙ level-none _)
 
 -- the sample's bytes lie in the file
-ahead : (c : tie.In-loop Inv-loop μ-loop) → c .before .before .before .before .before .args .body + c .before .loop .k * sampleWidth (c .before .before .before .before .before .args .depth)
+ahead : (c : tie.In-loop Inv-loop μ-loop) → c .before .before .before .before .before .args .body + c .before .loop .k * sampleWidth
+    (c .before .before .before .before .before .args .depth)
     + sampleWidth (c .before .before .before .before .before .args .depth) ≤ length (c .before .before .before .before .before .args .wav .now)
 ahead c = let s = c .before .before .before .before .before in within (s .args .body) _ _ _ _ (search needs) (s .pre .0 .ends)
 
@@ -64,7 +65,8 @@ loop-again c =
     let t = c .before .before .before in
     let s = t .before .before .before .before in (
       search needs,
-      filled-more (sampleAt (s .args .wav .now) (s .args .depth) (s .args .body)) (s .args .samples .now) _ _ _ (omega arith) (t .loop .inv .1) (c .before .sample .ensures),
+      filled-more (sampleAt (s .args .wav .now) (s .args .depth) (s .args .body)) (s .args .samples .now) _ _ _ (omega arith) (t .loop .inv .1)
+          (c .before .sample .ensures),
       level-next (sampleAt (s .args .wav .now) (s .args .depth) (s .args .body)) _ _ _ _ (t .loop .inv .2) (c .before .sample .ensures) (c .with .ensures),
     )
 

@@ -30,8 +30,11 @@ returns c =
     let four = c .before in
     let three = four .before in
     let two = three .before in
-    let one = two .before in
-    (c .or-less5 .ensures .0 ∙ rw (four .or-less4 .ensures .0, three .or-less3 .ensures .0, two .or-less2 .ensures .0, one .or-less .ensures .0), search needs, search needs)
+    let one = two .before in (
+      c .or-less5 .ensures .0 ∙ rw (four .or-less4 .ensures .0, three .or-less3 .ensures .0, two .or-less2 .ensures .0, one .or-less .ensures .0),
+      search needs,
+      search needs,
+    )
 
 pub chosen-spec : {M : Type 1} → statement M
 chosen-spec =

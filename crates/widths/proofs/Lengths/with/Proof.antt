@@ -45,8 +45,14 @@ returns c =
     let three = four .before .before in
     let two = three .before .before in
     let one = two .before .before in
-    rw
-    (one .bits-at .ensures .0, two .bits-at2 .ensures .0, three .bits-at3 .ensures .0, four .bits-at4 .ensures .0, five .bits-at5 .ensures .0, one .before .distance .ensures)
+    rw (
+      one .bits-at .ensures .0,
+      two .bits-at2 .ensures .0,
+      three .bits-at3 .ensures .0,
+      four .bits-at4 .ensures .0,
+      five .bits-at5 .ensures .0,
+      one .before .distance .ensures,
+    )
 
 pub with-spec : {M : Type 1} → statement M
 with-spec =

@@ -42,7 +42,8 @@ module _ (c : tie.After-reach) where
 
 returns : tie.Need-returns
 unfolding near
-returns c = sym (size-below (of (c .before)) (reachOf (c .before .before .before .args .d)) (sym (ap₂ ltZ (size (c .before)) (low (c .before))) ∙ c .if1 .taken))
+returns c = sym (size-below (of (c .before)) (reachOf (c .before .before .before .args .d))
+    (sym (ap₂ ltZ (size (c .before)) (low (c .before))) ∙ c .if1 .taken))
 
 returns-2 : tie.Need-returns-2
 unfolding near

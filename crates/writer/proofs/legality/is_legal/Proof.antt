@@ -29,7 +29,8 @@ returns c =
     let t = c .before .before .before .before .before .before in
     let a = t .before .before .before .before .before .args in
     let are = c .before .before .before .before .calculate-frame-resolutions .ensures in
-    let judge : Bool → Bool = λ h. h && legalChannels (a .layout) (a .factors .now) (a .side .now) (a .codes .now) (allResolutions (a .layout) (a .level) (a .boundary) (a .factors .now)) in (
+    let judge : Bool → Bool = λ h. h && legalChannels (a .layout) (a .factors .now) (a .side .now) (a .codes .now)
+    (allResolutions (a .layout) (a .level) (a .boundary) (a .factors .now)) in (
       c .legal-channels .ensures
           ∙ ap (legalChannels (a .layout) (a .factors .now) (a .side .now) (a .codes .now)) are
           ∙ ap judge (sym (sym (t .before .legal-head .ensures) ∙ t .if1 .taken)),

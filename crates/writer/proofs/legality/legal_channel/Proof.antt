@@ -3,7 +3,7 @@ use mathlib.Core.Path.{_≡_, sym, ap₂, _∙_}
 use Prim.Native.Nat.{_^_}
 use borrow.Author.Needs.{needs}
 use borrow.Author.Tests.{not-true, not-false}
-use Rattle.rules.specs.Layout.{kindAt, codedAt, sidesAt, sideWidth}
+use Rattle.rules.specs.Layout.{kindAt, codedCountAt, sideCountAt, sideWidth}
 use Rattle.rules.specs.Record.{legalRow}
 use Rattle.rules.specs.Record.{legalChannel}
 use Rattle.writer.proofs.legality.legal_channel.Statement.{statement}
@@ -18,14 +18,14 @@ legal-row-requires c κs = search needs
 -- what each row's test answers
 row : (c : tie.After-legal-row) →
     let a = c .before .before .before .before .before .args in
-    legalRow (codedAt (a .layout) (a .channel)) 64 128 (a .factors .now) ≡ c .legal-row .result
+    legalRow (codedCountAt (a .layout) (a .channel)) 64 128 (a .factors .now) ≡ c .legal-row .result
 row c =
     let s = c .before .before .before .before .before in
     sym (c .legal-row .ensures ∙ ap₂ (λ n k. legalRow n 64 k (s .args .factors .now)) (c .before .coded-count .ensures .0) (s .pre .1 .1))
 
 row-2 : (c : tie.After-legal-row2) →
     let a = c .before .before .before .before .before .before .before .before .before .args in
-    legalRow (sidesAt (a .layout) (a .channel)) (2 ^ sideWidth (kindAt (a .layout) (a .channel))) 8 (a .side .now) ≡ c .legal-row2 .result
+    legalRow (sideCountAt (a .layout) (a .channel)) (2 ^ sideWidth (kindAt (a .layout) (a .channel))) 8 (a .side .now) ≡ c .legal-row2 .result
 row-2 c =
     let s = c .before .before .before .before .before .before .before .before .before in
     sym (c .legal-row2 .ensures ∙ rw (c .before .before .side-count .ensures .0, c .before .side-limit .ensures, s .pre .1 .2))

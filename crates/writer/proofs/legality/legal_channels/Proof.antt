@@ -53,7 +53,12 @@ judged : (c : tie.After-legal-channel Inv-loop μ-loop) →
     c .legal-channel .result ≡ legal (a .layout) (a .factors .now) (a .side .now) (a .codes .now) (a .resolutions .now) (s .loop .c)
 judged c =
     let p = c .before in
-    c .legal-channel .ensures ∙ rw (p .before .before .before .bytes-of .ensures .0, p .before .before .bytes-of2 .ensures .0, p .before .codes-of .ensures .0, p .bytes-of3 .ensures .0)
+    c .legal-channel .ensures ∙ rw (
+      p .before .before .before .bytes-of .ensures .0,
+      p .before .before .bytes-of2 .ensures .0,
+      p .before .codes-of .ensures .0,
+      p .bytes-of3 .ensures .0,
+    )
 
 loop-again : tie.Need-loop-again Inv-loop μ-loop
 loop-again c =

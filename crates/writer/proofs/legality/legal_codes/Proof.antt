@@ -54,7 +54,8 @@ loop-less : tie.Need-loop-less Inv-loop μ-loop
 loop-less c = search needs
 
 judged : (c : tie.After-legal-subframe Inv-loop μ-loop) →
-    c .legal-subframe .result ≡ legal (c .before .before .before .before .before .args .resolutions .now) (c .before .before .before .before .before .args .codes .now) (c .before .before .before .loop .s)
+    c .legal-subframe .result ≡ legal (c .before .before .before .before .before .args .resolutions .now)
+    (c .before .before .before .before .before .args .codes .now) (c .before .before .before .loop .s)
 judged c = c .legal-subframe .ensures ∙ rw (back-width (c .before .before .before .loop .s * 128) 128)
 
 loop-again : tie.Need-loop-again Inv-loop μ-loop

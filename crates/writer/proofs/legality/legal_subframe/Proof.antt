@@ -44,7 +44,8 @@ loop-less : tie.Need-loop-less Inv-loop μ-loop
 loop-less c = search needs
 
 judged : (c : tie.After-legal-code Inv-loop μ-loop) →
-    c .legal-code .result ≡ legalBand (c .before .before .before .before .before .before .args .resolutions .now) (c .before .before .before .before .before .before .args .codes .now) (c .before .before .before .before .loop .b)
+    c .legal-code .result ≡ legalBand (c .before .before .before .before .before .before .args .resolutions .now)
+    (c .before .before .before .before .before .before .args .codes .now) (c .before .before .before .before .loop .b)
 judged c =
     let s = c .before .before .before .before in
     c .legal-code .ensures

@@ -11,11 +11,16 @@ calculate-evaluation-boundary-requires c κs =
     let z = s .pre .1 .1 .1 .1 in
     (s .pre .0, (s .pre .1 .0, ((z .scaled, z .factors, s .pre .1 .1 .0), s .pre .1 .1 .1 .0)))
 
-deliver-requires : tie.Need-deliver-requires
-deliver-requires c κs =
+with-resolutions-requires : tie.Need-with-resolutions-requires
+with-resolutions-requires c κs =
     let s = c .before .before .before .before .before .before .before .before in
-    let z = s .pre .1 .1 .1 .1 in
-    (s .pre .0, ((omega (arith, s .pre .1 .1 .0), c .before .before .calculate-evaluation-boundary .ensures .1), ((z .scaled, z .factors, z .side), (z .codes, z .frame))))
+    let z = s .pre .1 .1 .1 .1 in (
+      s .pre .0,
+      (
+        (omega (arith, s .pre .1 .1 .0), c .before .before .calculate-evaluation-boundary .ensures .1),
+        ((z .scaled, z .factors, z .side), (z .codes, z .frame)),
+      ),
+    )
 
 sub-answered : tie.Need-sub-answered
 sub-answered c = search needs
@@ -34,14 +39,15 @@ same-length-2 c = search needs
 
 returns : tie.Need-returns
 returns c =
-    packed-ends _ _ _ _ _ _ _ _ _ _ (c .before .before .before .before .before .deliver .ensures) (c .before .before .before .before .before .before .before .before .calculate-evaluation-boundary .ensures .0) _ (c .answered .ensures)
+    packed-ends _ _ _ _ _ _ _ _ _ _ (c .before .before .before .before .before .with-resolutions .ensures)
+    (c .before .before .before .before .before .before .before .before .calculate-evaluation-boundary .ensures .0) _ (c .answered .ensures)
 
 pub boundary-to-frame-spec : {M : Type 1} → statement M
 boundary-to-frame-spec =
     tie.close
     (tie.spec
     calculate-evaluation-boundary-requires
-    deliver-requires
+    with-resolutions-requires
     sub-answered
     mul-answered
     answered-requires

@@ -16,8 +16,13 @@ curve-table-requires c κs = search needs
 calculate-noise-level-requires : tie.Need-calculate-noise-level-requires
 calculate-noise-level-requires c κs =
     let s = c .before .before .before .before .before .before .before .before .before .before .before in
-    let z = s .pre .1 .1 in
-    (s .pre .0, ((c .before .before .before .curve-table .ensures, c .before .before .before .before .before .frame-counts .ensures, s .pre .1 .0), (z .scaled, z .factors)))
+    let z = s .pre .1 .1 in (
+      s .pre .0,
+      (
+        (c .before .before .before .curve-table .ensures, c .before .before .before .before .before .frame-counts .ensures, s .pre .1 .0),
+        (z .scaled, z .factors),
+      ),
+    )
 
 is-no-level-requires : tie.Need-is-no-level-requires
 is-no-level-requires c κs = search needs
@@ -38,7 +43,8 @@ returns c =
 
 boundary-to-frame-requires : tie.Need-boundary-to-frame-requires
 boundary-to-frame-requires c κs =
-    let s = c .before .before .before .before .before .before .before .before .before .before .before .before .before .before .before .before .before .before .before .before in
+    let c15 = c .before .before .before .before .before .before .before .before .before .before .before .before .before .before .before in
+    let s = c15 .before .before .before .before .before in
     let z = s .pre .1 .1 in
     let h = ltb-false 254 _ (sym (c .before .before .before .before .before .is-no-level .ensures) ∙ c .before .before .before .before .if1 .left) in
     let k = c .before .before .before .before .before .before .before .before .calculate-noise-level .kept .1 .1 .1 .1 .0 ∙ z .factors in

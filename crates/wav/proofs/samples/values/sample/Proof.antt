@@ -30,7 +30,9 @@ int-to-float-result c =
 
 returns : tie.Need-returns
 unfolding ofBits
-returns c = let s = c .before .before .before .before .before .args in at-16 (s .wav .now) (s .at) _ _ (c .before .before .before .if1 .taken) (c .before .before .get-low .ensures .0) (c .before .before .get-low .ensures .1) _ (whole c)
+returns c = let s = c .before .before .before .before .before .args in
+    at-16 (s .wav .now) (s .at) _ _ (c .before .before .before .if1 .taken) (c .before .before .get-low .ensures .0) (c .before .before .get-low .ensures .1) _
+    (whole c)
 
 get-low-requires-2 : tie.Need-get-low-requires-2
 get-low-requires-2 c κs = search needs
@@ -47,7 +49,9 @@ int-to-float-result-2 c =
 
 returns-2 : tie.Need-returns-2
 unfolding ofBits
-returns-2 c = let s = c .before .before .before .before .before .before .args in at-24 (s .wav .now) (s .at) _ _ (c .before .before .before .if2 .taken) (c .before .before .get-low2 .ensures .0) (c .before .before .get-low2 .ensures .1) _ (whole-2 c)
+returns-2 c = let s = c .before .before .before .before .before .before .args in
+    at-24 (s .wav .now) (s .at) _ _ (c .before .before .before .if2 .taken) (c .before .before .get-low2 .ensures .0) (c .before .before .get-low2 .ensures .1)
+    _ (whole-2 c)
 
 is-32 : (c : tie.Else2) → c .before .before .before .args .depth ≡ 32
 is-32 c = depth-32 _ (c .before .before .before .pre .0 .0) (c .before .if1 .left) (c .if2 .left)
@@ -56,7 +60,8 @@ get-low-requires-3 : tie.Need-get-low-requires-3
 get-low-requires-3 c κs = (omega (arith, is-32 c), omega arith)
 
 float-from-bits-result : tie.Need-float-from-bits-result
-float-from-bits-result c = let s = c .before .before .before .before .args in pattern-32 (s .wav .now) (s .at) _ _ (is-32 (c .before)) (c .get-low3 .ensures .0) (c .before .before .before .before .pre .1)
+float-from-bits-result c = let s = c .before .before .before .before .args in
+    pattern-32 (s .wav .now) (s .at) _ _ (is-32 (c .before)) (c .get-low3 .ensures .0) (c .before .before .before .before .pre .1)
 
 returns-3 : tie.Need-returns-3
 returns-3 c = let s = c .before .before .before .before .args in at-32 (s .wav .now) (s .at) _ _ (is-32 (c .before)) (c .get-low3 .ensures .0)
