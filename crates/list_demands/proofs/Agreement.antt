@@ -6,7 +6,7 @@ use Prim.Native.Nat.{ℕ, _+_, _*_, _<_}
 use native.Mathlib.Omega.{arith}
 use lib.ListN.{length, take}
 use Rattle.buffers.specs.Walk.{AtMost}
-use Rattle.rules.specs.Layout.{frameSize, factorLength, sideLength, spectrumLength}
+use Rattle.rules.specs.Layout.{frameSize}
 use Rattle.rules.specs.Record.{Rec, Legal, recOf, CodesInRange}
 use Rattle.rules.specs.Fields.{fields}
 use Rattle.rules.specs.Frame.{frameOf}
@@ -21,13 +21,8 @@ use Rattle.rules_demands.proofs.Calls.{FrameOf}
 use Rattle.rules_demands.proofs.StageCalls.{recordIn, stage-head, stage-packed, stage-read}
 use Rattle.rules_files.specs.List.{entryNumbers, entryAt, writeList, listEntry}
 use Rattle.rules_files.proofs.ListCalls.{list-back}
+use Rattle.list_demands.specs.OwnRecords.{OwnRecord}
 use Rattle.list_demands.proofs.SameHead.{same-level, same-boundary}
-
--- the reader left the stage's factors, side and codes, over the stated lengths: the frame's own record
-pub record OwnRecord (l : Layout) (t : StageLent) (u : ReaderLent) : Type 0 where
-  pub factors : take (factorLength l) (readFrame l u .factors) ≡ take (factorLength l) (encodeFrame l t .factors)
-  pub side : take (sideLength l) (readFrame l u .side) ≡ take (sideLength l) (encodeFrame l t .side)
-  pub codes : take (spectrumLength l) (readFrame l u .codes) ≡ take (spectrumLength l) (encodeFrame l t .codes)
 
 -- ---- the stage's frame and the strict reader
 

@@ -22,7 +22,8 @@ use Rattle.rules_files.proofs.Entries.{entries-front}
 use Rattle.line_demands.proofs.Standing.{allLent, single, answersAt, Stands, ran, ended, answers-long, bytes-long}
 use Rattle.line_demands.proofs.Lines.{Admits, doneOf, framesDone, granted, standing, line-frame}
 use Rattle.list_demands.proofs.StageEntries.{FromStage, stage-list-written}
-use Rattle.list_demands.proofs.Agreement.{OwnRecord, head-agrees, list-agrees, list-agrees-in-range}
+use Rattle.list_demands.specs.OwnRecords.{OwnRecord}
+use Rattle.list_demands.proofs.Agreement.{head-agrees, list-agrees, list-agrees-in-range}
 
 module _ (l : Layout) (count : ℕ) (t : LineLent) (a : Admits l count t) where
   -- one entry for each delivered frame: its four answers

@@ -1,8 +1,9 @@
-// Replays fixed calls of the frame stage, the strict reader, the record writer and the checksum, and compares what they leave.
+// Replays two lines of frames, then fixed calls of the frame stage, the strict reader, the record writer and the checksum, and compares what they leave.
 use self::frames::stage_case;
 use self::records::check_case;
 use self::records::read_case;
 use self::records::write_case;
+use replay_lines::replay_lines;
 use replay_vectors::data::bytes_at;
 use replay_vectors::lines::CaseOutcome;
 use replay_vectors::lines::Tally;
@@ -100,6 +101,7 @@ fn replay_file(path: &[u8], tally: Tally) -> Tally {
 
 fn main() {
     let none = Tally { counts: [0; 4] };
+    replay_lines();
     let first = replay_file(b"stage.vec", none);
     let both = replay_file(b"records.vec", first);
     say_tally(both);

@@ -5,7 +5,7 @@ use Prim.Native.Nat.{ℕ, zero, suc, _+_, _-_, _≤_}
 use native.Mathlib.Nat.{add-zero, add-suc}
 use native.Mathlib.Omega.{arith}
 use Rattle.rules.specs.declared.Layout.{Layout}
-use Rattle.rules_line.specs.Line.{LineLent, LineLeft, stageAt, lineTurn, turnLent, onward, lineAfter}
+use Rattle.rules_line.specs.Line.{LineLent, LineLeft, stageAt, tallyAfter, lineTurn, turnLent, onward, lineAfter}
 
 -- the next turn of a line that x is left of
 abbrev pub turnAfter : (l : Layout) (t : LineLent) (k : ℕ) (x : LineLeft) → LineLeft
@@ -15,6 +15,12 @@ module _ (l : Layout) (t : LineLent) (k : ℕ) where
   pub after-next : (x : LineLeft) → lineAfter l t k ≡ x → x .index ≡ none → lineAfter l t (suc k) ≡ turnAfter l t k x
   unfolding lineAfter onward
   after-next x e n = ap (λ y. onward (y .index) y (turnAfter l t k y)) e ∙ ap (λ i. onward i x (turnAfter l t k x)) n
+
+  -- the tally is brought up to date by the turn's answer
+  pub turn-counted : lineAfter l t k .index ≡ none
+      → lineAfter l t (suc k) .tally ≡ tallyAfter (lineAfter l t k .tally) (stageAt l k (turnLent t (lineAfter l t k)) .outcome)
+  unfolding lineTurn
+  turn-counted n = ap (λ (x : LineLeft). x .tally) (after-next (lineAfter l t k) refl n)
 
   pub after-ended : (j : ℕ) → lineAfter l t k .index ≡ some j → lineAfter l t (suc k) ≡ lineAfter l t k
   unfolding lineAfter onward

@@ -1,1 +1,2 @@
 pub mod MixedRows
+pub mod StereoLaws
