@@ -10,9 +10,10 @@
 
 GROUP is the crate of the definitions (GROUPS below), or `all`. --share 1/3 tries a third of each spec file, its definitions in turn.
 
-A mutant is tried twice at most. First as a copy: the changed definition under a file of its own, with copies of all that rests on it and of nothing else, many
-mutants in one check. A definition is copied unchanged beside them (its control): where that copy fails the theorem is not counted. What passes is tried in
-place, alone, with every file of the crates above, slow ones too. So a kill is the word of a theorem, and a survivor has passed all of them.
+A mutant is first tried as a copy: the changed definition under a file of its own, with copies of what rests on it, many mutants in one check. This is done
+with the rows that unfold nothing, since a number that is computed may have no end; then with all rows, which are proved by computation alone; then with all
+that rests on it. A definition is copied unchanged beside them (its control): where that copy fails the theorem is not counted. What passes is tried in place,
+alone, with every file of the crates above, slow ones too. So a kill is the word of a row or of a theorem, and a survivor has passed all of them.
 The repository is not written to: all happens in target/mutants, or in the folder that MUTANTS names. It needs target/rlib of a `rt check` and nothing else.
 One run at a time in one folder.
 """
@@ -31,16 +32,22 @@ from fractions import Fraction
 sys.dont_write_bytecode = True   # no __pycache__ beside the scripts
 from mutants_text import Source, file_of, module_of, mutants_of, with_imports, words_of  # noqa: E402
 
-# ---- what is tried: a crate of definitions, the crates with theorems about them, files that are left to the second try because they take long, and how many
-# seconds of CPU a copy may take on average (twice what most take), beside ten for each check
+# ---- what is tried: a crate of definitions, the crates with theorems about them, files that are left to the last try and rows that are left to the second
+# because they take long, and how many seconds of CPU a copy may take on average (twice what most take), beside ten for each check
 
 GROUPS = {
-    'rules_files': {'above': ['list_demands', 'wav_demands'], 'slow': [], 'seconds': 1},
-    'rules_stereo': {'above': ['stereo_demands'], 'slow': ['stereo_demands/proofs/WorkedStereo'], 'seconds': 3},
-    'rules_line': {'above': ['line_demands'], 'slow': ['line_demands/proofs/WorkedLine'], 'seconds': 2},
+    'rules_files': {'above': ['list_demands', 'wav_demands'], 'slow': [], 'late': ['worked-header', 'plain-header'], 'seconds': 1},
+    'rules_stereo': {
+        'above': ['stereo_demands'],
+        'slow': ['stereo_demands/proofs/WorkedStereo'],
+        'late': ['three-spectra', 'late-mixed'],
+        'seconds': 3,
+    },
+    'rules_line': {'above': ['line_demands'], 'slow': ['line_demands/proofs/WorkedLine'], 'late': [], 'seconds': 2},
     'rules': {
         'above': ['rules_formats', 'rules_demands', 'rules_worked'],
         'slow': ['rules_worked/proofs/Worked', 'rules_worked/proofs/Runs', 'rules_worked/proofs/Empty', 'rules_worked/proofs/Refusal7'],
+        'late': [],
         'seconds': 4,
     },
 }
@@ -104,6 +111,23 @@ class House:
                     todo.append(user)
         return changed | {user for k in changed for user in self.users.get(k, ())}
 
+    def is_row(self, key):
+        """is it proved by computation alone?"""
+        d = self.by_key.get(key)
+        return bool(d and re.search(r'(?s)\s=\s[\s(),]*refl[\s(),refl]*$', '\n'.join(self.sources[d.file].lines[(d.body or d.end) - 1:d.end])))
+
+    def rows_of(self, keys, plain):
+        """the rows among these declarations, if need be those alone that unfold nothing, and those of the definitions that the rows use"""
+        todo = [k for k in keys if not self.by_key[k].is_definition and k[1] not in GROUPS[self.group]['late'] and self.is_row(k)]
+        todo = [k for k in todo if not (plain and self.by_key[k].unfolded)]
+        kept = set(todo)
+        while todo:
+            for key in self.uses[todo.pop()]:
+                if key in keys and key not in kept and self.by_key[key].is_definition:
+                    kept.add(key)
+                    todo.append(key)
+        return kept
+
 
 def imports(line):
     """(file, name, name here) of each name of a `use` line"""
@@ -115,12 +139,14 @@ def imports(line):
 
 
 class Copies:
-    """a mutant's changed definition and all that rests on it, each file under its name with a number behind it"""
+    """a mutant's changed definition and the rows or all that rests on it, each file under its name with a number behind it"""
 
-    def __init__(self, house, mutant, number, control=False):
+    def __init__(self, house, mutant, number, which, control=False):
         self.house, self.number, self.mutant = house, number, mutant
         slow = GROUPS[house.group]['slow']
         self.resting = {k for k in house.resting_on(mutant.declaration.key) if k[0] not in slow}
+        if which != 'all':
+            self.resting = house.rows_of(self.resting, which == 'plain rows') | {mutant.declaration.key}
         self.files = {}       # file -> text of its copy
         self.places = {}      # file -> [(first line, last line, name)]
         for file in sorted({k[0] for k in self.resting}):
@@ -304,26 +330,32 @@ class Trial:
                 out[number].append((found.group(1), c.places[found.group(1)].get(line, ''), words))
         return out
 
-    def control(self, batch):
+    def control(self, batch, which):
         """the unchanged copies, once a definition: which theorems fail there, and are not counted"""
         todo = {}
         for m in batch:
-            if self.name(m) not in self.controls:
+            if self.told(m, which) not in self.controls:
                 todo.setdefault(self.name(m), m)
         if todo:
-            copies = [Copies(self.house, m, n, control=True) for n, m in enumerate(todo.values(), 1)]
+            copies = [Copies(self.house, m, n, which, control=True) for n, m in enumerate(todo.values(), 1)]
             found = self.copied(copies)
             for c in copies:
-                self.controls[self.name(c.mutant)] = 'all' if found is None else [f'{file} {name}' for file, name, _ in found[c.number]]
+                self.controls[self.told(c.mutant, which)] = 'all' if found is None else [f'{file} {name}' for file, name, _ in found[c.number]]
             self.save()
+
+    def told(self, mutant, which):
+        return ('' if which == 'all' else which + ' of ') + self.name(mutant)
 
     @staticmethod
     def name(mutant):
         return f'{mutant.file} {mutant.declaration.name}'
 
-    def first_try(self, batch):
+    def try_copies(self, batch, which):
         """the batch as copies, in smaller parts where it comes to no end; answers those that passed"""
-        copies = [Copies(self.house, m, n) for n, m in enumerate(batch, 1)]
+        if not batch:
+            return []
+        self.control(batch, which)
+        copies = [Copies(self.house, m, n, which) for n, m in enumerate(batch, 1)]
         found = self.copied(copies)
         if found is None:
             if len(batch) == 1 and not self.late:
@@ -332,10 +364,10 @@ class Trial:
                 self.verdicts[batch[0].id] = {'verdict': 'no end', 'mutant': batch[0].description, 'kind': batch[0].kind, 'by': []}
                 return []
             part = -(-len(batch) // 4)
-            return [m for at in range(0, len(batch), part) for m in self.first_try(batch[at:at + part])]
+            return [m for at in range(0, len(batch), part) for m in self.try_copies(batch[at:at + part], which)]
         passed = []
         for m, c in zip(batch, copies):
-            blind = self.controls[self.name(m)]
+            blind = self.controls[self.told(m, which)]
             words = [] if blind == 'all' else [(f, n, w) for f, n, w in found[c.number] if f'{f} {n}' not in blind]
             if any('/specs/' in f for f, _, _ in words):
                 self.verdicts[m.id] = {'verdict': 'ill-typed', 'mutant': m.description, 'kind': m.kind, 'by': words[:1]}
@@ -404,8 +436,9 @@ class Trial:
         todo, end = self.order(share, only), time.time() + 60 * minutes
         while todo and time.time() < end and not os.path.exists(f'{WORK}/stop'):
             batch, todo = todo[:size], todo[size:]
-            self.control(batch)
-            for m in self.first_try(batch):
+            for which in ('plain rows', 'rows', 'all'):
+                batch = self.try_copies(batch, which)
+            for m in batch:
                 self.in_place(m, int(4 * seconds) + 30)
             print(time.strftime('%H:%M:%S'), f'{len(todo)} to go,', self.counts(), {k: round(v) for k, v in self.seconds.items()}, flush=True)
 
@@ -433,12 +466,6 @@ def accepted():
     return out
 
 
-def is_row(house, by):
-    """is one of the declarations that refuse a mutant proved by computation alone?"""
-    found = (house.by_key.get((file, name)) for file, name, _ in by)
-    return any(d and re.search(r'(?s)\s=\s[\s(),]*refl[\s(),refl]*$', '\n'.join(house.sources[d.file].lines[(d.body or d.end) - 1:d.end])) for d in found)
-
-
 def report(groups):
     known, used, holes, sums = accepted(), set(), [], [0] * (5 + len(CLASSES))
     print('| file | made | tried | killed | by a row | ' + ' | '.join(CLASSES) + ' | holes |')
@@ -449,7 +476,7 @@ def report(groups):
             verdicts = {m.id: trial.verdicts[m.id] for m in mine if m.id in trial.verdicts}
             tried = [m for m in mine if m.id in verdicts and verdicts[m.id]['verdict'] != 'ill-typed']
             killed = [m for m in tried if verdicts[m.id]['verdict'] in ('killed', 'no end')]
-            rows = [m for m in killed if is_row(trial.house, verdicts[m.id]['by'])]
+            rows = [m for m in killed if any(trial.house.is_row((file, name)) for file, name, _ in verdicts[m.id]['by'])]
             lasting, sorts, left = [m for m in tried if m not in killed], dict.fromkeys(CLASSES, 0), []
             for m in lasting:
                 name = m.id if m.id in known else trial.name(m)

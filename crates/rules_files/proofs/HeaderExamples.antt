@@ -2,7 +2,7 @@
 use mathlib.Core.Path.{_≡_, refl}
 use mathlib.Core.List.{[], _∷_, _++_, map}
 use mathlib.Core.Bool.{Bool, true, false}
-use Prim.Native.Nat.{ℕ}
+use Prim.Native.Nat.{ℕ, _+_}
 use lib.ListN.{length, replicate}
 use Rattle.bits.specs.Bits.{bits, value, bitsOf}
 use Rattle.buffers.specs.Walk.{build}
@@ -14,8 +14,10 @@ use Rattle.rules.specs.declared.ChannelType.the-variants.{Discrete}
 use Rattle.rules.specs.declared.Layout.{Layout}
 use Rattle.rules_files.specs.declared.header.LoopPoints.{LoopPoints}
 use Rattle.rules_files.specs.declared.header.LoopPoints.the-variants.{Absent, Given}
+use Rattle.rules_files.specs.declared.header.LoopFields.{LoopFields}
 use Rattle.rules_files.specs.declared.header.Stream.{Stream}
-use Rattle.rules_files.specs.FileHeader.{channelMapping, validMappings, loopFields, loopPieces, afterLoop, pieces, byteOf, headerOf}
+use Rattle.rules_files.specs.FileHeader.{channelMapping, validMappings, channelConfig, loopFields, loopPieces, afterLoop, pieces, byteOf, headerOf}
+use Rattle.rules_files.specs.FileHeader.{Piece, piece, pieceBytes, magicPieces, formatPieces, framePieces, bandPieces, fieldPieces, tailPieces}
 use Rattle.rules_files.specs.declared.header.HeaderAnswer.the-variants as answers
 use Rattle.rules_files.specs.FileHeader.{headerOutcome, fitsPoints, fitsHeader, writeHeader}
 
@@ -117,3 +119,26 @@ pub valid-row : (map ofHigh validMappings
     ∷ 0x0000000100000000 ∷ []) × (map length validMappings ≡ replicate 8 8)
 unfolding validMappings ofHigh
 valid-row = (refl, refl)
+
+-- the configuration of 0 to 8 channels; past the Rust's table it is 0
+pub config-row : map channelConfig (0 ∷ 1 ∷ 2 ∷ 3 ∷ 4 ∷ 5 ∷ 6 ∷ 7 ∷ 8 ∷ 9 ∷ []) ≡ 0 ∷ 1 ∷ 0 ∷ 4 ∷ 0 ∷ 1 ∷ 3 ∷ 7 ∷ 3 ∷ 0 ∷ []
+unfolding channelMapping
+config-row = refl
+
+-- each number of a piece under its own name; its bytes are its value in so many bytes
+pub piece-names : (offset width value : ℕ) → let p = piece offset width value in
+    (p .offset ≡ offset) × (p .width ≡ width) × (p .value ≡ value) × (pieceBytes p ≡ highFirst width value)
+piece-names offset width value = (refl, refl, refl, refl)
+
+-- where each field stands, and in how many bytes
+abbrev place : Piece → ℕ × ℕ
+place p = (p .offset, p .width)
+
+pub piece-places : (l : Layout) (st : Stream) (f : LoopFields) (at : ℕ) →
+    (map place magicPieces ≡ (0, 4) ∷ (4, 2) ∷ (6, 2) ∷ [])
+    × (map place (formatPieces (l .channels) st) ≡ (8, 4) ∷ (12, 1) ∷ (13, 3) ∷ (16, 4) ∷ (20, 2) ∷ (22, 2) ∷ [])
+    × (map place (framePieces l) ≡ (24, 4) ∷ (28, 2) ∷ (30, 1) ∷ (31, 1) ∷ (32, 1) ∷ [])
+    × (map place (bandPieces l) ≡ (33, 1) ∷ (34, 1) ∷ (35, 1) ∷ (36, 1) ∷ (37, 1) ∷ [])
+    × (map place (fieldPieces f) ≡ (40, 4) ∷ (44, 4) ∷ (48, 4) ∷ (52, 2) ∷ (54, 2) ∷ [])
+    × (map place (tailPieces at) ≡ (at, 4) ∷ (at + 4, 2) ∷ (at + 6, 4) ∷ [])
+piece-places l st f at = (refl, refl, refl, refl, refl, refl)

@@ -153,6 +153,19 @@ pub one-read : readList (0x56 ∷ 0x46 ∷ 0x49 ∷ 0 ∷ 1 ∷ 0 ∷ 0 ∷ 0 �
 unfolding readList readListAs judgedList isMarked legalEntries legalEntry every entriesOf blocks entryAt entryFrom ofHigh
 one-read = refl
 
+-- a bad entry and a good one, read into three and into four places: 2 before 21
+abbrev readInto : (boundary places : ℕ) → Outcome
+readInto boundary places = readList (0x56 ∷ 0x46 ∷ 0x49 ∷ 0 ∷ 1 ∷ 0 ∷ 0 ∷ 0 ∷ 1 ∷ 0 ∷ 0 ∷ boundary ∷ 0 ∷ 0 ∷ 0 ∷ 0 ∷ 0 ∷ []) (replicate places 5) .outcome
+
+pub places-row : readInto 128 3 ∷ readInto 128 4 ∷ readInto 127 3 ∷ readInto 127 4 ∷ [] ≡ refused 2 0 ∷ refused 21 0 ∷ refused 2 0 ∷ delivered (1 ∷ []) ∷ []
+unfolding readList readListAs judgedList isMarked legalEntries legalEntry every entriesOf blocks entryAt entryFrom ofHigh
+places-row = refl
+
+-- a mark or a version that is one less
+pub marks-row : map isMarked ((0x56 ∷ 0x46 ∷ 0x48 ∷ 0 ∷ 1 ∷ replicate 4 0) ∷ (0x56 ∷ 0x46 ∷ 0x49 ∷ 0 ∷ 0 ∷ replicate 4 0) ∷ []) ≡ false ∷ false ∷ []
+unfolding isMarked ofHigh
+marks-row = refl
+
 -- the number of each answer
 pub list-numbers :
     (map listWrittenOutcome (write.Delivered ∷ write.ShortBuffer ∷ write.BadEntry ∷ []) ≡ delivered [] ∷ refused 2 0 ∷ refused 21 0 ∷ [])

@@ -4,15 +4,17 @@ use mathlib.Core.Bool.{true, false}
 use mathlib.Core.List.{List, [], _∷_, _++_, map}
 use Prim.Native.Nat.{ℕ, _+_}
 use lib.Ieee.{Float, nan, binary32, ofBits, toBits, add, mul, div, lt, le, round}
-use lib.ListN.{getD, set, replicate}
+use lib.ListN.{length, getD, set, replicate}
 use Rattle.buffers.specs.Walk.{firstFrom}
 use Rattle.floats.specs.Single.{absF, heldF, zeroF}
 use Rattle.rules.specs.Layout.{kindAt}
 use Rattle.rules_stereo.specs.Mixed.{ratioBounds, Signal, signal, loudness, energies, combinedOf, storedOf, boundOf, intensityOf, ratioOf, bandMixed}
 use Rattle.rules_stereo.specs.Mixed.{bandsMixed, energiesAt, subframeMixed, subframesMixed, pairMixed, pairedAt, channelMixed, channelsMixed, mixed}
-use Rattle.rules_stereo.specs.Stereo.{tooLoud, stereoOutcome, stereoLeft}
+use Rattle.rules_stereo.specs.Stereo.{tooLoud, stereoOutcome, stereoLeft, withSignal, signalOverwrite}
 use lib.IntN.{ℤ}
+use Rattle.rules.specs.Lent.{overwrite}
 use Rattle.rules.specs.Refusals.{refused}
+use Rattle.rules.specs.Stage.{StageLeft}
 use Rattle.rules.specs.declared.ChannelType.{ChannelType}
 use Rattle.rules.specs.declared.ChannelType.the-variants.{Discrete, StereoPrimary, StereoSecondary}
 use Rattle.rules_stereo.specs.declared.StereoAnswer.{StereoAnswer}
@@ -133,3 +135,50 @@ pub ratio-ends : row 0x3F800000 0x3F800000 0x41000000 ∷ row 0x3F800000 0x3F800
     ≡ (7, 0x3F000000) ∷ (7, 0x3F2AAAAB) ∷ (7, 0x3F3504F3) ∷ []
 unfolding ofBits toBits add mul div lt le round heldF ratioBounds firstFrom combinedOf storedOf boundOf intensityOf ratioOf
 ratio-ends = refl
+
+-- the Rust's fourteen bounds: its first and its last, which are never read
+pub bounds-ends : (map (λ v. toBits binary32 (getD ratioBounds v nan)) (0 ∷ 13 ∷ []) ≡ 0x3FF6DB6E ∷ 0x3D924925 ∷ []) × (length ratioBounds ≡ 14)
+unfolding ofBits toBits ratioBounds
+bounds-ends = (refl, refl)
+
+-- what the stage left beside a signal, and a signal laid over a longer one
+pub with-names : (s : Signal) (x : StageLeft) → let y = withSignal s x in
+    (y .outcome ≡ x .outcome) × (y .spectra ≡ s .spectra) × (y .intensities ≡ s .intensities) × (y .scaled ≡ x .scaled) × (y .codes ≡ x .codes)
+    × (y .factors ≡ x .factors) × (y .side ≡ x .side) × (y .frame ≡ x .frame)
+with-names s x = (refl, refl, refl, refl, refl, refl, refl, refl)
+
+pub laid-names : (new old : Signal) → let y = signalOverwrite new old in
+    (y .spectra ≡ overwrite (new .spectra) (old .spectra)) × (y .intensities ≡ overwrite (new .intensities) (old .intensities))
+laid-names new old = (refl, refl)
+
+-- no energies, and a total: a silent pair
+pub silent-row : row 0 0 0x3F800000 ≡ (0, 0x3F800000)
+unfolding ofBits toBits add mul div lt le round heldF ratioBounds firstFrom combinedOf storedOf boundOf intensityOf ratioOf
+silent-row = refl
+
+-- bands 1 to 3, of base 1, stereo 2 and total 4: subframe 3 has 0.5, 1, 0, 2, 4 on the left and 0, -5, 0, 0, 1 on the right
+abbrev four : Layout
+four = record { channels = 2; kinds = []; base = 1; stereo = 2; total = 4; «frame_size» = 8 }
+
+abbrev fourLent : List Float
+fourLent =
+    replicate 384 zeroF ++ (map float (0x3F000000 ∷ 0x3F800000 ∷ 0 ∷ 0x40000000 ∷ 0x40800000 ∷ []) ++ (replicate 1019 zeroF
+    ++ (map float (0 ∷ 0xC0A00000 ∷ 0 ∷ 0 ∷ 0x3F800000 ∷ []) ++ replicate 635 zeroF)))
+
+abbrev fourMixed : Signal
+fourMixed = subframeMixed four 3 (signal fourLent (replicate 8 5))
+
+abbrev energiesSeen : Energies → List ℕ
+energiesSeen e = map (toBits binary32) (e .left ∷ e .right ∷ e .total ∷ [])
+
+abbrev fourSeen : Signal → List ℕ
+fourSeen p = map (λ i. toBits binary32 (getD (p .spectra) i nan)) (384 ∷ 385 ∷ 386 ∷ 387 ∷ 388 ∷ 1408 ∷ 1409 ∷ 1410 ∷ 1411 ∷ 1412 ∷ [])
+
+-- energies 3, 5 and 12, a ratio of 2/3, intensity 9; bands 0 and 4 keep their bits
+pub bands-row :
+    (energiesSeen (energiesAt four 3 fourLent) ≡ 0x40400000 ∷ 0x40A00000 ∷ 0x41400000 ∷ [])
+    × (fourSeen fourMixed ≡ 0x3F000000 ∷ 0xC02AAAAB ∷ 0 ∷ 0x3FAAAAAB ∷ 0x40800000 ∷ 0 ∷ 0 ∷ 0 ∷ 0 ∷ 0x3F800000 ∷ [])
+    × (fourMixed .intensities ≡ 5 ∷ 5 ∷ 5 ∷ 9 ∷ 5 ∷ 5 ∷ 5 ∷ 5 ∷ [])
+unfolding ofBits toBits add mul div lt le round absF heldF ratioBounds firstFrom loudness energies combinedOf storedOf boundOf intensityOf ratioOf bandMixed
+    bandsMixed energiesAt subframeMixed
+bands-row = (refl, refl, refl)

@@ -1,20 +1,24 @@
 -- Files worked out by the definition: the request's examples and corners, floats by their patterns. Assumes nothing.
 use mathlib.Core.Path.{_≡_, refl}
 use mathlib.Core.List.{List, [], _∷_, _++_, map}
-use mathlib.Core.Bool.{true}
+use mathlib.Core.Bool.{true, false}
 use Prim.Native.Nat.{ℕ, _+_, _/_, _%_, _≤_, _<_}
 use native.Mathlib.Omega.{arith}
 use borrow.Author.Tests.{lt-ltb, le-ltb, ne-eqb}
+use lib.IntN.{pos, negsuc}
 use lib.Ieee.{Float, binary32, lt, add, div, ofInt, ofBits, toBits}
 use lib.ListN.{length, replicate}
 use Rattle.buffers.specs.Walk.{build, every}
 use Rattle.floats.specs.Single.{zeroF, absF, maxF, meanF, mean, noAverage, withOne}
 use Rattle.numbers.specs.Numbers.{ofLow}
 use Rattle.rules.specs.Refusals.{Outcome, delivered, refused}
+use Rattle.rules_files.specs.declared.wav.LevelNote.{LevelNote}
+use Rattle.rules_files.specs.declared.wav.Take.{Take}
 use Rattle.rules_files.specs.declared.wav.WavData.{WavData}
 use Rattle.rules_files.specs.declared.wav.WavAnswer.the-variants as wav-of
-use Rattle.rules_files.specs.Wav.{wavOutcome, wavRefused, isWave, defaultFormat, givesFormat, formatIn, formatAfter, walkChunks, isDepth, wholeSamples}
-use Rattle.rules_files.specs.Wav.{overPower, signedSample, sampleOf, sampleAt, allFinite, noteOf, wavTaken, dataRead, walkRead, readWav}
+use Rattle.rules_files.specs.Wav.{wavOutcome, wavNote, wavLeft, wavRefused}
+use Rattle.rules_files.specs.Wav.{isWave, defaultFormat, givesFormat, formatIn, formatAfter, walkChunks, isDepth, wholeSamples, overPower, signedSample}
+use Rattle.rules_files.specs.Wav.{sampleOf, sampleAt, allFinite, noteOf, wavTaken, dataRead, walkRead, readWav}
 
 -- ---- files from their chunks
 
@@ -123,15 +127,24 @@ corners =
     call (file ((102 ∷ 109 ∷ 116 ∷ 32 ∷ four 15) ++ ((1 ∷ 0 ∷ 1 ∷ 0 ∷ four 8000) ++ (four 0 ++ (0 ∷ 0 ∷ 24 ∷ 0 ∷ samples 2 (0 ∷ 64 ∷ [])))))) 1 ∷
     -- one of 18 is read; every byte of its fields counts
     call (file ((102 ∷ 109 ∷ 116 ∷ 32 ∷ four 18) ++ ((1 ∷ 0 ∷ 2 ∷ 1 ∷ 4 ∷ 3 ∷ 2 ∷ 1 ∷ four 0) ++ (0 ∷ 0 ∷ 24 ∷ 0 ∷ 0 ∷ 0 ∷ samples 3 (0 ∷ 0 ∷ 64 ∷ []))))) 1 ∷
+    -- a chunk `INF ` of 16 bytes, whose name is a smaller number than fmt's, says nothing: the defaults hold
+    call (file ((73 ∷ 78 ∷ 70 ∷ 32 ∷ four 16) ++ ((1 ∷ 0 ∷ 1 ∷ 0 ∷ four 8000) ++ (four 0 ++ (0 ∷ 0 ∷ 24 ∷ 0 ∷ samples 2 (0 ∷ 64 ∷ [])))))) 1 ∷
     -- a second fmt chunk before data takes the place of the first
     call (file (fmt 1 44 24 ++ fmt 2 48 16 ++ samples 2 (0 ∷ 64 ∷ []))) 1 ∷
-    -- another chunk that ends with the file, and one that runs past it by a byte, with data inside
+    -- another chunk is passed over, longer than what stands before it
+    call (file (chunk 65 24 (replicate 24 0) ++ samples 2 (0 ∷ 64 ∷ []))) 1 ∷
+    -- one that ends with the file, and one that runs past it by a byte, with data inside
     call (file (chunk 65 24 (replicate 24 0))) 12 ∷
     call (file (chunk 65 25 (samples 16 (replicate 16 0)))) 12 ∷
-    -- 8, 17 and 64 bits; a depth in its second byte
+    -- seven bytes are left: no chunk, though they begin like data with a size
+    call (file (chunk 65 24 (replicate 24 0) ++ (100 ∷ 97 ∷ 116 ∷ 97 ∷ 4 ∷ 0 ∷ 0 ∷ []))) 12 ∷
+    -- 8, 17 and 64 bits; 16 with a second byte that is not 0
     call (file (fmt 1 44 8 ++ samples 2 (0 ∷ 0 ∷ []))) 2 ∷
     call (file (fmt 1 44 17 ++ samples 2 (0 ∷ 0 ∷ []))) 2 ∷
     call (file (fmt 1 44 64 ++ samples 8 (replicate 8 0))) 2 ∷
+    call (file ((102 ∷ 109 ∷ 116 ∷ 32 ∷ four 16) ++ ((1 ∷ 0 ∷ 1 ∷ 0 ∷ four 44) ++ (four 0 ++ (0 ∷ 0 ∷ 16 ∷ 1 ∷ samples 2 (0 ∷ 64 ∷ [])))))) 2 ∷
+    -- a size whose fourth byte alone is not 0
+    call (file (fmt 1 44 16 ++ samples 0x1000000 (0 ∷ 64 ∷ []))) 1 ∷
     -- a buffer one place short
     call (file (fmt 1 44 16 ++ samples 4 (0 ∷ 64 ∷ 0 ∷ 64 ∷ []))) 1 ∷
     []
@@ -142,12 +155,17 @@ pub worked-corners : map seen corners
     saw (refused 22 0) [] (replicate 12 0) ∷
     saw (delivered (2 ∷ 44100 ∷ 16 ∷ 1 ∷ [])) (0x3F000000 ∷ 0x3F000000 ∷ []) (0x3F000000 ∷ []) ∷
     saw (delivered (0x102 ∷ 0x1020304 ∷ 24 ∷ 1 ∷ [])) (0x3F000000 ∷ 0x3F000000 ∷ []) (0x3F000000 ∷ []) ∷
+    saw (delivered (2 ∷ 44100 ∷ 16 ∷ 1 ∷ [])) (0x3F000000 ∷ 0x3F000000 ∷ []) (0x3F000000 ∷ []) ∷
     saw (delivered (2 ∷ 48 ∷ 16 ∷ 1 ∷ [])) (0x3F000000 ∷ 0x3F000000 ∷ []) (0x3F000000 ∷ []) ∷
+    saw (delivered (2 ∷ 44100 ∷ 16 ∷ 1 ∷ [])) (0x3F000000 ∷ 0x3F000000 ∷ []) (0x3F000000 ∷ []) ∷
     saw (refused 23 0) [] (replicate 12 0) ∷
     saw (refused 23 0) [] (replicate 12 0) ∷
+    saw (refused 23 0) [] (replicate 12 0) ∷
     saw (refused 24 0) [] (replicate 2 0) ∷
     saw (refused 24 0) [] (replicate 2 0) ∷
     saw (refused 24 0) [] (replicate 2 0) ∷
+    saw (refused 24 0) [] (replicate 2 0) ∷
+    saw (delivered (1 ∷ 44 ∷ 16 ∷ 1 ∷ [])) (0x3F000000 ∷ 0x3F000000 ∷ []) (0x3F000000 ∷ []) ∷
     saw (refused 2 0) [] (0 ∷ []) ∷
     []
 unfolding ofLow build every absF maxF meanF mean noAverage withOne ofBits toBits lt add div ofInt
@@ -166,9 +184,31 @@ module _ (wav : List ℕ) (d : WavData) (samples : List Float) (some : 0 < d .si
   unfolding dataRead
   not-too-many h k = rw (ne-eqb (d .size) 0 (λ e. omega arith), depth, le-ltb _ _ h, lt-ltb _ _ k)
 
--- the number of each answer
+-- the integers of 16 bits: 0, 1, the largest, the smallest, -1
+pub signed-row : map (signedSample 32768) (0 ∷ 1 ∷ 32767 ∷ 32768 ∷ 65535 ∷ []) ≡ pos 0 ∷ pos 1 ∷ pos 32767 ∷ negsuc 32767 ∷ negsuc 0 ∷ []
+unfolding signedSample
+signed-row = refl
+
+-- four bytes, then 1.0 and an infinity: the first value of a body at 4 is finite, not both, nor the first at 8
+abbrev endless : List ℕ
+endless = 0 ∷ 0 ∷ 0 ∷ 0 ∷ 0 ∷ 0 ∷ 128 ∷ 63 ∷ 0 ∷ 0 ∷ 128 ∷ 127 ∷ []
+
+pub finite-row : allFinite endless 32 4 1 ∷ allFinite endless 32 4 2 ∷ allFinite endless 32 8 1 ∷ allFinite endless 32 8 0 ∷ []
+    ≡ true ∷ false ∷ false ∷ true ∷ []
+unfolding allFinite every sampleAt sampleOf ofLow ofBits
+finite-row = refl
+
+-- the number of each answer, and of a take its four numbers and its note, each under its own name
+abbrev take : (note : LevelNote) → Take
+take note = record { channels = 1; rate = 2; depth = 3; count = 4; note = note }
+
 pub wav-numbers :
     map wavOutcome (wav-of.NotWave ∷ wav-of.NoData ∷ wav-of.BadDepth ∷ wav-of.TooMany ∷ wav-of.ShortBuffer ∷ wav-of.NotFinite ∷ [])
     ≡ refused 22 0 ∷ refused 23 0 ∷ refused 24 0 ∷ refused 30 0 ∷ refused 2 0 ∷ refused 25 0 ∷ []
 unfolding wavOutcome
 wav-numbers = refl
+
+pub take-names : (note : LevelNote) (samples : List Float) → let x = wavLeft (wav-of.Taken (take note)) samples in
+    (x .outcome ≡ delivered (1 ∷ 2 ∷ 3 ∷ 4 ∷ [])) × (x .note ≡ note .peak ∷ note .mean ∷ []) × (x .samples ≡ samples)
+unfolding wavOutcome wavNote
+take-names note samples = (refl, refl, refl)
