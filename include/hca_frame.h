@@ -1,4 +1,5 @@
 /* The HCA frame stage, its record writer, its strict reader and what stands around them, as C sees them (libhca.a).
+   C99 or later, C++98 or later.
 
    hca_encode_frame   spectra of one frame                -> a frame, or a numbered refusal
    hca_encode_stereo_frame  unmixed spectra of one frame  -> the same, its pairs mixed first
@@ -10,6 +11,7 @@
    hca_read_wav       a WAV file                          -> its samples, exact, and their level note
    hca_list_write     the stage's answers of a line       -> the list beside its frames
    hca_list_read      a list                              -> its entries; hca_list_lookup: one; hca_list_summary: the worst
+   hca_version                                            -> the version of the library that is linked
 
    Arguments. Every buffer is a pointer and a number of ELEMENTS (not bytes). What is const is only read. No call has
    a precondition on numbers: any layout, kinds, lengths and contents may be passed, and what cannot be used is refused.
@@ -37,9 +39,9 @@
 extern "C" {
 #endif
 
-/* The version of this header and of its library; the number is 10,000 x major + 100 x minor + patch. */
-#define HCA_VERSION "0.1.0"
-#define HCA_VERSION_NUMBER 100
+/* The version of this header; the number is 10,000 x major + 100 x minor + patch. hca_version tells that of the library. */
+#define HCA_VERSION "0.2.0"
+#define HCA_VERSION_NUMBER 200
 
 #define HCA_MAX_CHANNELS 16
 #define HCA_SUBFRAME_COUNT 8    /* of a frame */
@@ -60,6 +62,24 @@ extern "C" {
 #define HCA_LINE_INTENSITIES_LENGTH(channels, count) ((size_t)(count) * HCA_INTENSITIES_LENGTH(channels))
 #define HCA_LINE_FRAMES_LENGTH(frame_size, count) ((size_t)(count) * (size_t)(frame_size))
 #define HCA_LINE_ANSWERS_LENGTH(count) ((size_t)(count) * HCA_ENCODED_COUNT)
+
+/* Lengths: the fewest elements that each call needs, else refusal 2, of layout and kinds 1. C channels, F bytes of a frame, n frames
+   of a line or a list. Where there is an answer, its number of places stands last; *_COUNT of its enum below is that number.
+
+                            layout kinds  spectra intensities   scaled    codes factors  side  frame   and                 answer
+   hca_encode_frame              5     C  C x 1024      C x 8 C x 1024 C x 1024 C x 128 C x 8      F                            4
+   hca_encode_stereo_frame       5     C  C x 1024      C x 8 C x 1024 C x 1024 C x 128 C x 8      F                            4
+   hca_encode_line               5     C nC x 1024     nC x 8 C x 1024 C x 1024 C x 128 C x 8     nF  answers 4n, tally 3       4
+   hca_write_record              5     C                               C x 1024 C x 128 C x 8      F  record 2                  4
+   hca_read_frame                5     C                               C x 1024 C x 128 C x 8      F                            4
+   hca_write_header              5     C                                                              stream 3, points 0 or 2,
+                                                                                                      header 96
+   hca_read_wav                                                                                       samples of the file,      4
+                                                                                                      note 2
+   hca_list_write                                                                                     entries 4n, list 9 + 8n
+   hca_list_read                                                                                      entries 4n                4
+   hca_list_lookup                                                                                                              4
+   hca_list_summary                                                                                                             3 */
 
 /* layout: five numbers in this order. Numbers after the fifth are not looked at, but a later version may: pass five. */
 enum hca_layout {
@@ -82,12 +102,14 @@ enum hca_kind {
 enum hca_stream {
     HCA_STREAM_RATE = 0,    /* samples a second: 1 to 0x7FFFFF */
     HCA_STREAM_FRAMES = 1,  /* how many frames follow: up to 2^32 - 1 */
-    HCA_STREAM_PADDING = 2, /* samples of padding behind the last one: up to 65,535 */
+    HCA_STREAM_PADDING = 2, /* samples of padding behind the last one: up to 65,535. Of a take of n samples a channel the frames are
+                               (n + 128) / 1024, rounded up, and the padding is frames x 1024 - 128 - n */
     HCA_STREAM_COUNT = 3    /* how many numbers a stream has */
 };
 enum { HCA_HEADER_SIZE = 96 };
 
-/* answer: at least HCA_ANSWER_COUNT places, for each call that has one (hca_list_summary: HCA_SUMMARY_COUNT).
+/* answer: at least HCA_ANSWER_COUNT places, for each call that has one (hca_list_summary: HCA_SUMMARY_COUNT). In each enum of places
+   *_COUNT is a length that suffices, and no index.
    Where a call delivered, the first places hold the numbers of its enum below, and the places after them stay as they were.
    Where it refused, answer[0] holds the number beside the refusal, and the other places stay as they were.
    An answer of fewer places is refusal 2 (after 1; before all others where there is no layout) and stays as it was. */
@@ -113,7 +135,8 @@ enum hca_tally {
 /* answer of hca_encode_line, at a refusal only. */
 enum hca_line_answer {
     HCA_LINE_BESIDE = 0,        /* the number beside the refusal; with 3 and 4 an index within that frame's part */
-    HCA_LINE_FRAME = 1          /* with 3, 4, 5 and 7 the index of the frame that was refused */
+    HCA_LINE_FRAME = 1,         /* with 3, 4, 5 and 7 the index of the frame that was refused */
+    HCA_LINE_ANSWER_COUNT = 4   /* places that its answer needs */
 };
 
 /* What hca_read_frame and hca_write_record deliver. The first two are what hca_write_record takes as record. */
@@ -121,7 +144,7 @@ enum hca_record {
     HCA_RECORD_LEVEL = 0,       /* noise level, 0 to 511 */
     HCA_RECORD_BOUNDARY = 1,    /* bands below it are coded one level finer, where the level is not 0; 0 to 127 */
     HCA_RECORD_BITS = 2,        /* bits of all fields, those before the fill */
-    HCA_RECORD_COUNT = 3        /* how many numbers they deliver */
+    HCA_RECORD_COUNT = 4        /* places that their answer needs; the fourth stays as it was */
 };
 
 /* What hca_read_wav delivers, and its note. */
@@ -129,8 +152,8 @@ enum hca_take {
     HCA_TAKE_CHANNELS = 0,      /* as the file has them, 0 too */
     HCA_TAKE_RATE = 1,          /* samples a second and channel, as the file has them, 0 too */
     HCA_TAKE_DEPTH = 2,         /* bits of a sample in the file: 16, 24 or 32 */
-    HCA_TAKE_COUNT = 3,         /* samples of all channels together, 0 to 16,777,216 */
-    HCA_TAKE_NUMBERS = 4        /* how many numbers it delivers */
+    HCA_TAKE_SAMPLES = 3,       /* samples of all channels together, 0 to 16,777,216 */
+    HCA_TAKE_COUNT = 4          /* how many numbers it delivers */
 };
 enum hca_note {
     HCA_NOTE_PEAK = 0,          /* the largest magnitude */
@@ -199,8 +222,12 @@ static inline const char *hca_refusal_text(uint32_t refusal)
 {
     switch (refusal) {
     case HCA_OK: return "delivered";
-    case HCA_BAD_LAYOUT: return "the layout is outside its limits";
-    case HCA_SHORT_BUFFER: return "a lent buffer is too short";
+    case HCA_BAD_LAYOUT:
+        return "the layout is outside its limits: five numbers, of them 1 to 16 channels, a total of 1 to 128 bands, base + stereo at "
+               "most total, a frame size of 8 to 65,535; and for each channel a kind of 0 to 2";
+    case HCA_SHORT_BUFFER:
+        return "a lent buffer is too short: look at each length, also at those of record, stream, tally, note and answer; "
+               "the table of lengths in hca_frame.h has what each call needs";
     case HCA_BAD_INTENSITY: return "a secondary's intensity is above 15";
     case HCA_BAD_SPECTRUM: return "a spectrum value is NaN or infinite";
     case HCA_NO_LEVEL: return "no noise level fits, even with bands removed: raise the frame size";
@@ -268,7 +295,8 @@ uint32_t hca_encode_stereo_frame(
     uint8_t *frame, size_t frame_len,
     uint32_t *answer, size_t answer_len);               /* written: 4 places or more, see enum hca_encoded */
 
-/* A whole line: count frames of one layout, tried in their order, each as hca_encode_frame would make it.
+/* A whole line: count frames of one layout, tried in their order, each as hca_encode_frame would make it. Pairs must be mixed
+   already, as for that call: unmixed spectra go to hca_encode_stereo_frame, frame by frame.
    Refuses with 1, 18, 2, which change nothing but answer[0], or with the first frame's 3, 4, 5 or 7. Frame k's part of a
    buffer is the k-th of count equal parts: spectra k x C x 1,024, intensities k x C x 8, frames k x F, answers k x 4.
    At a refusal of frame k the frames before it stand: their bytes, answers and counts. Frame k's bytes are as lent after 3
@@ -373,6 +401,10 @@ uint32_t hca_list_summary(
 /* The check of any run of bytes: CRC16, polynomial 8005, start 0, high bit first. Over a frame's first F - 2 bytes it
    is what stands in the last two, high byte first; over a whole good frame it is 0. Never refuses; of no bytes it is 0. */
 uint16_t hca_checksum(const uint8_t *bytes, size_t bytes_len);
+
+/* The version of the library that is linked, counted as HCA_VERSION_NUMBER, which it equals where header and library belong together.
+   Versions before 0.2.0 do not have it. */
+uint32_t hca_version(void);
 
 #ifdef __cplusplus
 }

@@ -2,7 +2,7 @@
 # library.sh                        the proved library for this machine, at target/library/libhca.a, where C, Rust and every script here take it from
 # library.sh --for x86-64|aarch64   the one for that processor, whichever this machine has, at target/library/PROCESSOR/libhca.a
 # Needs the kit alone. For x86-64 it is what `rt staticlib hca` writes. rt makes nothing for aarch64: that one is the same proved LLVM module, compiled by
-# the same clang, the kit's, for its other target. What has not changed since is not made again.
+# the same clang, the kit's, for its other target. What has not changed since is not made again. A crate that is proved is told, the how-manieth of how many.
 set -eu
 place=target/library processor=$(uname -m | tr _ -)
 case $#,${1:-} in
@@ -63,16 +63,39 @@ put() {
     echo "$sum" >"$1/made-of"
 }
 
+# how many crates the library is made of, hca among them
+of=$(awk -F: 'function need(crate,    n, i, names) {
+        if (seen[crate]++) return
+        count++
+        n = split(uses[crate], names, " ")
+        for (i = 1; i <= n; i++) need(names[i])
+    }
+    !/^#/ { uses[$1] = $2 }
+    END { need("hca"); print count }' crates.txt)
+
+# told: rt's lines as it goes, of them a line for each crate that it proves, and none for one that is unchanged
+told() {
+    proved=0
+    while IFS= read -r line; do
+        case $line in
+        "rt: "*" proved (unchanged"*) proved=$((proved + 1)) ;;
+        "rt: "*" proved ("*) proved=$((proved + 1)) && echo "$proved of $of: ${line#rt: }" ;;
+        esac
+    done
+}
+
 # rt staticlib proves one crate after the other, and hca at each call: what hca rests on is proved first, several at a time
 below=$(sed -n 's/^hca: *//p' crates.txt)
 # shellcheck disable=SC2086
-rt check $below
+{ rt check $below 2>&1 && echo 0 >"$folder/status" || echo 1 >"$folder/status"; } | tee "$folder/log" | told
+[ "$(cat "$folder/status")" -eq 0 ] || { cat "$folder/log"; exit 1; }
 sum=$(made_of | sha256sum)
 if [ -f "$place/libhca.a" ] && [ "$(cat "$place/made-of" 2>/dev/null)" = "$sum" ]; then
     echo "$place/libhca.a, for $processor (unchanged)"
     exit
 fi
 [ "$processor" = x86-64 ] || keep_module
+echo "$of of $of: hca is proved and compiled"
 rt staticlib hca >"$folder/log" 2>&1 || { cat "$folder/log"; exit 1; }
 if [ "$processor" = x86-64 ]; then
     put "$place" target/staticlib/libhca.a

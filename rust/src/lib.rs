@@ -54,7 +54,8 @@
 //!
 //! The library has no heap. [`Encoder::new`], [`read_frame`] and [`write_record`]
 //! make vectors; [`Encoder::encode_frame`], [`Encoder::encode_stereo_frame`],
-//! [`read_frame_into`] and [`write_record_into`] use what they are given.
+//! [`Encoder::encode_line`], [`read_frame_into`] and [`write_record_into`] use what
+//! they are given.
 
 #![warn(missing_docs)]
 #![deny(unsafe_code)]
@@ -75,15 +76,16 @@ pub use list::{list_entry, list_summary, read_list, write_list, Summary};
 pub use refusal::{Refusal, RefusalKind};
 pub use wav::{read_wav, LevelNote, Take};
 
-/// What the stage answers beside its buffers.
-#[derive(Clone, Copy, Debug, PartialEq, Eq)]
+/// What the stage answers beside its buffers; by default four zeros, for [`Encoder::encode_line`] to fill.
+#[derive(Clone, Copy, Debug, Default, PartialEq, Eq)]
+#[repr(C)] // raw::numbers_of counts on it
 #[non_exhaustive]
 pub struct Delivered {
     /// Noise level, 0 to 254.
     pub level: u32,
     /// Bands below it are coded one level finer; 0 to 127, 0 at level 0.
     pub boundary: u32,
-    /// Removal stages passed before a level was found.
+    /// Pairs of bands removed before a level was found.
     pub pairs: u32,
     /// Bits of all fields, before the fill.
     pub bits: u32,
@@ -271,7 +273,7 @@ pub fn read_frame_into(layout: &Layout, frame: &[u8], record: &mut Record) -> Re
         &mut answer,
     );
     if number == Refusal::SHORT_BUFFER {
-        return Err(Refusal { number, place: answer[0] });
+        return Err(Refusal::new(number, answer[0]));
     }
     (record.level, record.boundary) = (0, 0);
     let [level, boundary, bits, _] = delivered(number, answer)?;
@@ -314,14 +316,14 @@ pub fn checksum(bytes: &[u8]) -> u16 {
     raw::checksum(bytes)
 }
 
+/// The version of the library that is linked: 10,000 x major + 100 x minor + patch, as `HCA_VERSION_NUMBER` of the C header.
+pub fn version() -> u32 {
+    raw::version()
+}
+
 fn delivered(number: u32, answer: [u32; 4]) -> Result<[u32; 4], Refusal> {
     match number {
         0 => Ok(answer),
-        _ => Err(Refusal { number, place: answer[0] }),
+        _ => Err(Refusal::new(number, answer[0])),
     }
 }
-
-#[cfg(test)]
-mod stereo_tests;
-#[cfg(test)]
-mod tests;

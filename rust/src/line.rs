@@ -1,16 +1,24 @@
 //! A whole line of frames in one call.
-use crate::{raw, Encoder, Refusal};
+use crate::{raw, Delivered, Encoder, Refusal};
 use std::fmt;
 
 /// What a caller's lines have delivered so far. A count above 2^63 is refused.
 #[derive(Clone, Copy, Debug, Default, PartialEq, Eq)]
+#[non_exhaustive]
 pub struct Tally {
     /// Frames.
     pub frames: u64,
     /// Bits of all their fields, before the fill.
     pub bits: u64,
-    /// Removal stages that they passed.
+    /// Their pairs of bands removed.
     pub pairs: u64,
+}
+
+impl Tally {
+    /// A tally that goes on from these counts; [`Tally::default`] begins one.
+    pub const fn new(frames: u64, bits: u64, pairs: u64) -> Self {
+        Tally { frames, bits, pairs }
+    }
 }
 
 /// Why a line ended, and at which frame.
@@ -39,9 +47,21 @@ impl std::error::Error for LineRefusal {
 
 impl Encoder {
     /// Encodes `count` frames, at most 65,535, each as [`encode_frame`](Encoder::encode_frame)
-    /// would, and brings `tally` up to date for those that were delivered. Each slice has a part
-    /// for each frame: `spectra` channels x 1,024, `intensities` channels x 8, `frames` the frame's
-    /// size, `answers` level, boundary, pairs and bits. A longer slice keeps its rest.
+    /// would, and brings `tally` up to date for those that were delivered. Pairs must be mixed
+    /// already, as for that call. Each slice has a part for each frame: `spectra` channels x 1,024,
+    /// `intensities` channels x 8, `frames` the frame's size, `answers` what the single call
+    /// delivers, as [`write_list`](crate::write_list) takes them. A longer slice keeps its rest.
+    ///
+    /// ```
+    /// use hca_frame::{list_summary, write_list, Delivered, Encoder, Kind, Layout, Tally};
+    ///
+    /// let layout = Layout::builder().channel(Kind::Discrete).bands(64, 0, 100).frame_size(170).build()?;
+    /// let (mut frames, mut answers, mut tally) = ([0; 2 * 170], [Delivered::default(); 2], Tally::default());
+    /// Encoder::new(layout).encode_line(2, &[0.5; 2 * 1024], &[0; 2 * 8], &mut frames, &mut answers, &mut tally)?;
+    /// let list = write_list(&answers)?;
+    /// assert_eq!(list_summary(&list)?.bits, tally.bits);
+    /// # Ok::<(), Box<dyn std::error::Error>>(())
+    /// ```
     ///
     /// At a refusal of frame k the frames before it stand; its own bytes are as they were after 3
     /// and 4 and zero after 5 and 7, and all that is behind it is as it was. The encoder's work
@@ -53,7 +73,7 @@ impl Encoder {
         spectra: &[f32],
         intensities: &[u8],
         frames: &mut [u8],
-        answers: &mut [u32],
+        answers: &mut [Delivered],
         tally: &mut Tally,
     ) -> Result<(), LineRefusal> {
         let mut answer = [0; 4];
@@ -69,12 +89,12 @@ impl Encoder {
             &mut self.factors,
             &mut self.side,
             frames,
-            answers,
+            raw::numbers_of(answers),
             &mut counts,
             &mut answer,
         );
         [tally.frames, tally.bits, tally.pairs] = counts;
-        let refusal = Refusal { number, place: answer[0] };
+        let refusal = Refusal::new(number, answer[0]);
         match number {
             0 => Ok(()),
             Refusal::BAD_LAYOUT | Refusal::BAD_BATCH | Refusal::SHORT_BUFFER => Err(LineRefusal { refusal, frame: None }),

@@ -6,22 +6,21 @@
 //! number, 0 where it delivered; `answer` takes the delivered numbers, or at
 //! `[0]` the number beside a refusal.
 
-include!("calls.rs");
-
-calls!(hca_encode_frame, hca_write_record, hca_read_frame, hca_checksum);
-
 mod file_header;
-pub use file_header::write_header;
-
-mod wav;
-pub use wav::read_wav;
-
-mod list;
-pub use list::{list_lookup, list_read, list_summary, list_write};
-
-include!("stereo_call.rs");
-
-stereo_call!(hca_encode_stereo_frame);
-
+mod frame;
 mod line;
+mod list;
+mod record;
+mod stereo;
+mod version;
+mod wav;
+
+pub use file_header::write_header;
+pub use frame::{checksum, encode_frame};
 pub use line::encode_line;
+pub(crate) use line::numbers_of;
+pub use list::{list_lookup, list_read, list_summary, list_write};
+pub use record::{read_frame, write_record};
+pub use stereo::encode_stereo_frame;
+pub use version::version;
+pub use wav::read_wav;

@@ -3,6 +3,7 @@ use std::fmt;
 
 /// A refusal: document 01's number and the number beside it.
 #[derive(Clone, Copy, Debug, PartialEq, Eq, Hash)]
+#[non_exhaustive]
 pub struct Refusal {
     /// See the constants; [`kind`](Refusal::kind) names it.
     pub number: u32,
@@ -136,6 +137,11 @@ pub enum RefusalKind {
 }
 
 impl Refusal {
+    /// A refusal of this number, with what stands beside it.
+    pub const fn new(number: u32, place: u32) -> Self {
+        Refusal { number, place }
+    }
+
     /// What the number stands for.
     #[rustfmt::skip]
     pub fn kind(&self) -> RefusalKind {
@@ -175,8 +181,8 @@ impl fmt::Display for Refusal {
         let at = self.place;
         write!(f, "refusal {}: ", self.number)?;
         match self.number {
-            Self::BAD_LAYOUT => write!(f, "the layout is outside the limits"),
-            Self::SHORT_BUFFER => write!(f, "a lent buffer is too short"),
+            Self::BAD_LAYOUT => write!(f, "the layout is outside the limits; Layout::builder names the one that is broken"),
+            Self::SHORT_BUFFER => write!(f, "a lent buffer is too short; the call's own page has the length of each"),
             Self::BAD_INTENSITY => write!(f, "intensity {at} of a secondary channel is above 15"),
             Self::BAD_SPECTRUM => write!(f, "spectrum {at} is NaN or infinite"),
             Self::NO_LEVEL => write!(f, "no noise level fits, even with {at} pairs of bands removed; raise the frame size"),

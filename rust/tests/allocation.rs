@@ -1,5 +1,5 @@
 //! The calls that promise it allocate nothing. One test in a program of its own: its allocator counts.
-use hca_frame::{read_frame_into, write_record_into, Encoder, Kind, Layout, Record};
+use hca_frame::{read_frame_into, write_record_into, Delivered, Encoder, Kind, Layout, Record, Tally};
 use std::alloc::{GlobalAlloc, Layout as Block, System};
 use std::cell::Cell;
 
@@ -38,9 +38,11 @@ fn frame_calls_allocate_nothing() {
     spectra[3] = 0.5;
     let mut record = Record::silent(&layout);
     let mut frame = [0; 170];
+    let (mut answers, mut tally) = ([Delivered::default()], Tally::default());
     assert!(allocations(|| drop(vec![1; 3])) > 0);
     let n = allocations(|| {
         encoder.encode_stereo_frame(&mut spectra, &mut [0; 16]).unwrap();
+        encoder.encode_line(1, &spectra, &[0; 16], &mut frame, &mut answers, &mut tally).unwrap();
         encoder.encode_frame(&spectra, &[0; 16]).unwrap();
         read_frame_into(&layout, encoder.frame(), &mut record).unwrap();
         write_record_into(&layout, &record, &mut frame).unwrap();

@@ -29,6 +29,7 @@ good
 status 0 'the list of the frames' list --list frames.list --svg frames.svg --frame-size 200
 says out '3 frames: '
 says frames.svg '<svg '
+for frame in 0 1 2; do says frames.svg "y='339'>$frame</text>"; done
 [ "$(tail -n 1 frames.svg)" = '</svg>' ] || fail "$name: the picture does not end"
 if command -v python3 >/dev/null; then
     python3 -c 'import sys, xml.dom.minidom; xml.dom.minidom.parse(sys.argv[1])' frames.svg >out 2>err || fail "$name: the picture is not well-formed"

@@ -35,7 +35,8 @@ status 0 'help of an unknown command' mix --help
 says out 'usage: hcaframe encode'
 good
 status 0 'version' --version
-[ "$(cat out)" = "hcaframe $(sed -n 's/^version = "\(.*\)"/\1/p' "$here/rust/Cargo.toml")" ] || fail "$name: another version than the Rust crate's"
+version=$(sed -n 's/^version = "\(.*\)"/\1/p' "$here/rust/Cargo.toml")
+[ "$(cat out)" = "hcaframe $version, library $version" ] || fail "$name: another version than the Rust crate's"
 good
 
 # -- options and their values

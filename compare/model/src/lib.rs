@@ -1,6 +1,6 @@
 //! Calls of the C++ model, with the shapes of the C interface: see model.cpp and the files beside it.
 
-include!("../../../rust/src/calls.rs");
+include!("../../calls/frame.rs");
 
 calls!(model_encode_frame, model_write_record, model_read_frame, model_checksum);
 
@@ -16,7 +16,7 @@ include!("../../calls/wav.rs");
 
 wav_call!(model_read_wav);
 
-include!("../../../rust/src/stereo_call.rs");
+include!("../../calls/stereo.rs");
 
 stereo_call!(model_encode_stereo_frame);
 

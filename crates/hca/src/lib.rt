@@ -12,6 +12,7 @@ ghost use Rattle.hca_records.specs.WriteRecord.{cWriterLeft, cWriteRecord};
 ghost use Rattle.hca_files.specs.WriteHeader.{cHeaderLeft, cWriteHeader};
 ghost use Rattle.hca_files.specs.ReadWav.{cWavLeft, cReadWav};
 ghost use Rattle.hca_files.specs.Lists.{cListLeft, cWriteList, cEntriesLeft, cReadList, cAnswerLeft, cListEntry, cListSummary};
+ghost use Rattle.hca.specs.Version.{version};
 use hca_encode::frame::encode_frame;
 use hca_encode::line::encode_line;
 use hca_encode::stereo_frame::encode_stereo_frame;
@@ -235,4 +236,12 @@ pub extern "C" fn hca_checksum(bytes: &[u8]) -> u16
     ensures { λ r. ⌜ r ≡ checksum (now (bytes .entry)) ⌝ }
 {
     sealing::crc16_checksum(bytes)
+}
+
+// The library's version: 10,000 x major + 100 x minor + patch.
+#[no_mangle]
+pub extern "C" fn hca_version() -> u32
+    ensures { λ r. ⌜ r ≡ version ⌝ }
+{
+    200
 }

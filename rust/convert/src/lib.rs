@@ -60,7 +60,7 @@ impl Fault {
     /// The refusal by its number, where there is one.
     pub fn refusal(&self) -> Option<Refusal> {
         match *self {
-            Fault::Unfit => Some(Refusal { number: Refusal::BAD_HEADER, place: 0 }),
+            Fault::Unfit => Some(Refusal::new(Refusal::BAD_HEADER, 0)),
             Fault::Empty | Fault::Loop(_) => None,
             Fault::Header(refusal) | Fault::Frame(_, refusal) => Some(refusal),
         }
@@ -92,8 +92,8 @@ pub fn convert(take: &Take, settings: &Settings, mut told: impl FnMut(usize, usi
     if settings.loop_points.is_some_and(|(start, end)| end <= start || length < end) {
         return Err(Fault::Loop(length));
     }
-    let loop_points = settings.loop_points;
-    let stream = Stream { rate: take.rate.into(), frames: count.into(), padding: padding.into(), loop_points };
+    let mut stream = Stream::new(take.rate.into(), count.into(), padding.into());
+    stream.loop_points = settings.loop_points;
     let header = write_header(&layout, &stream).map_err(Fault::Header)?;
     let mut file = Vec::with_capacity(header.len() + count as usize * layout.frame_size());
     file.extend_from_slice(&header);

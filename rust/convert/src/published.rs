@@ -114,6 +114,60 @@ mod tests {
         }
     }
 
+    /// The rows of **A layout for a bit rate** in docs/FORMAT.md, as they stand there.
+    #[test]
+    fn the_rows_of_the_format() {
+        let page = include_str!("../../../docs/FORMAT.md");
+        let rows = page.lines().skip_while(|&line| line != "| R | C | B | F | base | stereo | total | kinds |").skip(2);
+        let mut count = 0;
+        for row in rows.take_while(|line| line.starts_with('|')) {
+            let cells: Vec<String> = row.trim_matches('|').split('|').map(|cell| cell.trim().replace(',', "")).collect();
+            let [rate, channels, bitrate] = [0, 1, 2].map(|i| cells[i].parse().unwrap());
+            let layout = Front::new(rate, channels, bitrate).ok().unwrap().layout().unwrap();
+            let bands = [layout.base_bands(), layout.stereo_bands(), layout.total_bands()];
+            let letters = layout.kinds().iter().map(|kind| match kind {
+                Kind::Discrete => 'D',
+                Kind::StereoPrimary => 'P',
+                Kind::StereoSecondary => 'S',
+            });
+            let numbers = [layout.frame_size(), bands[0], bands[1], bands[2]].map(|number| number.to_string());
+            assert_eq!((&cells[3..7], &cells[7]), (&numbers[..], &letters.collect::<String>()), "{row}");
+            count += 1;
+        }
+        assert_eq!(count, 12);
+    }
+
+    /// The window of **From samples to spectra** in docs/FORMAT.md.
+    #[test]
+    fn the_window_by_its_rule() {
+        for (m, value) in IMDCT_WINDOW.iter().enumerate() {
+            let [rising, falling] = [(m + 1) as f64, (128 - m) as f64].map(|x| x.powi(3));
+            let magnitude = (rising / (rising + falling)).sqrt() as f32;
+            let sign = if m < 64 { 1.0 } else { -1.0 };
+            assert_eq!(value.to_bits(), (sign * magnitude).to_bits(), "{m}");
+        }
+    }
+
+    /// The transform of **From samples to spectra** in docs/FORMAT.md, in double precision, against the published one.
+    #[test]
+    fn the_transform_by_its_rule() {
+        let mut encoder = HcaEncoder::new(HcaEncoderConfig::new(48_000, 1)).unwrap();
+        let mut state = 3;
+        let samples: Vec<f32> = (0..1024).map(|_| noise(&mut state)).collect();
+        encoder.pcm_to_float(&samples);
+        encoder.run_mdct();
+        let padded: Vec<f64> = [0.0; 128].iter().chain(&samples).map(|&x| f64::from(x)).collect();
+        let window = |m: usize| f64::from(IMDCT_WINDOW[m.min(255 - m)].abs());
+        let turn = std::f64::consts::PI / 128.0;
+        for (t, row) in encoder.channel[0].spectra.iter().enumerate() {
+            for (k, &value) in row.iter().enumerate() {
+                let term = |m: usize| window(m) * padded[128 * t + m] * (turn * (m as f64 + 64.5) * (k as f64 + 0.5)).cos();
+                let sum: f64 = (0..256).map(term).sum();
+                assert!((sum / 8.0 - f64::from(value)).abs() < 1e-4, "subframe {t}, band {k}: {value}");
+            }
+        }
+    }
+
     #[test]
     fn layouts_of_the_published_encoder() {
         let layout = |rate, channels, bitrate| Front::new(rate, channels, bitrate).ok().unwrap().layout().unwrap();

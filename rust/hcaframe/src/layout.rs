@@ -11,7 +11,7 @@ pub fn layout_of(options: &Options) -> Result<Layout, Stop> {
     let size = number(Name::FrameSize);
     let kinds = options.kinds();
     if let Some(limit) = broken_limit(kinds.len(), base, stereo, total, size) {
-        let refusal = crate::report::refusal(Refusal { number: Refusal::BAD_LAYOUT, place: 0 });
+        let refusal = crate::report::refusal(Refusal::new(Refusal::BAD_LAYOUT, 0));
         return Err(Stop::wrong(format_args!("{refusal}: {limit}")));
     }
     // each is below 2^16 here

@@ -50,13 +50,20 @@ fn run(words: &[OsString]) -> u8 {
         return say(&help::help(command));
     }
     if word == "--version" {
-        return say(concat!("hcaframe ", env!("CARGO_PKG_VERSION"), "\n"));
+        return say(&version());
     }
     match command.map(|command| parse::parse(command, &words[1..])) {
         Some(Ok(options)) => work(&options),
         Some(Err(stop)) => stopped(&stop),
         None => stopped(&Stop::wrong(format_args!("{} is an unknown command\n{}", shown(word), help::usage(None).trim_end()))),
     }
+}
+
+/// The program's version, and the number that the library tells of its own.
+fn version() -> String {
+    let library = hca_frame::version();
+    let parts = [library / 10_000, library / 100 % 100, library % 100];
+    format!("hcaframe {}, library {}.{}.{}\n", env!("CARGO_PKG_VERSION"), parts[0], parts[1], parts[2])
 }
 
 /// A call that only says something.

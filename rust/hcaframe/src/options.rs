@@ -165,7 +165,10 @@ pub const OPTIONS: [Row; 31] = [
     ]),
     row(Name::Rate, "--rate", &[taken(&[Header], Number, Needed, "samples a second, 1 to 8388607")]),
     row(Name::Count, "--count", &[taken(&[Header], Number, Needed, "frames, at most 4294967295")]),
-    row(Name::Padding, "--padding", &[taken(&[Header], Number, Needed, "samples that fill the last frame, at most 65535")]),
+    row(Name::Padding, "--padding", &[
+        taken(&[Header], Number, Needed, "samples that fill the last frame, at most 65535: of a take of n samples a channel\n\
+            frames x 1024 - 128 - n, with (n + 128) / 1024 frames, rounded up"),
+    ]),
     row(Name::Bitrate, "--bitrate", &[taken(&[Convert, Bank], Number, Needed, "bits a second, 1000 to 4294967295")]),
     row(Name::LoopStart, "--loop-start", &[
         taken(&[Header], Number, With(Name::LoopEnd), "the loop in samples, at most 4294967167; both or none"),

@@ -14,6 +14,7 @@ pub fn draw(out: &mut impl Write, entries: &[Delivered], frame_size: u64) -> io:
     head(out, 0 < frame_size)?;
     title(out, entries.len(), level, most(entries, |entry| entry.pairs))?;
     levels(out, entries, top)?;
+    ticks(out, entries.len())?;
     pairs(out, entries)?;
     if 0 < frame_size {
         bits(out, entries, frame_size)?;
@@ -32,16 +33,16 @@ fn thousandths(value: u32, top: u64) -> u64 {
 
 /// The picture is lower where no bits are drawn.
 fn head(out: &mut impl Write, has_bits: bool) -> io::Result<()> {
-    let height = if has_bits { 600 } else { 450 };
+    let height = if has_bits { 616 } else { 466 };
     write!(
         out,
         "<?xml version='1.0' encoding='UTF-8'?>\n\
          <svg xmlns='http://www.w3.org/2000/svg' width='1200' height='{height}' viewBox='0 0 1200 {height}'>\n\
          <style>text {{ font: 13px sans-serif; fill: #333 }} .number {{ text-anchor: end }} \
-         .worst {{ text-anchor: middle; fill: #a40000 }}\n\
+         .worst {{ text-anchor: middle; fill: #a40000 }} text.tick {{ text-anchor: middle }}\n\
          .level {{ fill: #3465a4 }} .pairs {{ fill: #cc0000 }} .bits {{ fill: #4e9a06 }} line {{ stroke: #ccc }} \
-         .room {{ stroke: #333 }}</style>\n\
-         <rect width='1200' height='600' fill='#fff'/>\n"
+         line.tick {{ stroke: #333 }}</style>\n\
+         <rect width='1200' height='{height}' fill='#fff'/>\n"
     )
 }
 
@@ -68,14 +69,37 @@ fn levels(out: &mut impl Write, entries: &[Delivered], top: u64) -> io::Result<(
     worst(out, entries, top)
 }
 
+/// How far apart the ticks are: the least of 1, 2, 5, 10, 20, 50 and so on that makes them at most twelve.
+fn step(frames: usize) -> usize {
+    let mut steps = (0..10).flat_map(|power| [1, 2, 5].map(|digit| digit * 10_usize.pow(power)));
+    steps.find(|&step| frames.div_ceil(step) <= 12).unwrap_or(frames)
+}
+
+/// The time axis between the levels and the pairs: ticks in the middle of their frame's bar, with its number.
+fn ticks(out: &mut impl Write, frames: usize) -> io::Result<()> {
+    for frame in (0..frames).step_by(step(frames)) {
+        let x = middle(frame, frames);
+        writeln!(
+            out,
+            "<line class='tick' x1='{x}' y1='320' x2='{x}' y2='326'/><text class='tick' x='{x}' y='339'>{frame}</text>"
+        )?;
+    }
+    Ok(())
+}
+
+/// Where the middle of a frame's bar is: the fields are 1,100 wide from 60 on.
+fn middle(frame: usize, frames: usize) -> usize {
+    60 + (frame * 1100 + 550) / frames
+}
+
 fn pairs(out: &mut impl Write, entries: &[Delivered]) -> io::Result<()> {
     write!(
         out,
-        "<line x1='60' y1='410' x2='1160' y2='410'/><text class='number' x='52' y='414'>63</text>\n\
-         <g class='pairs' transform='translate(60 330) scale(0.11 0.08)'>\n"
+        "<line x1='60' y1='426' x2='1160' y2='426'/><text class='number' x='52' y='430'>63</text>\n\
+         <g class='pairs' transform='translate(60 346) scale(0.11 0.08)'>\n"
     )?;
     bars(out, entries, |entry| entry.pairs, 63)?;
-    write!(out, "</g>\n<text x='60' y='434'>Pairs of bands removed, downwards.</text>\n")
+    write!(out, "</g>\n<text x='60' y='450'>Pairs of bands removed, downwards.</text>\n")
 }
 
 /// Of a frame's bytes all but the check can hold fields: 8(F - 2) bits.
@@ -83,22 +107,22 @@ fn bits(out: &mut impl Write, entries: &[Delivered], frame_size: u64) -> io::Res
     let room = 8 * (frame_size - 2);
     write!(
         out,
-        "<line x1='60' y1='560' x2='1160' y2='560'/><text class='number' x='52' y='564'>0</text>\n\
-         <line x1='60' y1='460' x2='1160' y2='460'/><text class='number' x='52' y='464'>{room}</text>\n\
-         <g class='bits' transform='translate(60 560) scale(0.11 -0.1)'>\n"
+        "<line x1='60' y1='576' x2='1160' y2='576'/><text class='number' x='52' y='580'>0</text>\n\
+         <line x1='60' y1='476' x2='1160' y2='476'/><text class='number' x='52' y='480'>{room}</text>\n\
+         <g class='bits' transform='translate(60 576) scale(0.11 -0.1)'>\n"
     )?;
     bars(out, entries, |entry| entry.bits, room)?;
     write!(
         out,
-        "</g>\n<text x='60' y='584'>Bits written, of the {room} that a frame of {frame_size} bytes has room for.</text>\n"
+        "</g>\n<text x='60' y='600'>Bits written, of the {room} that a frame of {frame_size} bytes has room for.</text>\n"
     )
 }
 
-/// The time axis, first and last frame, and the picture's end.
+/// First and last frame, and the picture's end.
 fn end(out: &mut impl Write, frames: usize) -> io::Result<()> {
     match frames {
         0 => write!(out, "<text x='560' y='200'>no frames</text>\n</svg>\n"),
-        _ => write!(out, "<text class='number' x='1160' y='434'>frames 0 to {}</text>\n</svg>\n", frames - 1),
+        _ => write!(out, "<text class='number' x='1160' y='450'>frames 0 to {}</text>\n</svg>\n", frames - 1),
     }
 }
 
@@ -143,8 +167,8 @@ fn worst(out: &mut impl Write, entries: &[Delivered], top: u64) -> io::Result<()
     let mut numbered = Vec::new();
     while numbered.len() < 8 {
         let Some(frame) = next_worst(entries, &numbered, gap) else { break };
-        // the field is 1,100 wide from 60 on and 240 high from 320 up
-        let x = 60 + (frame * 1100 + 550) / entries.len();
+        // the field is 240 high from 320 up
+        let x = middle(frame, entries.len());
         let height = thousandths(entries[frame].level, top) * 240 / 1000;
         writeln!(out, "<text class='worst' x='{x}' y='{}'>{frame}</text>", 314 - height)?;
         numbered.push(frame);
@@ -169,6 +193,21 @@ mod tests {
         let picture = drawn(&entries, 200);
         assert!(picture.contains(">512</text>") && picture.contains(">1584</text>"));
         assert!(picture.contains("<text class='worst' x='610' y='195'>1</text>\n"), "{picture}");
+    }
+
+    #[test]
+    fn ticks_of_the_frame_axis() {
+        let told = |frames: usize| -> Vec<String> {
+            let picture = drawn(&vec![Delivered::from([100, 0, 0, 1]); frames], 0);
+            let texts = picture.lines().filter_map(|line| line.split_once("<text class='tick' ")?.1.split_once('>'));
+            texts.map(|(_, rest)| rest.trim_end_matches("</text>").to_string()).collect()
+        };
+        assert_eq!(told(0), [""; 0]);
+        assert_eq!(told(3), ["0", "1", "2"]);
+        assert_eq!(told(47), ["0", "5", "10", "15", "20", "25", "30", "35", "40", "45"]);
+        assert_eq!(told(70_000), ["0", "10000", "20000", "30000", "40000", "50000", "60000"]);
+        assert_eq!((1..70_000_usize).map(|frames| frames.div_ceil(step(frames))).max(), Some(12));
+        assert!(drawn(&[Delivered::default(); 2], 0).contains("<line class='tick' x1='335' y1='320' x2='335' y2='326'/>"));
     }
 
     #[test]

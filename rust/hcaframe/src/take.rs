@@ -40,7 +40,7 @@ fn refused(take: &Take, fault: Fault) -> Stop {
     match fault {
         Fault::Unfit => Stop::refused(format!(
             "hcaframe: {}: {} channels, {} samples a second; there are 1 to 8, and 1 to 8388607\n",
-            report::refusal(Refusal { number: Refusal::BAD_HEADER, place: 0 }),
+            report::refusal(Refusal::new(Refusal::BAD_HEADER, 0)),
             take.channels,
             take.rate
         )),

@@ -1,4 +1,5 @@
-//! The C function of a whole line.
+//! The C function of a whole line, and its answers as it writes them.
+use crate::Delivered;
 
 mod c {
     extern "C" {
@@ -81,4 +82,12 @@ pub fn encode_line(
             answer.len(),
         )
     }
+}
+
+const _: () = assert!(std::mem::size_of::<Delivered>() == 16);
+
+/// The answers of a line as the numbers that the C function writes.
+pub(crate) fn numbers_of(answers: &mut [Delivered]) -> &mut [u32] {
+    // SAFETY: by repr(C) each is four u32 in their order with no gap, any of which may have any value.
+    unsafe { std::slice::from_raw_parts_mut(answers.as_mut_ptr().cast(), 4 * answers.len()) }
 }

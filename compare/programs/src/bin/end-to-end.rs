@@ -17,7 +17,7 @@ fn library_file(wav: &Wav, bitrate: u32) -> Result<Vec<u8>, String> {
     let calls = stage_calls(&mut e, wav);
     let layout = layout_of(&calls[0]);
     let padding = e.encoder_padding.into();
-    let stream = Stream { rate: wav.rate.into(), frames: calls.len() as u64, padding, loop_points: None };
+    let stream = Stream::new(wav.rate.into(), calls.len() as u64, padding);
     let mut file = write_header(&layout, &stream).map_err(|no| format!("the header: {no}"))?.to_vec();
     let mut encoder = Encoder::new(layout);
     for (k, call) in calls.iter().enumerate() {

@@ -86,7 +86,7 @@ struct Batch {
     spectra: Vec<f32>,
     intensities: Vec<u8>,
     frames: Vec<u8>,
-    answers: Vec<u32>,
+    answers: Vec<Delivered>,
 }
 
 impl Batch {
@@ -100,7 +100,7 @@ impl Batch {
             spectra: vec![0.0; count * values],
             intensities: vec![0; count * layout.channels() * 8],
             frames: vec![0; count * layout.frame_size()],
-            answers: vec![0; count * 4],
+            answers: vec![Delivered::default(); count],
         }
     }
 
@@ -145,7 +145,7 @@ impl Batch {
             let intensities = &mut self.intensities[k * channels * 8..][..channels * 8];
             match self.encoder.encode_stereo_frame(spectra, intensities) {
                 Ok(done) => {
-                    self.answers[4 * k..4 * k + 4].copy_from_slice(&[done.level, done.boundary, done.pairs, done.bits]);
+                    self.answers[k] = done;
                     self.frames[k * size..(k + 1) * size].copy_from_slice(self.encoder.frame());
                 }
                 Err(refusal) => return (k, Some(refusal)),
@@ -185,11 +185,10 @@ impl Run<'_> {
 
     /// The frames that were made: their bytes, their lines and their numbers.
     fn keep(&mut self, made: usize) -> Result<(), Stop> {
-        for numbers in self.batch.answers[..4 * made].chunks_exact(4) {
-            let done = Delivered::from([numbers[0], numbers[1], numbers[2], numbers[3]]);
-            report::stage_row(self.text, self.done, &done);
+        for done in &self.batch.answers[..made] {
+            report::stage_row(self.text, self.done, done);
             if self.is_listed {
-                self.entries.push(done);
+                self.entries.push(*done);
             }
             self.done += 1;
         }

@@ -43,12 +43,9 @@ pub fn run(options: &Options, layout: &Layout, text: &mut Text) -> Result<Ended,
 
 fn stream_of(options: &Options) -> Stream {
     let number = |name| options.number(name).unwrap_or(0);
-    Stream {
-        rate: number(Name::Rate),
-        frames: number(Name::Count),
-        padding: number(Name::Padding),
-        loop_points: options.number(Name::LoopStart).zip(options.number(Name::LoopEnd)),
-    }
+    let mut stream = Stream::new(number(Name::Rate), number(Name::Count), number(Name::Padding));
+    stream.loop_points = options.number(Name::LoopStart).zip(options.number(Name::LoopEnd));
+    stream
 }
 
 /// The first number that does not fit, beside its refusal.

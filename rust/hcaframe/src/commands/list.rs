@@ -53,7 +53,7 @@ fn content(input: &Input) -> Result<Vec<u8>, Stop> {
     let frames = u32::from_be_bytes([list[5], list[6], list[7], list[8]]);
     let length = HEAD as u64 + 8 * u64::from(frames);
     if input.length.is_some_and(|n| n != length) {
-        return Err(refused(Refusal { number: Refusal::BAD_LIST_LENGTH, place: 0 }));
+        return Err(refused(Refusal::new(Refusal::BAD_LIST_LENGTH, 0)));
     }
     (&input.file).take(length + 1 - HEAD as u64).read_to_end(&mut list).map_err(|error| unread(&error))?;
     Ok(list)

@@ -1,5 +1,5 @@
-use super::*;
-
+//! The stereo stage, from unmixed spectra on.
+use hca_frame::{Encoder, Kind, Layout, Refusal, RefusalKind};
 use Kind::{Discrete, StereoPrimary as P, StereoSecondary as S};
 
 // Bands 1 and 2 of three are mixed, one of them coded.
@@ -76,16 +76,16 @@ fn a_magnitude_above_65536_is_refusal_17() {
         intensities[8] = 9;
         spectra[2047] = sign * f32::from_bits(0x47800001);
         let no = e.encode_stereo_frame(&mut spectra, &mut intensities).unwrap_err();
-        assert_eq!(no, Refusal { number: Refusal::TOO_LOUD, place: 0 });
+        assert_eq!(no, Refusal::new(Refusal::TOO_LOUD, 0));
         assert_eq!(no.kind(), RefusalKind::TooLoud);
         assert_eq!(no.to_string(), "refusal 17: a spectrum's magnitude is above 65,536");
         assert_eq!(intensities[8], 9);
         spectra[2000] = f32::NAN; // 4 is judged before
         let no = e.encode_stereo_frame(&mut spectra, &mut intensities).unwrap_err();
-        assert_eq!(no, Refusal { number: 4, place: 2000 });
+        assert_eq!(no, Refusal::new(4, 2000));
         intensities[10] = 16; // and 3 before that, on what is lent
         let no = e.encode_stereo_frame(&mut spectra, &mut intensities).unwrap_err();
-        assert_eq!(no, Refusal { number: 3, place: 10 });
+        assert_eq!(no, Refusal::new(3, 10));
     }
 }
 

@@ -1,4 +1,8 @@
-use super::*;
+//! Layouts, the frame stage, the record writer, the strict reader, refusals.
+use hca_frame::{
+    checksum, read_frame, read_frame_into, write_record, write_record_into, Delivered, Encoder, Kind, Layout, LayoutError,
+    Record, Refusal, RefusalKind,
+};
 
 fn mono(bands: u32, total: u32, frame: u32) -> Layout {
     Layout::builder().channel(Kind::Discrete).bands(bands, 0, total).frame_size(frame).build().unwrap()
@@ -44,11 +48,11 @@ fn silence_in_eight_bytes() {
     let five = Layout::builder().channels(&[Kind::Discrete; 5]).bands(1, 0, 1).frame_size(8).build().unwrap();
     let mut e = Encoder::new(five);
     let done = e.encode_frame(&[0.0; 5 * 1024], &[0; 40]).unwrap();
-    assert_eq!(done, Delivered { level: 0, boundary: 0, pairs: 0, bits: 47 });
+    assert_eq!(done, Delivered::from([0, 0, 0, 47]));
     assert_eq!(&e.frame()[..6], &[0xFF, 0xFF, 0, 0, 0, 0]);
     let six = Layout::builder().channels(&[Kind::Discrete; 6]).bands(1, 0, 1).frame_size(8).build().unwrap();
     let no = Encoder::new(six).encode_frame(&[0.0; 6 * 1024], &[0; 48]);
-    assert_eq!(no, Err(Refusal { number: 5, place: 0 }));
+    assert_eq!(no, Err(Refusal::new(5, 0)));
 }
 
 #[test]
@@ -57,13 +61,13 @@ fn refusals_name_their_place() {
         Layout::builder().channels(&[Kind::StereoPrimary, Kind::StereoSecondary]).bands(4, 4, 8).frame_size(100).build().unwrap();
     let mut e = Encoder::new(l);
     let (mut spectra, mut intensities) = ([0.0; 2048], [0; 16]);
-    assert_eq!(e.encode_frame(&spectra[1..], &intensities), Err(Refusal { number: 2, place: 0 }));
+    assert_eq!(e.encode_frame(&spectra[1..], &intensities), Err(Refusal::new(2, 0)));
     spectra[1500] = f32::NAN;
-    assert_eq!(e.encode_frame(&spectra, &intensities), Err(Refusal { number: 4, place: 1500 }));
+    assert_eq!(e.encode_frame(&spectra, &intensities), Err(Refusal::new(4, 1500)));
     intensities[0] = 200; // a primary's are not looked at
     intensities[9] = 16;
     let no = e.encode_frame(&spectra, &intensities).unwrap_err();
-    assert_eq!(no, Refusal { number: 3, place: 9 });
+    assert_eq!(no, Refusal::new(3, 9));
     assert_eq!(no.to_string(), "refusal 3: intensity 9 of a secondary channel is above 15");
 }
 
@@ -75,7 +79,7 @@ fn a_found_level_can_end_in_refusal_7() {
         spectra[s * 128] = f32::from_bits(0x2E634C94);
     }
     let mut e = Encoder::new(mono(1, 1, 19));
-    assert_eq!(e.encode_frame(&spectra, &[0; 8]), Err(Refusal { number: 7, place: 137 }));
+    assert_eq!(e.encode_frame(&spectra, &[0; 8]), Err(Refusal::new(7, 137)));
     assert!(e.frame().iter().all(|&b| b == 0));
     assert!(Encoder::new(mono(1, 1, 20)).encode_frame(&spectra, &[0; 8]).is_ok());
 }
@@ -89,7 +93,7 @@ fn refusal_7_of_a_record_tells_the_size_that_it_needs() {
     }
     for size in [8, 19] {
         let no = write_record(&mono(1, 1, size), &record).unwrap_err();
-        assert_eq!(no, Refusal { number: 7, place: 137 });
+        assert_eq!(no, Refusal::new(7, 137));
         assert_eq!(no.to_string(), "refusal 7: the fields need 137 bits, more than the frame has before its check");
     }
     assert_eq!(write_record(&mono(1, 1, 20), &record).unwrap().1, 137);
@@ -115,13 +119,13 @@ fn the_reader_is_strict() {
     assert_eq!(bits, 35);
     let mut bad = good.clone();
     bad[9] ^= 1;
-    assert_eq!(read_frame(&l, &bad), Err(Refusal { number: 8, place: 0 }));
+    assert_eq!(read_frame(&l, &bad), Err(Refusal::new(8, 0)));
     let mut filled = good.clone();
     filled[7] = 1;
     let check = checksum(&filled[..8]);
     filled[8..].copy_from_slice(&check.to_be_bytes());
-    assert_eq!(read_frame(&l, &filled), Err(Refusal { number: 14, place: 63 }));
-    assert_eq!(read_frame(&l, &good[..9]), Err(Refusal { number: 2, place: 0 }));
+    assert_eq!(read_frame(&l, &filled), Err(Refusal::new(14, 63)));
+    assert_eq!(read_frame(&l, &good[..9]), Err(Refusal::new(2, 0)));
 }
 
 #[test]
@@ -129,7 +133,7 @@ fn an_illegal_record_is_refused() {
     let l = mono(1, 1, 10);
     let mut r = Record::silent(&l);
     r.codes[0] = i32::MIN;
-    assert_eq!(write_record(&l, &r), Err(Refusal { number: 15, place: 0 }));
+    assert_eq!(write_record(&l, &r), Err(Refusal::new(15, 0)));
 }
 
 #[test]
@@ -144,7 +148,7 @@ fn every_head_is_taken() {
     }
     for (level, boundary) in [(512, 0), (0, 128)] {
         let record = Record { level, boundary, ..Record::silent(&l) };
-        assert_eq!(write_record(&l, &record), Err(Refusal { number: 15, place: 0 }));
+        assert_eq!(write_record(&l, &record), Err(Refusal::new(15, 0)));
     }
 }
 
@@ -158,11 +162,11 @@ fn the_check_of_a_known_text() {
 #[test]
 fn every_number_has_a_text() {
     for number in (1..=25).chain([30, 31]).filter(|n| ![6, 10].contains(n)) {
-        let text = Refusal { number, place: 3 }.to_string();
+        let text = Refusal::new(number, 3).to_string();
         assert!(text.starts_with(&format!("refusal {number}: ")) && text.len() > 30, "{text}");
     }
     for number in [6, 10, 26, 99] {
-        assert!(Refusal { number, place: 3 }.to_string().contains("unknown"));
+        assert!(Refusal::new(number, 3).to_string().contains("unknown"));
     }
 }
 
@@ -198,7 +202,7 @@ fn every_number_has_its_kind() {
         (0, RefusalKind::Unknown),
         (99, RefusalKind::Unknown),
     ] {
-        assert_eq!(Refusal { number, place: 0 }.kind(), kind, "{number}");
+        assert_eq!(Refusal::new(number, 0).kind(), kind, "{number}");
     }
 }
 
@@ -217,13 +221,13 @@ fn a_record_is_read_into_what_is_there() {
 
     let mut damaged = e.frame().to_vec();
     damaged[20] ^= 4;
-    assert_eq!(read_frame_into(&l, &damaged, &mut record), Err(Refusal { number: 8, place: 0 }));
+    assert_eq!(read_frame_into(&l, &damaged, &mut record), Err(Refusal::new(8, 0)));
     assert_eq!(record, Record::silent(&l));
 
     let mut short = e.record(&done);
     short.side.pop();
     let before = short.clone();
-    assert_eq!(read_frame_into(&l, e.frame(), &mut short), Err(Refusal { number: 2, place: 0 }));
+    assert_eq!(read_frame_into(&l, e.frame(), &mut short), Err(Refusal::new(2, 0)));
     assert_eq!(short, before);
 }
 
@@ -237,12 +241,12 @@ fn a_frame_is_written_into_what_is_there() {
     assert_eq!((&slice[..10], &slice[10..]), (&frame[..], &[7, 7][..]));
 
     let mut slice = [7; 9];
-    assert_eq!(write_record_into(&l, &record, &mut slice), Err(Refusal { number: 2, place: 0 }));
+    assert_eq!(write_record_into(&l, &record, &mut slice), Err(Refusal::new(2, 0)));
     assert_eq!(slice, [7; 9]);
 
     record.level = 512;
     let mut slice = [7; 10];
-    assert_eq!(write_record_into(&l, &record, &mut slice), Err(Refusal { number: 15, place: 0 }));
+    assert_eq!(write_record_into(&l, &record, &mut slice), Err(Refusal::new(15, 0)));
     assert_eq!(slice, [7; 10]);
 }
 
@@ -253,18 +257,6 @@ fn a_record_without_room_leaves_zeros() {
     let no = write_record_into(&l, &Record::silent(&l), &mut slice).unwrap_err();
     assert_eq!(no.kind(), RefusalKind::TooLong);
     assert_eq!(slice, [0, 0, 0, 0, 0, 0, 0, 0, 7]);
-}
-
-#[test]
-fn header_and_crate_have_one_version() {
-    let header = include_str!("../../include/hca_frame.h");
-    let line = format!("#define HCA_VERSION \"{}\"", env!("CARGO_PKG_VERSION"));
-    assert!(header.contains(&line), "no line of the header is: {line}");
-    let part = |text: &str| text.parse::<u32>().unwrap();
-    let parts =
-        [part(env!("CARGO_PKG_VERSION_MAJOR")), part(env!("CARGO_PKG_VERSION_MINOR")), part(env!("CARGO_PKG_VERSION_PATCH"))];
-    let line = format!("#define HCA_VERSION_NUMBER {}\n", 10_000 * parts[0] + 100 * parts[1] + parts[2]);
-    assert!(header.contains(&line), "no line of the header is: {line}");
 }
 
 #[test]
@@ -296,113 +288,6 @@ fn an_earlier_frame_stays_after_refusal_4_and_goes_after_5() {
     let no = e.encode_frame(&[1.0; 1024], &[0; 8]).unwrap_err();
     assert_eq!((no.number, no.place), (Refusal::NO_LEVEL, 0));
     assert!(e.frame().iter().all(|&b| b == 0));
-}
-
-// Five silent Discrete channels in eight bytes, three frames, with two more bytes and answers behind them.
-struct Line {
-    encoder: Encoder,
-    spectra: Vec<f32>,
-    frames: Vec<u8>,
-    answers: Vec<u32>,
-    tally: Tally,
-}
-
-const SILENT: [u8; 8] = [0xFF, 0xFF, 0, 0, 0, 0, 0, 0xD8];
-
-impl Line {
-    fn new() -> Self {
-        let five = Layout::builder().channels(&[Kind::Discrete; 5]).bands(1, 0, 1).frame_size(8).build().unwrap();
-        let tally = Tally { frames: 5, bits: 6, pairs: 7 };
-        Line { encoder: Encoder::new(five), spectra: vec![0.0; 3 * 5 * 1024], frames: vec![9; 26], answers: vec![9; 14], tally }
-    }
-
-    fn encode(&mut self, count: usize) -> Result<(), LineRefusal> {
-        self.encoder.encode_line(count, &self.spectra, &[0; 120], &mut self.frames, &mut self.answers, &mut self.tally)
-    }
-
-    fn holds(&self, frames: &[[u8; 8]], tally: (u64, u64, u64), done: usize) {
-        let bytes: Vec<u8> = frames.concat().into_iter().chain([9; 26].into_iter().skip(8 * frames.len())).collect();
-        assert_eq!(self.frames, bytes);
-        let answers: Vec<u32> = (0..14).map(|i| if i < 4 * done { [0, 0, 0, 47][i % 4] } else { 9 }).collect();
-        assert_eq!(self.answers, answers);
-        assert_eq!((self.tally.frames, self.tally.bits, self.tally.pairs), tally);
-    }
-}
-
-#[test]
-fn a_line_of_three_silent_frames() {
-    let mut line = Line::new();
-    assert_eq!(line.encode(3), Ok(()));
-    line.holds(&[SILENT; 3], (8, 147, 7), 3);
-    assert_eq!(line.encoder.frame(), [0; 8]);
-}
-
-#[test]
-fn a_line_stops_before_an_infinite_value() {
-    let mut line = Line::new();
-    line.spectra[5 * 1024 + 1024] = f32::INFINITY;
-    let no = line.encode(3).unwrap_err();
-    assert_eq!(no, LineRefusal { refusal: Refusal { number: 4, place: 1024 }, frame: Some(1) });
-    assert_eq!(no.to_string(), "frame 1: refusal 4: spectrum 1024 is NaN or infinite");
-    line.holds(&[SILENT], (6, 53, 7), 1);
-}
-
-#[test]
-fn a_line_stops_at_a_frame_without_level() {
-    let mut line = Line::new();
-    for i in (0..5 * 1024).step_by(128) {
-        line.spectra[5 * 1024 + i] = 10.0;
-    }
-    let no = line.encode(3).unwrap_err();
-    assert_eq!(no, LineRefusal { refusal: Refusal { number: 5, place: 0 }, frame: Some(1) });
-    line.holds(&[SILENT, [0; 8]], (6, 53, 7), 1);
-    assert!(line.encoder.scaled().iter().all(|&x| x == 0.0));
-}
-
-#[test]
-fn a_line_of_no_frames_changes_nothing() {
-    let mut line = Line::new();
-    assert_eq!(line.encode(0), Ok(()));
-    line.holds(&[], (5, 6, 7), 0);
-}
-
-#[test]
-fn a_line_is_judged_before_its_frames() {
-    let refused = |no: Result<(), LineRefusal>| no.map_err(|no| (no.refusal.number, no.refusal.place, no.frame));
-    let mut line = Line::new();
-    line.spectra[0] = f32::NAN;
-    assert_eq!(refused(line.encode(65_536)), Err((18, 0, None)));
-    assert_eq!(refused(line.encode(65_535)), Err((2, 0, None)));
-    assert_eq!(refused(line.encode(4)), Err((2, 0, None)));
-    line.tally.pairs = (1 << 63) + 1;
-    assert_eq!(refused(line.encode(0)), Err((18, 0, None)));
-    line.holds(&[], (5, 6, (1 << 63) + 1), 0);
-    line.tally.pairs = 1 << 63;
-    assert_eq!(refused(line.encode(0)), Ok(()));
-    assert_eq!(refused(line.encode(1)), Err((4, 0, Some(0))));
-    line.holds(&[], (5, 6, 1 << 63), 0);
-    let no = Refusal { number: 18, place: 0 };
-    assert_eq!(no.kind(), RefusalKind::BadBatch);
-    assert_eq!(no.to_string(), "refusal 18: the line has more than 65,535 frames, or a count of its tally is above 2^63");
-}
-
-#[test]
-fn a_line_is_its_single_calls() {
-    let l = mono(30, 60, 90);
-    let spectra: Vec<f32> = (0..4 * 1024).map(|i| ((i * 37 % 101) as f32 - 50.0) / (8 + 8 * (i % 128)) as f32).collect();
-    let (mut frames, mut answers, mut tally) = (vec![0; 4 * 90], vec![0; 16], Tally::default());
-    let mut whole = Encoder::new(l.clone());
-    whole.encode_line(4, &spectra, &[0; 32], &mut frames, &mut answers, &mut tally).unwrap();
-    let mut one = Encoder::new(l);
-    let mut sum = Tally::default();
-    for k in 0..4 {
-        let done = one.encode_frame(&spectra[k * 1024..][..1024], &[0; 8]).unwrap();
-        assert_eq!(one.frame(), &frames[k * 90..][..90]);
-        assert_eq!([done.level, done.boundary, done.pairs, done.bits], answers[k * 4..][..4]);
-        sum = Tally { frames: sum.frames + 1, bits: sum.bits + done.bits as u64, pairs: sum.pairs + done.pairs as u64 };
-    }
-    assert_eq!(tally, sum);
-    assert_eq!((whole.codes(), whole.side(), whole.factors()), (one.codes(), one.side(), one.factors()));
 }
 
 #[test]

@@ -1,0 +1,78 @@
+//! The C functions of the frame stage and of the check.
+
+mod c {
+    extern "C" {
+        pub fn hca_encode_frame(
+            layout: *const u32,
+            layout_len: usize,
+            kinds: *const u8,
+            kinds_len: usize,
+            spectra: *const f32,
+            spectra_len: usize,
+            intensities: *const u8,
+            intensities_len: usize,
+            scaled: *mut f32,
+            scaled_len: usize,
+            codes: *mut i32,
+            codes_len: usize,
+            factors: *mut u8,
+            factors_len: usize,
+            side: *mut u8,
+            side_len: usize,
+            frame: *mut u8,
+            frame_len: usize,
+            answer: *mut u32,
+            answer_len: usize,
+        ) -> u32;
+
+        pub fn hca_checksum(bytes: *const u8, bytes_len: usize) -> u16;
+    }
+}
+
+/// The frame stage. Delivers level, boundary, pairs removed, bits written.
+#[allow(clippy::too_many_arguments)]
+pub fn encode_frame(
+    layout: &[u32],
+    kinds: &[u8],
+    spectra: &[f32],
+    intensities: &[u8],
+    scaled: &mut [f32],
+    codes: &mut [i32],
+    factors: &mut [u8],
+    side: &mut [u8],
+    frame: &mut [u8],
+    answer: &mut [u32],
+) -> u32 {
+    // SAFETY: each pointer goes with its slice's length, and the borrows keep
+    // written slices apart from all others for the length of the call.
+    unsafe {
+        c::hca_encode_frame(
+            layout.as_ptr(),
+            layout.len(),
+            kinds.as_ptr(),
+            kinds.len(),
+            spectra.as_ptr(),
+            spectra.len(),
+            intensities.as_ptr(),
+            intensities.len(),
+            scaled.as_mut_ptr(),
+            scaled.len(),
+            codes.as_mut_ptr(),
+            codes.len(),
+            factors.as_mut_ptr(),
+            factors.len(),
+            side.as_mut_ptr(),
+            side.len(),
+            frame.as_mut_ptr(),
+            frame.len(),
+            answer.as_mut_ptr(),
+            answer.len(),
+        )
+    }
+}
+
+/// The check of a run of bytes.
+pub fn checksum(bytes: &[u8]) -> u16 {
+    // SAFETY: the pointer goes with its slice's length and is only read.
+    unsafe { c::hca_checksum(bytes.as_ptr(), bytes.len()) }
+}
