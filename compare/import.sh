@@ -25,7 +25,21 @@ for f in encoder bitreader decoder tables; do
     echo "$f.rs: equal up to \"pub \", $(diff "$from/$f.rs" "$work/$f.rs" | grep -c '^>') lines made visible"
 done
 
-# The second copy: encode_wav_to_hca hands out no samples, so its body up to where all are read (`let cfg`) makes a function
+# The second copy of encoder.rs: where MIN_RESOLUTION and MAX_RESOLUTION are used, in three expressions on three lines, two numbers stand that
+# the thread sets before it calls (src/limits.rs). With the names put back it has to be the copy above.
+sed -e '/^pub const /!{' -e 's/MIN_RESOLUTION/crate::limits::minimum()/g' -e 's/MAX_RESOLUTION/crate::limits::maximum()/g' -e '}' \
+    "$work/encoder.rs" > "$work/limited.rs"
+sed -e 's/crate::limits::minimum()/MIN_RESOLUTION/g' -e 's/crate::limits::maximum()/MAX_RESOLUTION/g' "$work/limited.rs" > "$work/copy"
+cmp "$work/encoder.rs" "$work/copy"
+lines=$(diff "$work/encoder.rs" "$work/limited.rs" | grep -c '^>')
+if [ "$lines" -ne 3 ]; then
+    echo "limited.rs: $lines lines have other limits, not three" >&2
+    exit 1
+fi
+cmp -s "$work/limited.rs" "$to/limited.rs" || cp "$work/limited.rs" "$to/limited.rs"
+echo "limited.rs: equal to encoder.rs but for the limits of the resolution, on $lines lines"
+
+# The lines that read a WAV file: encode_wav_to_hca hands out no samples, so its body up to where all are read (`let cfg`) makes a function
 # that does. Head and end are new; every line between them has to be the original's.
 between() { # the lines of $1 between the first that begins with $2 and ends a head, and the next that begins with $3
     awk -v from="$2" -v to="$3" 'index($0, from) == 1 { head = 1 } inside && index($0, to) == 1 { exit } inside { print }

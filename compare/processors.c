@@ -93,8 +93,11 @@ static void leave(const void *from, size_t length) {
 /* -- the calls, one for each kind of case */
 #define SLICE(s) s.at, s.count
 
+/* numbers of the layout of the case at hand */
+static size_t numbers;
+
 static uint32_t encode_frame(int stereo) {
-    struct slice layout = elements(5, 4), kinds = bytes(), spectra = runs(), intensities = bytes();
+    struct slice layout = elements(numbers, 4), kinds = bytes(), spectra = runs(), intensities = bytes();
     struct slice scaled = lent(word(), 4), codes = lent(word(), 4), factors = lent(word(), 1), side = lent(word(), 1), frame = lent(word(), 1);
     struct slice answer = lent(4, 4);
     if (!stereo)
@@ -106,7 +109,7 @@ static uint32_t encode_frame(int stereo) {
 }
 
 static uint32_t encode_line(void) {
-    struct slice layout = elements(5, 4), kinds = bytes();
+    struct slice layout = elements(numbers, 4), kinds = bytes();
     size_t count = word();
     struct slice spectra = runs(), intensities = bytes();
     struct slice scaled = lent(word(), 4), codes = lent(word(), 4), factors = lent(word(), 1), side = lent(word(), 1), frames = lent(word(), 1);
@@ -116,13 +119,13 @@ static uint32_t encode_line(void) {
 }
 
 static uint32_t read_frame(void) {
-    struct slice layout = elements(5, 4), kinds = bytes(), frame = bytes();
+    struct slice layout = elements(numbers, 4), kinds = bytes(), frame = bytes();
     struct slice factors = lent(word(), 1), side = lent(word(), 1), codes = lent(word(), 4), answer = lent(4, 4);
     return hca_read_frame(SLICE(layout), SLICE(kinds), SLICE(frame), SLICE(factors), SLICE(side), SLICE(codes), SLICE(answer));
 }
 
 static uint32_t write_record(void) {
-    struct slice layout = elements(5, 4), kinds = bytes(), record = elements(2, 4), factors = bytes(), side = bytes(), codes = runs();
+    struct slice layout = elements(numbers, 4), kinds = bytes(), record = elements(2, 4), factors = bytes(), side = bytes(), codes = runs();
     struct slice frame = lent(word(), 1), answer = lent(4, 4);
     return hca_write_record(SLICE(layout), SLICE(kinds), SLICE(record), SLICE(factors), SLICE(side), SLICE(codes), SLICE(frame), SLICE(answer));
 }
@@ -133,7 +136,7 @@ static uint32_t checksum(void) {
 }
 
 static uint32_t write_header(void) {
-    struct slice layout = elements(5, 4), kinds = bytes(), stream = longs(), points = longs(), header = lent(word(), 1);
+    struct slice layout = elements(numbers, 4), kinds = bytes(), stream = longs(), points = longs(), header = lent(word(), 1);
     return hca_write_header(SLICE(layout), SLICE(kinds), SLICE(stream), SLICE(points), SLICE(header));
 }
 
@@ -164,7 +167,8 @@ static uint32_t read_wav(void) {
 }
 
 static uint32_t call(uint32_t kind) {
-    switch (kind) {
+    numbers = kind > 100 ? word() : 5;
+    switch (kind > 100 ? kind - 100 : kind) {
     case 1: return encode_frame(0);
     case 2: return read_frame();
     case 3: return write_record();

@@ -157,8 +157,12 @@ void lend_named(struct set *b, const uint32_t *layout, size_t layout_len, const 
 
 static void lend_shape(struct set *b, const struct shape *l, struct source *s)
 {
-    uint32_t layout[5] = {l->channels, l->base, l->stereo, l->total, l->frame};
-    lend_named(b, layout, 5, l->kinds, l->channels, s);
+    uint32_t layout[9] = {l->channels, l->base, l->stereo, l->total, l->frame, l->minimum, l->maximum};
+    layout[7] = take_word(s);
+    layout[8] = take_word(s);
+    /* a default may be left out, and from the eighth number on nothing is looked at */
+    uint32_t least = l->maximum < 15 ? 7 : l->minimum > 1 ? 6 : 5;
+    lend_named(b, layout, least + pick(s, 10 - least), l->kinds, l->channels, s);
 }
 
 /* Reads a frame of this shape into set b, exact lengths. */
@@ -247,6 +251,8 @@ static void check_stage_frame(const struct shape *l, const struct set *b, struct
     check_scaled_and_side(l, b);
     if (a[0] > 254 || (a[0] == 0 && a[1] != 0)) /* narrower than what a record may have */
         fault("the stage answers level %u, boundary %u", a[0], a[1]);
+    if (l->minimum == l->maximum && a[0] != 0) /* all levels have one estimate */
+        fault("the stage answers level %u where every resolution is %u", a[0], l->minimum);
     if (a[2] > (l->start == 0 ? 0 : (l->start - 1) / 2))
         fault("%u pairs removed of %u bands", a[2], l->start);
     if (v == ILLEGAL)

@@ -33,6 +33,19 @@ static void corner_layout(struct source *s, uint32_t *w)
     w[3] = total;
 }
 
+/* The lowest and the highest resolution, now and then a wrong pair; behind them anything. Where both are missing they are 1 and 15. */
+static void wish_limits(struct source *s, struct wish *w)
+{
+    static const uint32_t wrong[8] = {0, 16, 17, 256, 257, 271, 0x80000000, 0xFFFFFFFF};
+    w->layout[5] = 1 + pick(s, 15);
+    w->layout[6] = w->layout[5] + pick(s, 16 - w->layout[5]);
+    if (one_in(s, 12))
+        w->layout[5 + pick(s, 2)] = one_in(s, 3) ? 1 + pick(s, 15) : wrong[pick(s, 8)];
+    for (int i = 7; i < 9; i++)
+        w->layout[i] = take_word(s);
+    w->layout_len = one_in(s, 40) ? pick(s, 10) : one_in(s, 2) ? 5 + pick(s, 5) : 5;
+}
+
 static void wish_layout(struct source *s, struct wish *w)
 {
     uint32_t sort = pick(s, 16);
@@ -46,9 +59,7 @@ static void wish_layout(struct source *s, struct wish *w)
         spoil_layout(s, w->layout);
     if (sort >= 13)
         corner_layout(s, w->layout);
-    for (int i = 5; i < 8; i++)
-        w->layout[i] = take_word(s);
-    w->layout_len = one_in(s, 40) ? pick(s, 9) : one_in(s, 8) ? 5 + pick(s, 4) : 5;
+    wish_limits(s, w);
 }
 
 static void wish_kinds(struct source *s, struct wish *w)
@@ -91,9 +102,9 @@ size_t length_for(struct source *s, const struct wish *w, size_t need)
 
 void tame(const struct wish *w, struct shape *l)
 {
-    uint32_t layout[5];
+    uint32_t layout[7] = {0, 0, 0, 0, 0, 1, 15};
     uint8_t kinds[20];
-    memcpy(layout, w->layout, sizeof layout);
+    memcpy(layout, w->layout, 4 * (w->layout_len < 5 ? 5 : w->layout_len < 7 ? w->layout_len : 7));
     for (int i = 0; i < 20; i++)
         kinds[i] = w->kinds[i] % 3;
     layout[0] = layout[0] < 1 ? 1 : layout[0] > 16 ? 16 : layout[0];
@@ -101,7 +112,9 @@ void tame(const struct wish *w, struct shape *l)
     layout[1] = layout[1] > layout[3] ? layout[3] : layout[1];
     layout[2] = layout[2] > layout[3] - layout[1] ? layout[3] - layout[1] : layout[2];
     layout[4] = layout[4] < 8 ? 8 : layout[4] > 65535 ? 65535 : layout[4];
-    shape_of(l, layout, 5, kinds, 20);
+    layout[5] = layout[5] < 1 ? 1 : layout[5] > 15 ? 15 : layout[5];
+    layout[6] = layout[6] < layout[5] ? layout[5] : layout[6] > 15 ? 15 : layout[6];
+    shape_of(l, layout, 7, kinds, 20);
 }
 
 /* ---- spectra */
@@ -189,7 +202,7 @@ void make_record(struct source *s, const struct shape *l, struct record *out)
         for (uint32_t i = 0; i < 8; i++)
             out->side[8 * c + i] = (uint8_t)(l->kinds[c] == 2 ? next_number(&r) % 16 : i < l->groups ? next_number(&r) % 64 : 0);
         for (uint32_t b = 0; b < coded_count(l, c); b++) {
-            int32_t most = code_range(resolution(out->factors[128 * c + b], out->head[0], out->head[1], b));
+            int32_t most = code_range(resolution(l, out->factors[128 * c + b], out->head[0], out->head[1], b));
             for (uint32_t k = 0; k < 8; k++)
                 if (most > 0 && next_number(&r) % 3 != 0)
                     out->codes[1024 * c + 128 * k + b] = (int32_t)(next_number(&r) % (2 * (uint32_t)most + 1)) - most;
@@ -201,7 +214,7 @@ void spoil_record(struct source *s, const struct shape *l, struct record *x)
 {
     static const int32_t odd[6] = {INT32_MIN, INT32_MAX, -8, 8, 3, 1};
     uint32_t c = pick(s, l->channels), b = pick(s, 128), i = 1024 * c + 128 * pick(s, 8) + b;
-    int32_t most = code_range(resolution(x->factors[128 * c + b], x->head[0], x->head[1], b));
+    int32_t most = code_range(resolution(l, x->factors[128 * c + b], x->head[0], x->head[1], b));
     uint32_t sort = pick(s, 8), at = pick(s, 8);
     switch (sort) {
     case 0: x->head[0] = one_in(s, 2) ? 512 : take_word(s); break;

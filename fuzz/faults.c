@@ -22,13 +22,33 @@ static int is_fault(const char *name)
 
 static volatile uint8_t sink;
 
+/* The layout as a library takes it that does not mind its limits of the resolution; otherwise as it is. */
+static const uint32_t *minded(const uint32_t *layout, size_t layout_len, uint32_t *other)
+{
+    if (layout_len < HCA_LAYOUT_FULL_COUNT)
+        return layout;
+    memcpy(other, layout, 4 * HCA_LAYOUT_FULL_COUNT);
+    if (is_fault("minimum-ignored"))
+        other[HCA_MINIMUM] = 1;
+    else if (is_fault("maximum-ignored"))
+        other[HCA_MAXIMUM] = 15;
+    else if (is_fault("limits-exchanged"))
+        other[HCA_MINIMUM] = layout[HCA_MAXIMUM], other[HCA_MAXIMUM] = layout[HCA_MINIMUM];
+    else
+        return layout;
+    return other;
+}
+
 uint32_t __wrap_hca_encode_frame(const uint32_t *layout, size_t layout_len, const uint8_t *kinds, size_t kinds_len,
                                  const float *spectra, size_t spectra_len, const uint8_t *intensities, size_t intensities_len,
                                  float *scaled, size_t scaled_len, int32_t *codes, size_t codes_len, uint8_t *factors,
                                  size_t factors_len, uint8_t *side, size_t side_len, uint8_t *frame, size_t frame_len,
                                  uint32_t *answer, size_t answer_len)
 {
-    uint32_t number = __real_hca_encode_frame(layout, layout_len, kinds, kinds_len, spectra, spectra_len, intensities,
+    uint32_t other[HCA_LAYOUT_FULL_COUNT];
+    const uint32_t *taken = minded(layout, layout_len, other);
+    size_t count_taken = taken == layout ? layout_len : HCA_LAYOUT_FULL_COUNT;
+    uint32_t number = __real_hca_encode_frame(taken, count_taken, kinds, kinds_len, spectra, spectra_len, intensities,
                                               intensities_len, scaled, scaled_len, codes, codes_len, factors, factors_len, side,
                                               side_len, frame, frame_len, answer, answer_len);
     if (is_fault("stage-writes-past-the-frame") && number == 0 && frame_len > layout[4])
@@ -69,7 +89,10 @@ uint32_t __wrap_hca_write_record(const uint32_t *layout, size_t layout_len, cons
                                  const uint8_t *side, size_t side_len, const int32_t *codes, size_t codes_len, uint8_t *frame,
                                  size_t frame_len, uint32_t *answer, size_t answer_len)
 {
-    uint32_t number = __real_hca_write_record(layout, layout_len, kinds, kinds_len, record, record_len, factors, factors_len, side,
+    uint32_t other[HCA_LAYOUT_FULL_COUNT];
+    const uint32_t *taken = minded(layout, layout_len, other);
+    size_t count_taken = taken == layout ? layout_len : HCA_LAYOUT_FULL_COUNT;
+    uint32_t number = __real_hca_write_record(taken, count_taken, kinds, kinds_len, record, record_len, factors, factors_len, side,
                                               side_len, codes, codes_len, frame, frame_len, answer, answer_len);
     if (is_fault("refusal-7-leaves-a-byte") && number == 7)
         frame[0] = 0xFF;
@@ -94,7 +117,10 @@ uint32_t __wrap_hca_read_frame(const uint32_t *layout, size_t layout_len, const 
                                const uint8_t *frame, size_t frame_len, uint8_t *factors, size_t factors_len, uint8_t *side,
                                size_t side_len, int32_t *codes, size_t codes_len, uint32_t *answer, size_t answer_len)
 {
-    uint32_t number = __real_hca_read_frame(layout, layout_len, kinds, kinds_len, frame, frame_len, factors, factors_len, side,
+    uint32_t other[HCA_LAYOUT_FULL_COUNT];
+    const uint32_t *taken = minded(layout, layout_len, other);
+    size_t count_taken = taken == layout ? layout_len : HCA_LAYOUT_FULL_COUNT;
+    uint32_t number = __real_hca_read_frame(taken, count_taken, kinds, kinds_len, frame, frame_len, factors, factors_len, side,
                                             side_len, codes, codes_len, answer, answer_len);
     if (is_fault("reader-reads-past-the-frame") && number == 0)
         sink = frame[frame_len];
@@ -129,7 +155,10 @@ uint32_t __wrap_hca_write_header(const uint32_t *layout, size_t layout_len, cons
                                  const uint64_t *stream, size_t stream_len, const uint64_t *points, size_t points_len,
                                  uint8_t *header, size_t header_len)
 {
-    uint32_t number = __real_hca_write_header(layout, layout_len, kinds, kinds_len, stream, stream_len, points, points_len, header,
+    uint32_t other[HCA_LAYOUT_FULL_COUNT];
+    const uint32_t *taken = minded(layout, layout_len, other);
+    size_t count_taken = taken == layout ? layout_len : HCA_LAYOUT_FULL_COUNT;
+    uint32_t number = __real_hca_write_header(taken, count_taken, kinds, kinds_len, stream, stream_len, points, points_len, header,
                                               header_len);
     if (is_fault("header-edge-keeps-its-frame") && number == 0 && points_len > 1 && (points[1] + 128) % 1024 == 0)
         header[51] += 1;
@@ -235,7 +264,10 @@ uint32_t __wrap_hca_encode_stereo_frame(const uint32_t *layout, size_t layout_le
                                         size_t factors_len, uint8_t *side, size_t side_len, uint8_t *frame, size_t frame_len,
                                         uint32_t *answer, size_t answer_len)
 {
-    uint32_t number = __real_hca_encode_stereo_frame(layout, layout_len, kinds, kinds_len, spectra, spectra_len, intensities,
+    uint32_t other[HCA_LAYOUT_FULL_COUNT];
+    const uint32_t *taken = minded(layout, layout_len, other);
+    size_t count_taken = taken == layout ? layout_len : HCA_LAYOUT_FULL_COUNT;
+    uint32_t number = __real_hca_encode_stereo_frame(taken, count_taken, kinds, kinds_len, spectra, spectra_len, intensities,
                                                      intensities_len, scaled, scaled_len, codes, codes_len, factors, factors_len,
                                                      side, side_len, frame, frame_len, answer, answer_len);
     int paired = number == 0 && layout[0] > 1 && layout[2] > 0 && kinds[0] == 1;
@@ -285,7 +317,10 @@ uint32_t __wrap_hca_encode_line(const uint32_t *layout, size_t layout_len, const
                                 uint32_t *answers, size_t answers_len, uint64_t *tally, size_t tally_len, uint32_t *answer,
                                 size_t answer_len)
 {
-    uint32_t number = __real_hca_encode_line(layout, layout_len, kinds, kinds_len, count, spectra, spectra_len, intensities,
+    uint32_t other[HCA_LAYOUT_FULL_COUNT];
+    const uint32_t *taken = minded(layout, layout_len, other);
+    size_t count_taken = taken == layout ? layout_len : HCA_LAYOUT_FULL_COUNT;
+    uint32_t number = __real_hca_encode_line(taken, count_taken, kinds, kinds_len, count, spectra, spectra_len, intensities,
                                              intensities_len, scaled, scaled_len, codes, codes_len, factors, factors_len, side,
                                              side_len, frames, frames_len, answers, answers_len, tally, tally_len, answer,
                                              answer_len);

@@ -53,7 +53,9 @@ static void expected_header(uint8_t *out, const struct shape *l)
     put_number(out + 22, n[2], 2);
     memcpy(out + 24, "comp", 4);
     put_number(out + 28, l->frame, 2);
-    memcpy(out + 30, "\1\17\1", 3);
+    out[30] = (uint8_t)l->minimum;
+    out[31] = (uint8_t)l->maximum;
+    out[32] = 1;
     out[33] = configurations[l->channels - 1];
     out[34] = (uint8_t)l->total;
     out[35] = (uint8_t)l->base;

@@ -15,6 +15,10 @@ int shape_of(struct shape *out, const uint32_t *layout, size_t layout_len, const
         return 0;
     if (out->frame < 8 || out->frame > 65535)
         return 0;
+    out->minimum = layout_len > 5 ? layout[5] : 1;
+    out->maximum = layout_len > 6 ? layout[6] : 15;
+    if (out->minimum < 1 || out->maximum < out->minimum || out->maximum > 15)
+        return 0;
     for (uint32_t c = 0; c < out->channels; c++) {
         if (kinds[c] > 2)
             return 0;
@@ -30,7 +34,7 @@ uint32_t coded_count(const struct shape *l, uint32_t channel) { return l->kinds[
 
 uint32_t longest_fields(const struct shape *l) { return 32 + l->channels * (1459 + 8 * 128 * 12); }
 
-uint32_t resolution(uint32_t factor, uint32_t level, uint32_t boundary, uint32_t band)
+uint32_t resolution(const struct shape *l, uint32_t factor, uint32_t level, uint32_t boundary, uint32_t band)
 {
     static const uint8_t curve[59] = {
         15, 14, 14, 14, 14, 14, 14, 13, 13, 13, 13, 13, 13, 12, 12, 12, 12, 12, 12, 11, 11, 11, 11, 11, 11, 10, 10, 10, 10, 10,
@@ -39,7 +43,8 @@ uint32_t resolution(uint32_t factor, uint32_t level, uint32_t boundary, uint32_t
         return 0;
     int noise = band < boundary ? (level == 0 ? 0 : (int)level - 1) : (int)level;
     int position = noise - (int)(5 * factor / 2) + 2;
-    return curve[position < 0 ? 0 : position > 58 ? 58 : position];
+    uint32_t r = curve[position < 0 ? 0 : position > 58 ? 58 : position];
+    return r < l->minimum ? l->minimum : r > l->maximum ? l->maximum : r;
 }
 
 int32_t code_range(uint32_t r)
@@ -87,7 +92,7 @@ enum verdict record_verdict(const struct shape *l, uint32_t level, uint32_t boun
             uint32_t factor = factors[128 * c + b];
             if (factor > 63 || (b >= coded_count(l, c) && factor != 0))
                 return ILLEGAL;
-            enum verdict v = codes_of_band(codes + 1024 * c + b, resolution(factor, level, boundary, b));
+            enum verdict v = codes_of_band(codes + 1024 * c + b, resolution(l, factor, level, boundary, b));
             if (v == ILLEGAL)
                 return ILLEGAL;
             if (v == CORNER)

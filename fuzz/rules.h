@@ -7,6 +7,7 @@
 
 struct shape {
     uint32_t channels, base, stereo, total, frame;
+    uint32_t minimum, maximum; /* of the resolution */
     uint32_t start;  /* N */
     uint32_t groups; /* G */
     uint8_t kinds[16];
@@ -15,7 +16,7 @@ struct shape {
 /* Fills the shape and says 1, or says 0: refusal 1. */
 int shape_of(struct shape *out, const uint32_t *layout, size_t layout_len, const uint8_t *kinds, size_t kinds_len);
 uint32_t coded_count(const struct shape *l, uint32_t channel);
-uint32_t resolution(uint32_t factor, uint32_t level, uint32_t boundary, uint32_t band);
+uint32_t resolution(const struct shape *l, uint32_t factor, uint32_t level, uint32_t boundary, uint32_t band);
 /* No record has more bits: 32, then for each channel 3 + 128 x 11 + 48 and 1,024 codes of 12 at most. */
 uint32_t longest_fields(const struct shape *l);
 /* The largest magnitude of a legal code. */

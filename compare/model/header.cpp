@@ -17,6 +17,8 @@ bool layout_fits(const u32 *layout, std::size_t layout_len, const u8 *kinds, std
     if (layout_len < 5 || layout[0] < 1 || layout[0] > 16 || kinds_len < layout[0]) return false;
     for (u32 c = 0; c < layout[0]; c++)
         if (kinds[c] > 2) return false;
+    u32 least = layout_len > 5 ? layout[5] : 1, most = layout_len > 6 ? layout[6] : 15;
+    if (least < 1 || most < least || most > 15) return false;
     return layout[3] >= 1 && layout[3] <= 128 && u64(layout[1]) + layout[2] <= layout[3] && layout[4] >= 8 && layout[4] <= 65535;
 }
 
@@ -61,8 +63,8 @@ extern "C" std::uint32_t model_write_header(const u32 *layout, std::size_t layou
     put(header, 22, 2, stream[2]);
     name(header, 24, "comp");
     put(header, 28, 2, layout[4]);
-    put(header, 30, 1, 1);
-    put(header, 31, 1, 15);
+    put(header, 30, 1, layout_len > 5 ? layout[5] : 1);
+    put(header, 31, 1, layout_len > 6 ? layout[6] : 15);
     put(header, 32, 1, 1);
     put(header, 33, 1, configuration[layout[0]]);
     put(header, 34, 1, layout[3]);

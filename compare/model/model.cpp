@@ -68,7 +68,7 @@ float magnitude(float f) { return of_bits(bits_of(f) & 0x7FFFFFFF); }
 
 // ------------------------------------------------------------------ layout
 struct Layout {
-    u32 channels, base, stereo, total, frame;
+    u32 channels, base, stereo, total, frame, minimum, maximum;
     u8 kind[16];
     u32 start() const { return base + stereo; }
     bool secondary(u32 c) const { return kind[c] == 2; }
@@ -88,6 +88,8 @@ bool layout_of(Layout &l, const u32 *n, std::size_t n_len, const u8 *kinds, std:
     if (l.total < 1 || l.total > 128) return false;
     if (u64(l.base) + u64(l.stereo) > u64(l.total)) return false;
     if (l.frame < 8 || l.frame > 65535) return false;
+    l.minimum = n_len > 5 ? n[5] : 1, l.maximum = n_len > 6 ? n[6] : 15;
+    if (l.minimum == 0 || l.minimum > l.maximum || l.maximum > 15) return false;
     if (kinds_len < l.channels) return false;
     for (u32 c = 0; c < l.channels; c++) {
         if (kinds[c] > 2) return false;
@@ -114,14 +116,16 @@ u32 factor_of(float v) {
     return n;
 }
 
-u32 resolution(u32 factor, u32 level, u32 boundary, u32 band) {
+u32 resolution(const Layout &l, u32 factor, u32 level, u32 boundary, u32 band) {
     if (factor == 0) return 0;
     int noise = int(level);
     if (band < boundary && noise > 0) noise -= 1;
     int at = noise - int(5 * factor / 2) + 2;
     if (at < 0) at = 0;
     if (at > 58) at = 58;
-    return CURVE[at];
+    u32 res = CURVE[at];
+    if (res > l.maximum) return l.maximum;
+    return res < l.minimum ? l.minimum : res;
 }
 
 int distance(u8 a, u8 b) { return a < b ? b - a : a - b; }
@@ -216,7 +220,7 @@ bool put_frame(const Layout &l, u32 level, u32 boundary, const u8 *factors, cons
     for (u32 f = 0; f < 8; f++)
         for (u32 c = 0; c < l.channels; c++)
             for (u32 b = 0; b < l.coded(c); b++)
-                put_code(s, codes[c * 1024 + f * 128 + b], resolution(factors[c * 128 + b], level, boundary, b));
+                put_code(s, codes[c * 1024 + f * 128 + b], resolution(l, factors[c * 128 + b], level, boundary, b));
     bits = s.place;
     if (bits > l.limit()) {
         std::memset(frame, 0, l.frame);
@@ -322,7 +326,7 @@ bool take_frame(const Layout &l, Source &s, u8 *factors, u8 *side, i32 *codes, u
     for (u32 f = 0; f < 8; f++)
         for (u32 c = 0; c < l.channels; c++)
             for (u32 b = 0; b < l.coded(c); b++) {
-                u32 res = resolution(factors[c * 128 + b], level, boundary, b);
+                u32 res = resolution(l, factors[c * 128 + b], level, boundary, b);
                 if (res > 0 && !take_code(s, res, codes[c * 1024 + f * 128 + b])) return false;
             }
     u32 bits = s.place;
@@ -342,7 +346,7 @@ bool is_legal(const Layout &l, u32 level, u32 boundary, const u8 *factors, const
         for (u32 b = 0; b < 128; b++) {
             u32 factor = factors[c * 128 + b];
             if (factor > (b < l.coded(c) ? 63u : 0u)) return false;
-            u32 res = resolution(factor, level, boundary, b);
+            u32 res = resolution(l, factor, level, boundary, b);
             i32 most = res == 0 ? 0 : largest_code(res);
             for (u32 f = 0; f < 8; f++) {
                 i32 code = codes[c * 1024 + f * 128 + b];
@@ -430,7 +434,7 @@ u32 estimate(const Work &w, u32 level, u32 boundary) {
         width_of(w.factors[c], l.coded(c), cost);
         n += cost + (l.secondary(c) ? 32 : 6 * l.groups());
         for (u32 b = 0; b < l.coded(c); b++) {
-            u32 res = resolution(w.factors[c][b], level, boundary, b);
+            u32 res = resolution(l, w.factors[c][b], level, boundary, b);
             for (u32 f = 0; f < 8; f++) n += estimated_bits(w.scaled[c][b][f], res);
         }
     }
@@ -474,7 +478,7 @@ u32 find_boundary(const Work &w, u32 level) {
 void find_codes(Work &w, u32 level, u32 boundary) {
     for (u32 c = 0; c < w.l.channels; c++)
         for (u32 b = 0; b < w.l.coded(c); b++) {
-            u32 res = resolution(w.factors[c][b], level, boundary, b);
+            u32 res = resolution(w.l, w.factors[c][b], level, boundary, b);
             i32 least = res < 8 ? -8 : -largest_code(res), most = res < 8 ? 7 : largest_code(res);
             for (u32 f = 0; f < 8 && res > 0; f++) {
                 i32 v = raw_code(w.scaled[c][b][f], res);

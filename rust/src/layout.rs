@@ -23,16 +23,17 @@ impl Kind {
 }
 
 /// A layout within the limits: 1 to 16 channels, 1 to 128 bands of which base
-/// and stereo are at most all, and a frame of 8 to 65,535 bytes.
+/// and stereo are at most all, a frame of 8 to 65,535 bytes, and resolutions from
+/// a minimum to a maximum within 1 to 15.
 #[derive(Clone, Debug, PartialEq, Eq)]
 pub struct Layout {
     kinds: Vec<Kind>,
     kind_bytes: Vec<u8>,
-    numbers: [u32; 5],
+    numbers: [u32; 7],
 }
 
 impl Layout {
-    /// Starts a layout with no channel, no band and no frame.
+    /// Starts a layout with no channel, no band and no frame, and resolutions 1 to 15.
     pub fn builder() -> LayoutBuilder {
         LayoutBuilder::default()
     }
@@ -67,6 +68,16 @@ impl Layout {
         self.numbers[4] as usize
     }
 
+    /// The lowest resolution of a band that is not silent, 1 to the maximum.
+    pub fn minimum_resolution(&self) -> usize {
+        self.numbers[5] as usize
+    }
+
+    /// The highest resolution of a band, the minimum to 15.
+    pub fn maximum_resolution(&self) -> usize {
+        self.numbers[6] as usize
+    }
+
     /// The band where high-frequency reconstruction starts.
     pub fn start(&self) -> usize {
         self.base_bands() + self.stereo_bands()
@@ -93,8 +104,9 @@ impl Layout {
         }
     }
 
-    /// The five numbers of the C interface.
-    pub fn numbers(&self) -> &[u32; 5] {
+    /// The numbers of the C interface: channels, base, stereo, total, frame size, minimum,
+    /// maximum. A later version may have more.
+    pub fn numbers(&self) -> &[u32] {
         &self.numbers
     }
 
@@ -105,13 +117,21 @@ impl Layout {
 }
 
 /// Collects a [`Layout`]; [`build`](LayoutBuilder::build) judges it.
-#[derive(Clone, Debug, Default)]
+#[derive(Clone, Debug)]
 pub struct LayoutBuilder {
     kinds: Vec<Kind>,
     base: u32,
     stereo: u32,
     total: u32,
     frame: u32,
+    minimum: u32,
+    maximum: u32,
+}
+
+impl Default for LayoutBuilder {
+    fn default() -> Self {
+        LayoutBuilder { kinds: Vec::new(), base: 0, stereo: 0, total: 0, frame: 0, minimum: 1, maximum: 15 }
+    }
 }
 
 impl LayoutBuilder {
@@ -139,6 +159,13 @@ impl LayoutBuilder {
         self
     }
 
+    /// The lowest and the highest resolution of a band that is not silent; 1 and 15 where
+    /// this is not called. A frame is read with the two that it was made with.
+    pub fn resolutions(mut self, minimum: u32, maximum: u32) -> Self {
+        (self.minimum, self.maximum) = (minimum, maximum);
+        self
+    }
+
     /// The layout, or the first limit that it breaks.
     pub fn build(self) -> Result<Layout, LayoutError> {
         if self.kinds.is_empty() || self.kinds.len() > 16 {
@@ -153,7 +180,10 @@ impl LayoutBuilder {
         if self.frame < 8 || self.frame > 65_535 {
             return Err(LayoutError::FrameSize(self.frame));
         }
-        let numbers = [self.kinds.len() as u32, self.base, self.stereo, self.total, self.frame];
+        if self.minimum < 1 || self.maximum < self.minimum || self.maximum > 15 {
+            return Err(LayoutError::Resolutions { minimum: self.minimum, maximum: self.maximum });
+        }
+        let numbers = [self.kinds.len() as u32, self.base, self.stereo, self.total, self.frame, self.minimum, self.maximum];
         let kind_bytes = self.kinds.iter().map(|k| k.byte()).collect();
         Ok(Layout { kinds: self.kinds, kind_bytes, numbers })
     }
@@ -172,6 +202,9 @@ pub enum LayoutError {
     Bands { base: u32, stereo: u32, total: u32 },
     /// So many bytes of a frame; there may be 8 to 65,535.
     FrameSize(u32),
+    /// The lowest resolution is below 1 or above the highest, or that is above 15.
+    #[allow(missing_docs)]
+    Resolutions { minimum: u32, maximum: u32 },
 }
 
 impl fmt::Display for LayoutError {
@@ -183,6 +216,9 @@ impl fmt::Display for LayoutError {
                 write!(f, "{base} base and {stereo} stereo bands are more than the {total} in total")
             }
             LayoutError::FrameSize(n) => write!(f, "a frame of {n} bytes; a frame has 8 to 65,535"),
+            LayoutError::Resolutions { minimum, maximum } => {
+                write!(f, "resolutions from {minimum} to {maximum}; they are within 1 to 15, the minimum at most the maximum")
+            }
         }
     }
 }

@@ -21,6 +21,22 @@ fn a_builder_names_the_broken_limit() {
     assert_eq!(b().frame_size(7).build(), Err(LayoutError::FrameSize(7)));
     assert_eq!(b().frame_size(65_536).build(), Err(LayoutError::FrameSize(65_536)));
     assert!(huge.to_string().contains("4294967295 base and 1 stereo"));
+    for (minimum, maximum) in [(0, 15), (1, 16), (9, 8), (16, 16), (0, 0), (257, 271), (1, u32::MAX)] {
+        let wrong = LayoutError::Resolutions { minimum, maximum };
+        assert_eq!(b().resolutions(minimum, maximum).build(), Err(wrong));
+        assert!(wrong.to_string().starts_with(&format!("resolutions from {minimum} to {maximum}; ")));
+    }
+}
+
+#[test]
+fn resolutions_have_their_defaults() {
+    let b = || Layout::builder().channel(Kind::Discrete).bands(2, 0, 2).frame_size(17);
+    let l = b().build().unwrap();
+    assert_eq!((l.minimum_resolution(), l.maximum_resolution()), (1, 15));
+    assert_eq!(b().resolutions(1, 15).build().unwrap(), l);
+    let l = b().resolutions(4, 10).build().unwrap();
+    assert_eq!((l.minimum_resolution(), l.maximum_resolution()), (4, 10));
+    assert_eq!(l.numbers(), &[1, 2, 0, 2, 17, 4, 10]);
 }
 
 #[test]
@@ -40,7 +56,7 @@ fn coded_counts() {
         .unwrap();
     assert_eq!([l.coded_count(0), l.coded_count(1), l.coded_count(2)], [30, 10, 30]);
     assert_eq!(l.kind_bytes(), [1, 2, 0]);
-    assert_eq!(l.numbers(), &[3, 10, 20, 40, 300]);
+    assert_eq!(l.numbers(), &[3, 10, 20, 40, 300, 1, 15]);
 }
 
 #[test]
@@ -297,4 +313,77 @@ fn what_is_delivered_from_its_numbers() {
     assert_eq!(Delivered::from([done.level, done.boundary, done.pairs, done.bits]), done);
     let entry = Delivered::from([511, 127, 63, u32::MAX]);
     assert_eq!((entry.level, entry.boundary, entry.pairs, entry.bits), (511, 127, 63, u32::MAX));
+}
+
+/// One Discrete channel of two bands in 17 bytes, with these resolutions.
+fn two_bands(minimum: u32, maximum: u32) -> Layout {
+    let b = Layout::builder().channel(Kind::Discrete).bands(2, 0, 2).frame_size(17);
+    b.resolutions(minimum, maximum).build().unwrap()
+}
+
+const COARSE: [u8; 17] = [0xFF, 0xFF, 0x56, 0x81, 0x3B, 0xB8, 0xE0, 0, 0, 0, 0, 0, 0, 0, 0, 0xE0, 0x26];
+const FINE: [u8; 17] = [0xFF, 0xFF, 0, 0, 0x3B, 0xB9, 0xC0, 0, 0, 0, 0, 0, 0, 0, 0, 0x2A, 0xDA];
+
+#[test]
+fn one_frame_under_three_pairs() {
+    let read = |minimum, maximum| read_frame(&two_bands(minimum, maximum), &COARSE);
+    let (record, bits) = read(1, 15).unwrap();
+    assert_eq!((record.level, record.boundary, &record.codes[..2], bits), (173, 1, &[28, 14][..], 116));
+    let (record, bits) = read(1, 8).unwrap();
+    assert_eq!((record.level, record.boundary, &record.codes[..2], bits), (173, 1, &[14, 7][..], 108));
+    assert_eq!(write_record(&two_bands(1, 8), &record).unwrap(), (COARSE.to_vec(), 108));
+    assert_eq!(read(9, 9), Err(Refusal { number: 13, place: 119 }));
+}
+
+#[test]
+fn two_loud_bands_by_their_limits() {
+    let mut spectra = [0.0; 1024];
+    (spectra[0], spectra[1], spectra[129]) = (1.0, 1.0, f32::from_bits(0xBD16_778F));
+    let encode = |minimum, maximum| {
+        let mut encoder = Encoder::new(two_bands(minimum, maximum));
+        encoder.encode_frame(&spectra, &[0; 8]).map(|done| (done, encoder))
+    };
+    let (done, encoder) = encode(1, 15).unwrap();
+    assert_eq!((done, encoder.frame()), (Delivered::from([173, 1, 0, 116]), &COARSE[..]));
+    let (done, encoder) = encode(1, 8).unwrap();
+    assert_eq!((done, encoder.frame()), (Delivered::from([0, 0, 0, 108]), &FINE[..]));
+    assert_eq!(encoder.codes()[..2], [14, 14]);
+    assert_eq!(encode(9, 15).map(|_| ()), Err(Refusal { number: 5, place: 0 }));
+}
+
+#[test]
+fn a_code_is_held_by_the_maximum() {
+    let layout = Layout::builder().channel(Kind::Discrete).bands(1, 0, 1).frame_size(20).resolutions(4, 10).build().unwrap();
+    let mut record = Record::silent(&layout);
+    (record.factors[0], record.codes[128]) = (1, 63);
+    assert!(write_record(&layout, &record).is_ok());
+    record.codes[128] = 64;
+    assert_eq!(write_record(&layout, &record), Err(Refusal { number: 15, place: 0 }));
+}
+
+#[test]
+fn a_header_has_the_pair_at_30_and_31() {
+    let stream = Stream { rate: 48_000, frames: 47, padding: 512, loop_points: None };
+    let bytes = |minimum, maximum| write_header(&two_bands(minimum, maximum), &stream).unwrap()[30..32].to_vec();
+    assert_eq!((bytes(1, 15), bytes(4, 10), bytes(9, 9)), (vec![1, 15], vec![4, 10], vec![9, 9]));
+}
+
+/// The raw calls: what is missing has its default, from the eighth number on nothing is looked at, and a wrong pair is refusal 1.
+#[test]
+fn layouts_of_five_to_nine_numbers() {
+    let read = |behind: &[u32]| {
+        let (mut factors, mut side, mut codes, mut answer) = ([9; 128], [9; 8], [9; 1024], [9; 4]);
+        let layout = [&[1, 2, 0, 2, 17], behind].concat();
+        let number = raw::read_frame(&layout, &[0], &COARSE, &mut factors, &mut side, &mut codes, &mut answer);
+        (number, factors, side, codes, answer)
+    };
+    let five = read(&[]);
+    assert_eq!((five.0, five.4), (0, [173, 1, 116, 9]));
+    for behind in [&[1][..], &[1, 15], &[1, 15, 0], &[1, 15, u32::MAX, 3]] {
+        assert_eq!(read(behind), five);
+    }
+    assert_eq!(read(&[1, 8]).4, [173, 1, 108, 9]);
+    for wrong in [[0, 15], [1, 16], [9, 8], [16, 16], [16, 15], [0, 0], [257, 271], [1, u32::MAX], [1 << 31, 15]] {
+        assert_eq!(read(&wrong), (1, [9; 128], [9; 8], [9; 1024], [0, 9, 9, 9]));
+    }
 }

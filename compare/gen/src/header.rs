@@ -1,4 +1,5 @@
 //! Calls of the header writer.
+use crate::limits::behind;
 use crate::rng::Rng;
 use crate::stage;
 use published::header::HeaderCall;
@@ -47,7 +48,15 @@ pub fn kind_of(index: u64) -> (usize, u64) {
 
 /// Case `index` of a seed.
 pub fn call(seed: u64, index: u64) -> HeaderCall {
-    let mut r = Rng::of_case(seed ^ 0x4EAD_E500, index);
+    made(Rng::of_case(seed ^ 0x4EAD_E500, index), index)
+}
+
+/// The same under a pair of limits.
+pub fn limited(seed: u64, index: u64) -> HeaderCall {
+    made(Rng::of_case(seed ^ 0x4EAD_E500, index).under(behind(seed, index)), index)
+}
+
+fn made(mut r: Rng, index: u64) -> HeaderCall {
     let (kind, nth) = kind_of(index);
     let r = &mut r;
     let mut call = any_call(r);

@@ -4,6 +4,7 @@ pub mod bands;
 pub mod convert;
 pub mod corners;
 pub mod header;
+pub mod limits;
 pub mod line;
 pub mod list;
 pub mod records;

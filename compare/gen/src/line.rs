@@ -1,5 +1,6 @@
 //! Calls of a whole line.
 use crate::bands::Class;
+use crate::limits::behind;
 use crate::rng::Rng;
 use crate::stage::{any_frame, channels, fill, fitting, layout, outside_case, plain, set_frame, shorter, worked};
 use published::driver::StageCall;
@@ -31,7 +32,15 @@ pub fn kind_of(index: u64) -> (usize, u64) {
 
 /// Case `index` of a seed.
 pub fn call(seed: u64, index: u64) -> LineCall {
-    let mut r = Rng::of_case(seed ^ 0x0A5_11AE, index);
+    made(Rng::of_case(seed ^ 0x0A5_11AE, index), index)
+}
+
+/// The same under a pair of limits.
+pub fn limited(seed: u64, index: u64) -> LineCall {
+    made(Rng::of_case(seed ^ 0x0A5_11AE, index).under(behind(seed, index)), index)
+}
+
+fn made(mut r: Rng, index: u64) -> LineCall {
     let (kind, nth) = kind_of(index);
     let r = &mut r;
     let mut call = match KINDS[kind].0 {
@@ -53,6 +62,7 @@ pub fn call(seed: u64, index: u64) -> LineCall {
     if r.chance(0.3) {
         lengthen(r, &mut call);
     }
+    r.complete(&mut call.layout);
     call
 }
 

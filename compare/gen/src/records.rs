@@ -1,10 +1,12 @@
 //! Calls of the strict reader, the record writer and the checksum.
+use crate::limits::behind;
 use crate::rng::Rng;
 use crate::stage;
-use published::driver::{stage as rust_stage, StageCall};
+use published::driver::StageCall;
 use published::hca::decoder::crc16_checksum;
-use published::hca::encoder::{calculate_resolution, QUANTIZE_SPECTRUM_BITS, QUANTIZE_SPECTRUM_VALUE};
+use published::hca::encoder::{QUANTIZE_SPECTRUM_BITS, QUANTIZE_SPECTRUM_VALUE};
 use published::hca::tables::MAX_BIT_TABLE;
+use published::limits::{resolution, stage as rust_stage};
 
 #[derive(Clone, Debug)]
 pub struct ReadCall {
@@ -54,8 +56,17 @@ pub fn kind_of(index: u64) -> (usize, u64) {
     crate::share_of(&KINDS, index)
 }
 
+/// Case `index` of a seed.
 pub fn calls(seed: u64, index: u64) -> Vec<Call> {
-    let mut r = Rng::of_case(seed ^ 0x5EC0_0D5A, index);
+    made(Rng::of_case(seed ^ 0x5EC0_0D5A, index), index)
+}
+
+/// The same under a pair of limits: records are legal under it, and frames composed by it.
+pub fn limited(seed: u64, index: u64) -> Vec<Call> {
+    made(Rng::of_case(seed ^ 0x5EC0_0D5A, index).under(behind(seed, index)), index)
+}
+
+fn made(mut r: Rng, index: u64) -> Vec<Call> {
     let (kind, nth) = kind_of(index);
     let r = &mut r;
     match KINDS[kind].0 {
@@ -121,7 +132,7 @@ impl Record {
     }
     fn resolution(&self, c: usize, b: usize) -> usize {
         let noise = if (b as u32) < self.boundary { self.level.saturating_sub(1) } else { self.level };
-        calculate_resolution(self.factors[c * 128 + b], noise as i32).into()
+        resolution(&self.layout, self.factors[c * 128 + b], noise as i32).into()
     }
     /// The largest legal magnitude of a band's codes.
     fn most(&self, c: usize, b: usize) -> i32 {
@@ -701,7 +712,7 @@ pub fn heads() -> impl Iterator<Item = ([u32; 2], ReadCall)> {
 
 fn of_stage(r: &mut Rng) -> Vec<Call> {
     let index = r.below(1 << 20) as u64;
-    let call: StageCall = stage::call(index, 0); // case 0 is of the kind with decaying spectra
+    let call: StageCall = stage::made(Rng::of_case(index, 0).under(r.behind.clone()), 0); // case 0 is of the kind with decaying spectra
     let mut out = call.lent();
     let (number, _) = rust_stage(&call, &mut out);
     if number != 0 {

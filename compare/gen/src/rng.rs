@@ -1,6 +1,10 @@
 //! xorshift64*, started by splitmix64.
 
-pub struct Rng(u64);
+pub struct Rng {
+    state: u64,
+    /// what the case's layout has behind its fifth number
+    pub behind: Vec<u32>,
+}
 
 impl Rng {
     /// The generator of one case.
@@ -8,14 +12,26 @@ impl Rng {
         let mut z = seed.wrapping_mul(0x9E37_79B9_7F4A_7C15).wrapping_add(index.wrapping_mul(0xD1B5_4A32_D192_ED03));
         z = (z ^ (z >> 30)).wrapping_mul(0xBF58_476D_1CE4_E5B9);
         z = (z ^ (z >> 27)).wrapping_mul(0x94D0_49BB_1331_11EB);
-        Rng((z ^ (z >> 31)) | 1)
+        Rng { state: (z ^ (z >> 31)) | 1, behind: Vec::new() }
+    }
+
+    /// The generator of the same case under a pair of limits.
+    pub fn under(self, behind: Vec<u32>) -> Self {
+        Rng { behind, ..self }
+    }
+
+    /// A layout as far as its frame size gets the numbers behind it.
+    pub fn complete(&self, layout: &mut Vec<u32>) {
+        if layout.len() == 5 {
+            layout.extend(&self.behind);
+        }
     }
 
     pub fn word(&mut self) -> u64 {
-        self.0 ^= self.0 << 13;
-        self.0 ^= self.0 >> 7;
-        self.0 ^= self.0 << 17;
-        self.0.wrapping_mul(0x2545_F491_4F6C_DD1D) >> 11
+        self.state ^= self.state << 13;
+        self.state ^= self.state >> 7;
+        self.state ^= self.state << 17;
+        self.state.wrapping_mul(0x2545_F491_4F6C_DD1D) >> 11
     }
 
     /// Below k.

@@ -1,9 +1,11 @@
 //! Calls of the frame stage.
 use crate::bands::{band, Class, ALL};
+use crate::limits::behind;
 use crate::rng::{ulps, Rng};
-use published::driver::{head_steps, setup, used_bits, StageCall};
-use published::hca::encoder::{calculate_resolution, hfr_source_average, quantizer_scaling, QUANTIZER_DEAD_ZONE};
+use published::driver::{head_steps, setup, StageCall};
+use published::hca::encoder::{hfr_source_average, quantizer_scaling, QUANTIZER_DEAD_ZONE};
 use published::hca::tables::DEQUANTIZER_SCALING_TABLE as TABLE;
+use published::limits::{resolution, used_bits};
 
 /// What a case is for; the share is out of 100 indices.
 pub const KINDS: [(&str, u64); 19] = [
@@ -34,10 +36,23 @@ pub fn kind_of(index: u64) -> (usize, u64) {
 
 /// Case `index` of a seed.
 pub fn call(seed: u64, index: u64) -> StageCall {
-    let mut r = Rng::of_case(seed, index);
+    made(Rng::of_case(seed, index), index)
+}
+
+/// The same under a pair of limits.
+pub fn limited(seed: u64, index: u64) -> StageCall {
+    made(Rng::of_case(seed, index).under(behind(seed, index)), index)
+}
+
+pub(crate) fn made(mut r: Rng, index: u64) -> StageCall {
     let (kind, nth) = kind_of(index);
-    let r = &mut r;
-    let mut call = match KINDS[kind].0 {
+    let mut call = of_kind(&mut r, KINDS[kind].0, nth);
+    r.complete(&mut call.layout);
+    call
+}
+
+fn of_kind(r: &mut Rng, kind: &str, nth: u64) -> StageCall {
+    let mut call = match kind {
         "decaying spectra" => spectra_case(r, Some(Class::Noise)),
         "mixed bands" => spectra_case(r, None),
         "dead zone, just fitting" => zone_case(r),
@@ -93,7 +108,9 @@ pub fn layout(r: &mut Rng, channels: usize) -> StageCall {
         1 | 2 => start,
         _ => r.range(0, start),
     };
-    StageCall::exact(&kinds, base as u32, (start - base) as u32, total as u32, 8)
+    let mut call = StageCall::exact(&kinds, base as u32, (start - base) as u32, total as u32, 8);
+    r.complete(&mut call.layout);
+    call
 }
 
 pub(crate) fn channels(r: &mut Rng) -> usize {
@@ -194,9 +211,10 @@ fn exact_zone_case(r: &mut Rng) -> StageCall {
     let n = r.range(1, 2) as usize;
     let start = r.range(1, 40) as u32;
     let mut call = StageCall::exact(&vec![0; n], start, 0, start, 8);
+    r.complete(&mut call.layout);
     let level = r.range(0, 190) as i32;
     let factor = r.range((level as i64 * 2 / 5 - 17).max(1), (level as i64 * 2 / 5 + 3).min(63)) as usize;
-    let res = calculate_resolution(factor as u8, level) as usize;
+    let res = resolution(&call.layout, factor as u8, level) as usize;
     let at = ulps(QUANTIZER_DEAD_ZONE[res], r.pick(&[0, 0, 0, -1, 1]));
     let value = scaling_to(at, factor).unwrap_or(at * TABLE[factor]);
     for c in 0..n {

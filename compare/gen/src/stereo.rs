@@ -1,5 +1,6 @@
 //! Calls of the stereo stage.
 use crate::bands::Class;
+use crate::limits::behind;
 use crate::rng::{ulps, Rng};
 use crate::speech::call_of;
 use crate::stage::{
@@ -37,10 +38,23 @@ pub fn kind_of(index: u64) -> (usize, u64) {
 
 /// Case `index` of a seed.
 pub fn call(seed: u64, index: u64) -> StageCall {
-    let mut r = Rng::of_case(seed ^ 0x57E2_E00A, index);
+    made(Rng::of_case(seed ^ 0x57E2_E00A, index), index)
+}
+
+/// The same under a pair of limits.
+pub fn limited(seed: u64, index: u64) -> StageCall {
+    made(Rng::of_case(seed ^ 0x57E2_E00A, index).under(behind(seed, index)), index)
+}
+
+fn made(mut r: Rng, index: u64) -> StageCall {
     let (kind, nth) = kind_of(index);
-    let r = &mut r;
-    let mut call = match KINDS[kind].0 {
+    let mut call = of_kind(&mut r, KINDS[kind].0, nth);
+    r.complete(&mut call.layout);
+    call
+}
+
+fn of_kind(r: &mut Rng, kind: &str, nth: u64) -> StageCall {
+    let mut call = match kind {
         "pairs of noise" => framed(r, pairs),
         "every arrangement of kinds" => framed(r, |r| arranged(r, nth)),
         "opposite signs" => framed(r, opposite),
@@ -86,7 +100,9 @@ fn with_bands(r: &mut Rng, kinds: &[u8]) -> StageCall {
     };
     let base = if r.chance(0.2) { 0 } else { r.range(0, total - 1) };
     let stereo = if r.chance(0.2) { total - base } else { r.range(1, total - base) };
-    StageCall::exact(kinds, base as u32, stereo as u32, total as u32, 8)
+    let mut call = StageCall::exact(kinds, base as u32, stereo as u32, total as u32, 8);
+    r.complete(&mut call.layout);
+    call
 }
 
 fn few_channels(r: &mut Rng) -> usize {

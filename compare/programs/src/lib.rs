@@ -2,6 +2,7 @@
 pub mod front;
 pub mod header;
 pub mod list;
+pub mod pairs;
 pub mod wav;
 
 use std::collections::BTreeMap;
@@ -18,13 +19,19 @@ pub struct Options {
     pub trace: bool,
     /// compare the model in the place of the library
     pub model: bool,
+    /// the cases under pairs of limits of the resolution
+    pub pairs: bool,
 }
+
+/// The programs that can try other limits of the resolution.
+const WITH_PAIRS: [&str; 6] =
+    ["compare-stage", "compare-stereo", "compare-line", "compare-header", "compare-records", "compare-convert"];
 
 impl Options {
     /// From the command line; `whole` and `small` are the numbers of cases.
     pub fn parse(program: &str, whole: u64, small: u64) -> Self {
         let threads = std::thread::available_parallelism().map_or(2, |n| n.get());
-        let mut o = Options { seed: 1, cases: whole, threads, only: None, trace: false, model: false };
+        let mut o = Options { seed: 1, cases: whole, threads, only: None, trace: false, model: false, pairs: false };
         let mut args = std::env::args().skip(1);
         while let Some(a) = args.next() {
             let mut number = || {
@@ -38,6 +45,7 @@ impl Options {
                 "--small" => o.cases = small,
                 "--trace" => o.trace = true,
                 "--model" => o.model = true,
+                "--pairs" if WITH_PAIRS.contains(&program) => o.pairs = true,
                 _ => usage(program, &format!("unknown option {a}")),
             }
         }
@@ -46,7 +54,10 @@ impl Options {
 }
 
 fn usage(program: &str, what: &str) -> ! {
-    eprintln!("{what}\nusage: {program} [--cases N] [--seed S] [--small] [--threads T] [--only INDEX] [--trace] [--model]");
+    let pairs = if WITH_PAIRS.contains(&program) { " [--pairs]" } else { "" };
+    eprintln!(
+        "{what}\nusage: {program} [--cases N] [--seed S] [--small] [--threads T] [--only INDEX] [--trace] [--model]{pairs}"
+    );
     std::process::exit(2)
 }
 
@@ -111,7 +122,8 @@ pub fn run(o: &Options, repro: &str, case: impl Fn(u64) -> Outcome + Sync) -> bo
     match difference {
         None => true,
         Some((k, text)) => {
-            println!("\nFIRST DIFFERENCE, {text}\nto repeat: {repro} --seed {} --only {k}", o.seed);
+            let pairs = if o.pairs { " --pairs" } else { "" };
+            println!("\nFIRST DIFFERENCE, {text}\nto repeat: {repro}{pairs} --seed {} --only {k}", o.seed);
             false
         }
     }

@@ -1,13 +1,12 @@
 //! The file header as document 02 has it, over the unchanged Rust: refusals 1, 2 and 16, which the Rust has not or has
 //! elsewhere, and its own `write_header` for the bytes.
-use crate::driver::{encoder_for, layout_fits};
-use crate::hca::encoder::HcaEncoder;
-use std::io::Cursor;
+use crate::call::layout_fits;
+use crate::limits::header_of;
 
 /// A call of the header writer: every slice with a length of its own.
 #[derive(Clone, Debug)]
 pub struct HeaderCall {
-    /// channels, base, stereo, total, frame size
+    /// channels, base, stereo, total, frame size, minimum, maximum
     pub layout: Vec<u32>,
     pub kinds: Vec<u8>,
     /// rate, count, padding
@@ -45,26 +44,11 @@ pub fn refused(call: &HeaderCall) -> Option<u32> {
     }
 }
 
-/// The Rust's header of a call that is not refused.
-pub fn by_rust(call: &HeaderCall) -> Vec<u8> {
-    let l = &call.layout;
-    let mut e = encoder_for(l[0] as usize, l[1], l[2], l[3], l[4]);
-    e.channel_config = HcaEncoder::default_channel_config(l[0], e.track_count).expect("eight channels at most");
-    e.config.sample_rate = call.stream[0] as u32;
-    e.encoder_padding = call.stream[2] as u32;
-    if let [start, end, ..] = call.points[..] {
-        (e.config.loop_start, e.config.loop_end) = (Some(start as u32), Some(end as u32));
-    }
-    let mut file = Cursor::new(Vec::new());
-    e.write_header(&mut file, call.stream[1] as u32).expect("a vector takes what is written");
-    file.into_inner()
-}
-
 /// The whole call: the refusal number (0: delivered), with `header`, which holds what is lent, as the call leaves it.
 pub fn write(call: &HeaderCall, header: &mut [u8]) -> u32 {
     if let Some(number) = refused(call) {
         return number;
     }
-    header[..96].copy_from_slice(&by_rust(call));
+    header[..96].copy_from_slice(&header_of(call));
     0
 }

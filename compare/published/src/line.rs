@@ -1,5 +1,5 @@
 //! A line as A5 has it, over as many single calls: refusals 1, 18 and 2, then each frame on its own parts.
-use crate::driver::{layout_fits, pattern_bytes, pattern_words, Lent, StageCall};
+use crate::call::{layout_fits, pattern_bytes, pattern_words, Lent, StageCall};
 
 /// The most frames of a line.
 pub const MOST: usize = 65_535;
@@ -9,7 +9,7 @@ pub const FULL: u64 = 1 << 63;
 /// A call of the line: every slice with a length of its own.
 #[derive(Clone, Debug)]
 pub struct LineCall {
-    /// channels, base, stereo, total, frame size
+    /// channels, base, stereo, total, frame size, minimum, maximum
     pub layout: Vec<u32>,
     pub kinds: Vec<u8>,
     pub count: usize,

@@ -1,8 +1,10 @@
 //! The stereo stage as A2 has it, over the unchanged Rust: refusals 1 to 4 as the stage has them, refusal 17, the Rust's
 //! own stereo step on a state, then the stage's steps on the same state.
-use crate::driver::{finish, refuse, refused_before, setup, Lent, Notes, StageCall};
+use crate::call::{refuse, refused_before, Lent, Notes, StageCall};
+use crate::driver::setup;
 use crate::hca::decoder::ChannelType;
 use crate::hca::encoder::{quantize_intensity, HcaEncoder, INTENSITY_RATIO_BOUNDS};
+use crate::limits::finish;
 
 /// The largest magnitude that is mixed.
 pub const LOUDEST: f32 = 65_536.0;
@@ -113,6 +115,7 @@ pub fn stereo_stage(call: &StageCall, out: &mut StereoLent) -> (u32, Notes, Met)
     let (e, met) = mix(call);
     out.spectra.iter_mut().zip(spectra_of(&e)).for_each(|(to, v)| *to = v);
     out.intensities.iter_mut().zip(intensities_of(&e)).for_each(|(to, v)| *to = v);
-    let (number, notes) = finish(call, e, &mut out.stage);
+    let mixed = StageCall { spectra: out.spectra.clone(), intensities: out.intensities.clone(), ..call.clone() };
+    let (number, notes) = finish(&mixed, e, &mut out.stage);
     (number, notes, met)
 }

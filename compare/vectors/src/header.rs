@@ -7,18 +7,18 @@ use std::collections::BTreeMap;
 /// The last loop point whose shift stays below 2^32.
 const LAST: u64 = 4_294_967_167;
 
-fn add(f: &mut File, name: &str, call: &HeaderCall) {
+pub fn add(f: &mut File, name: &str, call: &HeaderCall) {
     let mut header = vec![BEFORE; call.length];
     let number = write(call, &mut header);
     let mut b = Body(Vec::new());
-    b.words(&call.layout);
+    let kind = b.layout(&call.layout, 5);
     b.bytes(&call.kinds);
     b.longs(&call.stream);
     b.longs(&call.points);
     b.word(call.length as u32);
     b.word(number);
     b.bytes(&header);
-    f.add_case(5, name, &outcome(number), b);
+    f.add_case(kind, name, &outcome(number), b);
 }
 
 fn outcome(number: u32) -> String {

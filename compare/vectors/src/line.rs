@@ -1,7 +1,7 @@
 //! Cases of the line (kind 12), from as many single calls of the Rust.
 use crate::{sum, sum_words, Body, File, BEFORE};
 use gen::{line as lines, speech};
-use published::driver::stage;
+use published::limits::stage;
 use published::line::{line, LineCall, LineLent};
 
 fn outcome(number: u32, count: usize, out: &LineLent) -> String {
@@ -13,7 +13,7 @@ fn outcome(number: u32, count: usize, out: &LineLent) -> String {
     }
 }
 
-fn add(f: &mut File, name: &str, call: &LineCall) {
+pub fn add(f: &mut File, name: &str, call: &LineCall) {
     let l = &call.lengths;
     let word = u32::from_le_bytes([BEFORE; 4]);
     let mut out = LineLent {
@@ -28,7 +28,7 @@ fn add(f: &mut File, name: &str, call: &LineCall) {
     };
     let number = line(call, |single, b| stage(single, b).0, &mut out);
     let mut b = Body(Vec::new());
-    b.words(&call.layout);
+    let kind = b.layout(&call.layout, 12);
     b.bytes(&call.kinds);
     b.word(call.count as u32);
     b.runs(&call.spectra.iter().map(|v| v.to_bits()).collect::<Vec<_>>());
@@ -44,7 +44,7 @@ fn add(f: &mut File, name: &str, call: &LineCall) {
     b.word(sum(out.frames.iter().copied()));
     b.word(sum_words(out.answers.iter().copied()));
     b.longs(&out.tally);
-    f.add_case(12, name, &outcome(number, call.count, &out), b);
+    f.add_case(kind, name, &outcome(number, call.count, &out), b);
 }
 
 pub fn file() -> File {

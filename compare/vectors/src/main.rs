@@ -1,6 +1,7 @@
 //! Writes the fixed vectors of VECTORS.md: `vectors FOLDER`. With `--check FOLDER`
 //! it writes nothing and says whether the files there are these.
 mod header;
+mod limits;
 mod line;
 mod list;
 mod stereo;
@@ -8,7 +9,8 @@ mod wav;
 
 use gen::records::{calls, kind_of, Call, ReadCall, WriteCall, KINDS};
 use gen::speech;
-use published::driver::{stage, Lent, StageCall};
+use published::driver::{Lent, StageCall};
+use published::limits::stage;
 use std::path::Path;
 
 const BEFORE: u8 = 0x5A;
@@ -28,6 +30,15 @@ impl Body {
     }
     fn words(&mut self, v: &[u32]) {
         v.iter().for_each(|&w| self.word(w));
+    }
+    /// A layout of five numbers as it is; any other one with its length, and in a kind of its own.
+    fn layout(&mut self, numbers: &[u32], kind: u32) -> u32 {
+        let is_long = numbers.len() != 5;
+        if is_long {
+            self.word(numbers.len() as u32);
+        }
+        self.words(numbers);
+        kind + if is_long { 100 } else { 0 }
     }
     fn bytes(&mut self, v: &[u8]) {
         self.word(v.len() as u32);
@@ -72,7 +83,7 @@ impl File {
 
     fn add(&mut self, kind: u32, name: &str, number: u32, answer: &[u32], body: Body) {
         let outcome = match number {
-            0 => format!("delivered {:?}", &answer[..if kind == 2 || kind == 3 { 3 } else { answer.len() }]),
+            0 => format!("delivered {:?}", &answer[..if [2, 3].contains(&(kind % 100)) { 3 } else { answer.len() }]),
             n => format!("refusal {n}, {} beside it", answer[0]),
         };
         self.add_case(kind, name, &outcome, body);
@@ -99,7 +110,7 @@ impl File {
         };
         let (number, _) = stage(call, &mut out);
         let mut b = Body(Vec::new());
-        b.words(&call.layout);
+        let kind = b.layout(&call.layout, 1);
         b.bytes(&call.kinds);
         b.runs(&call.spectra.iter().map(|v| v.to_bits()).collect::<Vec<_>>());
         b.bytes(&call.intensities);
@@ -111,7 +122,7 @@ impl File {
         b.word(sum(out.factors.iter().copied()));
         b.word(sum(out.side.iter().copied()));
         b.word(sum(out.frame.iter().copied()));
-        self.add(1, name, number, &out.answer, b);
+        self.add(kind, name, number, &out.answer, b);
         (number, out)
     }
 
@@ -124,7 +135,7 @@ impl File {
         let number =
             hca_model::read_frame(&call.layout, &call.kinds, &call.frame, &mut factors, &mut side, &mut codes, &mut answer);
         let mut b = Body(Vec::new());
-        b.words(&call.layout);
+        let kind = b.layout(&call.layout, 2);
         b.bytes(&call.kinds);
         b.bytes(&call.frame);
         b.words(&l[..3].iter().map(|&n| n as u32).collect::<Vec<_>>());
@@ -133,7 +144,7 @@ impl File {
         b.word(sum(factors));
         b.word(sum(side));
         b.word(sum_words(codes.iter().map(|&v| v as u32)));
-        self.add(2, name, number, &answer, b);
+        self.add(kind, name, number, &answer, b);
     }
 
     fn add_write(&mut self, name: &str, call: &WriteCall) {
@@ -151,7 +162,7 @@ impl File {
             &mut answer,
         );
         let mut b = Body(Vec::new());
-        b.words(&call.layout);
+        let kind = b.layout(&call.layout, 3);
         b.bytes(&call.kinds);
         b.words(&call.record[..2]);
         b.bytes(&call.factors);
@@ -161,7 +172,7 @@ impl File {
         b.word(number);
         b.words(&answer);
         b.word(sum(frame));
-        self.add(3, name, number, &answer, b);
+        self.add(kind, name, number, &answer, b);
     }
 
     fn add_check(&mut self, name: &str, bytes: &[u8]) {
@@ -285,6 +296,7 @@ fn main() {
         ("wav", wav::file()),
         ("stereo", stereo::file()),
         ("line", line::file()),
+        ("limits", limits::file()),
     ];
     for (name, file) in files {
         let bytes = file.finish();

@@ -6,7 +6,7 @@ use published::driver::{Lent, StageCall};
 use published::hca::encoder::INTENSITY_RATIO_BOUNDS;
 use published::stereo::{stereo_stage, StereoLent, LOUDEST};
 
-fn add(f: &mut File, name: &str, call: &StageCall) {
+pub fn add(f: &mut File, name: &str, call: &StageCall) {
     let l = &call.lengths;
     let word = u32::from_le_bytes([BEFORE; 4]);
     let stage = Lent {
@@ -20,7 +20,7 @@ fn add(f: &mut File, name: &str, call: &StageCall) {
     let mut out = StereoLent { spectra: call.spectra.clone(), intensities: call.intensities.clone(), stage };
     let (number, _, _) = stereo_stage(call, &mut out);
     let mut b = Body(Vec::new());
-    b.words(&call.layout);
+    let kind = b.layout(&call.layout, 11);
     b.bytes(&call.kinds);
     b.runs(&call.spectra.iter().map(|v| v.to_bits()).collect::<Vec<_>>());
     b.bytes(&call.intensities);
@@ -34,7 +34,7 @@ fn add(f: &mut File, name: &str, call: &StageCall) {
     b.word(sum(out.stage.factors));
     b.word(sum(out.stage.side));
     b.word(sum(out.stage.frame));
-    f.add(11, name, number, &out.stage.answer, b);
+    f.add(kind, name, number, &out.stage.answer, b);
 }
 
 /// One mixed band; in each subframe the energies have this stored value, since they add up to 1.

@@ -9,16 +9,17 @@ use lib.ListN.{getD}
 use Rattle.buffers.proofs.Scan.{sum-none, sum-more}
 use Rattle.rules.specs.Resolution.{noiseAt, resolution, resolutionAt}
 use Rattle.rules.specs.Estimate.{bandBits, channelBits}
+use Rattle.rules.specs.declared.Layout.{Layout}
 
-module _ (sc : List Float) (fs : List ℕ) (level : ℕ) where
-  pub no-band : channelBits sc fs 0 level 0 ≡ 0
+module _ (l : Layout) (sc : List Float) (fs : List ℕ) (level : ℕ) where
+  pub no-band : channelBits l sc fs 0 level 0 ≡ 0
   unfolding channelBits
   no-band = sum-none _
 
-  pub one-band-more : (b : ℕ) → channelBits sc fs (b + 1) level 0 ≡ channelBits sc fs b level 0 + bandBits sc b (resolution level (getD fs b 0))
+  pub one-band-more : (b : ℕ) → channelBits l sc fs (b + 1) level 0 ≡ channelBits l sc fs b level 0 + bandBits sc b (resolution l level (getD fs b 0))
   unfolding channelBits resolutionAt noiseAt
   one-band-more b = sum-more _ b ∙ rw (le-ltb b 0 zero-le)
 
   -- what is counted from the first band on
-  pub from-first : (r y : ℕ) → channelBits sc fs 0 level 0 + r ≡ y → r ≡ y
+  pub from-first : (r y : ℕ) → channelBits l sc fs 0 level 0 + r ≡ y → r ≡ y
   from-first r y e = omega (arith, no-band, e)

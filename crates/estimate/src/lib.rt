@@ -20,6 +20,7 @@ use rules::Layout;
 
 // A band's count at the resolution of a factor at a noise. A removed band's resolution is 0, and its count is 0.
 pub fn band_bits(
+    layout: Layout,
     curve: &[u8; 688],
     scaled: &[f32],
     counts: &[i32],
@@ -27,16 +28,17 @@ pub fn band_bits(
     factor: u8,
     noise: usize,
 ) -> usize
-    requires { ⌜ IsStretched (now curve) × BandCounted (now scaled) (now counts) band ⌝ }
+    requires { ⌜ IsStretched layout (now curve) × BandCounted (now scaled) (now counts) band ⌝ }
     requires { ⌜ (length (now counts) ≡ 1024) × (band < 128) × (factor ≤ 63) × (noise ≤ 254) ⌝ }
-    ensures { λ r. ⌜ (r ≡ bandBits (now (scaled .entry)) band (resolution noise factor)) × (r ≤ 96) ⌝ }
+    ensures { λ r. ⌜ (r ≡ bandBits (now (scaled .entry)) band (resolution layout noise factor)) × (r ≤ 96) ⌝ }
 {
-    let r = read_curve(curve, factor, noise) as usize;
+    let r = read_curve(layout, curve, factor, noise) as usize;
     taken(counts[band * 8 + r % 8], r)
 }
 
 // A channel's bands from `from` on and below `to`, at one noise.
 pub fn channel_bits(
+    layout: Layout,
     curve: &[u8; 688],
     scaled: &[f32],
     counts: &[i32],
@@ -45,15 +47,15 @@ pub fn channel_bits(
     to: usize,
     noise: usize,
 ) -> usize
-    requires { ⌜ IsStretched (now curve) × ChannelCounted (now scaled) to (now counts) × AtMost 63 (now factors) ⌝ }
+    requires { ⌜ IsStretched layout (now curve) × ChannelCounted (now scaled) to (now counts) × AtMost 63 (now factors) ⌝ }
     requires { ⌜ (length (now counts) ≡ 1024) × (length (now factors) ≡ 128) × (from ≤ to) × (to ≤ 128) × (noise ≤ 254) ⌝ }
-    ensures { λ r. ⌜ (channelBits (now (scaled .entry)) (now (factors .entry)) from noise 0 + r
-        ≡ channelBits (now (scaled .entry)) (now (factors .entry)) to noise 0) × (r + 96 * from ≤ 96 * to) ⌝ }
+    ensures { λ r. ⌜ (channelBits layout (now (scaled .entry)) (now (factors .entry)) from noise 0 + r
+        ≡ channelBits layout (now (scaled .entry)) (now (factors .entry)) to noise 0) × (r + 96 * from ≤ 96 * to) ⌝ }
 {
     let mut sum: usize = 0;
     let mut b = from;
     while b < to {
-        sum += band_bits(curve, scaled, counts, b, factors[b], noise);
+        sum += band_bits(layout, curve, scaled, counts, b, factors[b], noise);
         b += 1;
     }
     sum
@@ -69,7 +71,7 @@ fn spectral_total(
     level: usize,
 ) -> usize
     requires { ⌜ LegalLayout layout ⌝ }
-    requires { ⌜ IsStretched (now curve) × Counted layout (now scaled) (now counts) × AtMost 63 (now factors) ⌝ }
+    requires { ⌜ IsStretched layout (now curve) × Counted layout (now scaled) (now counts) × AtMost 63 (now factors) ⌝ }
     requires { ⌜ (length (now scaled) ≡ spectrumLength layout) × (length (now factors) ≡ factorLength layout) × (level ≤ 254) ⌝ }
     ensures { λ r. ⌜ (r ≡ spectralBits layout (now (scaled .entry)) (now (factors .entry)) level 0) × (r ≤ 196608) ⌝ }
 {
@@ -81,6 +83,7 @@ fn spectral_total(
         let a = c * 1024;
         let f = c * 128;
         sum += channel_bits(
+            layout,
             curve,
             &scaled[a..a + 1024],
             &counts[a..a + 1024],
@@ -105,7 +108,7 @@ pub fn calculate_used_bits(
     level: usize,
 ) -> usize
     requires { ⌜ LegalLayout layout ⌝ }
-    requires { ⌜ IsStretched (now curve) × Counted layout (now scaled) (now counts) × AtMost 63 (now factors) ⌝ }
+    requires { ⌜ IsStretched layout (now curve) × Counted layout (now scaled) (now counts) × AtMost 63 (now factors) ⌝ }
     requires { ⌜ (length (now scaled) ≡ spectrumLength layout) × (length (now factors) ≡ factorLength layout) ⌝ }
     requires { ⌜ (fixed ≡ fixedBits layout (now factors)) × (fixed ≤ 13152) × (level ≤ 254) ⌝ }
     ensures { λ r. ⌜ r ≡ usedBits layout (now (scaled .entry)) (now (factors .entry)) level 0 ⌝ }

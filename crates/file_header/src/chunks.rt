@@ -15,10 +15,6 @@ use rules_files::header::Stream;
 
 const CHANNEL_MAPPING: [u8; 9] = [0, 1, 0, 4, 0, 1, 3, 7, 3];
 
-const MIN_RESOLUTION: u64 = 1;
-
-const MAX_RESOLUTION: u64 = 15;
-
 // The channel configuration of one track.
 fn channel_config(channels: usize) -> u8
     requires { ⌜ channels ≤ 8 ⌝ }
@@ -57,8 +53,8 @@ pub fn put_frame(layout: Layout, header: &mut [u8])
 {
     put_high(header, 24, 4, 0x636F_6D70);
     put_high(header, 28, 2, layout.frame_size as u64);
-    put_high(header, 30, 1, MIN_RESOLUTION);
-    put_high(header, 31, 1, MAX_RESOLUTION);
+    put_high(header, 30, 1, layout.minimum as u64);
+    put_high(header, 31, 1, layout.maximum as u64);
     put_high(header, 32, 1, 1);
 }
 

@@ -1,8 +1,9 @@
 -- When two slices name a layout. Assumes nothing.
-use mathlib.Core.Path.{_≡_}
-use mathlib.Core.List.{List}
+use mathlib.Core.Path.{_≡_, refl}
+use mathlib.Core.List.{List, [], _∷_}
 use mathlib.Core.Bool.{true, false}
-use Prim.Native.Nat.{ℕ, _≤_, _<_}
+use Prim.Native.Nat.{ℕ, zero, suc, _≤_, _<_}
+use native.Mathlib.Nat.{not-suc-le-zero, le-of-suc-le-suc}
 use borrow.Author.Tests.{le-leb, lt-leb, leb-true}
 use lib.Dec.{leb}
 use lib.ListN.{length, getD}
@@ -10,6 +11,12 @@ use Rattle.buffers.specs.Walk.{first}
 use Rattle.buffers.proofs.Tests.{and-fst}
 use Rattle.rules.specs.Layout.{legalLayout}
 use Rattle.hca_layout.specs.Layouts.{layoutOf, badKind, isLayout}
+
+-- of a lent number the default is not looked at
+pub either-default : (numbers : List ℕ) (i d d′ : ℕ) → i < length numbers → getD numbers i d ≡ getD numbers i d′
+either-default [] i d d′ h = absurd (not-suc-le-zero h)
+either-default (n ∷ numbers) zero d d′ h = refl
+either-default (n ∷ numbers) (suc i) d d′ h = either-default numbers i d d′ (le-of-suc-le-suc h)
 
 module _ (numbers kinds : List ℕ) where
   pub named-few : length numbers < 5 → false ≡ isLayout numbers kinds

@@ -18,7 +18,7 @@ channelOf k = record { kind = cond (eqb k 2) StereoSecondary (cond (eqb k 1) Ste
 abbrev pub channelAt : (kinds : List ℕ) (channel : ℕ) → Channel
 channelAt kinds channel = channelOf (getD kinds channel 0)
 
--- channels, base, stereo, total, frame size; later numbers are not looked at
+-- channels, base, stereo, total, frame size; then minimum and maximum, 1 and 15 where they are not lent; later numbers are not looked at
 unfoldable pub layoutOf : (numbers kinds : List ℕ) → Layout
 layoutOf numbers kinds = record {
   channels = getD numbers 0 0;
@@ -27,6 +27,8 @@ layoutOf numbers kinds = record {
   stereo = getD numbers 2 0;
   total = getD numbers 3 0;
   «frame_size» = getD numbers 4 0;
+  minimum = getD numbers 5 1;
+  maximum = getD numbers 6 15;
 }
 
 unfoldable pub badKind : (kinds : List ℕ) (channel : ℕ) → Bool

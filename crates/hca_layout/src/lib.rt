@@ -1,7 +1,7 @@
-// A layout from two slices: its five numbers, and a kind for each channel.
+// A layout from two slices: its five to seven numbers, and a kind for each channel.
 ghost use mathlib.Core.Path.{_≡_};
 ghost use Prim.Native.Nat.{_≤_};
-ghost use lib.ListN.{length};
+ghost use lib.ListN.{length, getD};
 ghost use Rattle.buffers.specs.Walk.{first, build};
 ghost use Rattle.hca_layout.specs.Layouts.{channelOf, channelAt, layoutOf, badKind, isLayout};
 use rules::Channel;
@@ -73,6 +73,16 @@ pub fn wide(n: u32) -> usize
     n as usize
 }
 
+// A number past the lent ones has its default.
+fn number_or(layout: &[u32], i: usize, default: u32) -> usize
+    ensures { λ r. ⌜ r ≡ getD (now (layout .entry)) i default ⌝ }
+{
+    if i < layout.len() {
+        return wide(layout[i]);
+    }
+    wide(default)
+}
+
 // Five numbers, a kind of 0 to 2 for each channel, and a layout within its limits?
 pub fn is_layout(layout: &[u32], kinds: &[u8]) -> bool
     ensures { λ r. ⌜ r ≡ isLayout (now (layout .entry)) (now (kinds .entry)) ⌝ }
@@ -100,6 +110,8 @@ pub fn layout_of(layout: &[u32], kinds: &[u8]) -> Layout
     let stereo = wide(layout[2]);
     let total = wide(layout[3]);
     let frame_size = wide(layout[4]);
+    let minimum = number_or(layout, 5, 1);
+    let maximum = number_or(layout, 6, 15);
     let kinds = channels_of(kinds);
     Layout {
         channels,
@@ -108,5 +120,7 @@ pub fn layout_of(layout: &[u32], kinds: &[u8]) -> Layout
         stereo,
         total,
         frame_size,
+        minimum,
+        maximum,
     }
 }

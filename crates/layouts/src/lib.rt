@@ -2,13 +2,29 @@
 ghost use mathlib.Core.Path.{_≡_};
 ghost use mathlib.Core.Bool.{true, false};
 ghost use Prim.Native.Nat.{_+_, _-_, _≤_, _<_};
-ghost use Rattle.rules.specs.Layout.{legalLayout, LegalLayout, secondaryAt, codedCountAt, startBand, bandsPerGroup, groupCount, kindAt, sideCountAt, sideWidth};
-ghost use Rattle.rules.specs.Layout.{hasRoom};
+ghost use Rattle.rules.specs.Layout.{legalPair, legalLayout, LegalLayout, secondaryAt, codedCountAt, startBand};
+ghost use Rattle.rules.specs.Layout.{bandsPerGroup, groupCount, kindAt, sideCountAt, sideWidth, hasRoom};
 use rules::ChannelType;
 use rules::Layout;
 use rules::Room;
 
-// Is the layout within document 01's limits?
+// 1 to 15, the lowest resolution not above the highest?
+fn legal_pair(minimum: usize, maximum: usize) -> bool
+    ensures { λ r. ⌜ r ≡ legalPair minimum maximum ⌝ }
+{
+    if minimum < 1 {
+        return false;
+    }
+    if maximum < minimum {
+        return false;
+    }
+    if 15 < maximum {
+        return false;
+    }
+    true
+}
+
+// Is the layout within its limits?
 pub fn legal(layout: Layout) -> bool
     ensures { λ r. ⌜ r ≡ legalLayout layout ⌝ }
 {
@@ -41,7 +57,7 @@ pub fn legal(layout: Layout) -> bool
     if 65535 < size {
         return false;
     }
-    true
+    legal_pair(layout.minimum, layout.maximum)
 }
 
 pub fn is_secondary(layout: Layout, channel: usize) -> bool

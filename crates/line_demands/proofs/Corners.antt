@@ -36,7 +36,16 @@ batch-row = refl
 
 -- two channels, ten bytes a frame
 abbrev two : (channels : ℕ) → Layout
-two channels = record { channels = channels; kinds = replicate 16 (record { kind = Discrete }); base = 1; stereo = 0; total = 1; «frame_size» = 10 }
+two channels = record {
+  channels = channels;
+  kinds = replicate 16 (record { kind = Discrete });
+  base = 1;
+  stereo = 0;
+  total = 1;
+  «frame_size» = 10;
+  minimum = 1;
+  maximum = 15;
+}
 
 abbrev lengths : (spectra intensities scaled factors side codes frames : ℕ) → StageRoom
 lengths spectra intensities scaled factors side codes frames = stageRoomOf spectra intensities scaled (roomOf factors side codes frames)

@@ -93,7 +93,7 @@ module _ (l : Layout) (rs : List ℕ) (scaled : List Float) where
 
 module _ (l : Layout) (level boundary : ℕ) (F : List ℕ) where
   pub made-blank : Blank l (allResolutions l level boundary F)
-  made-blank c b hc h hb = rw (resolutions-part l level boundary F c hc) (blank-band level boundary (part 128 F c) (codedCountAt l c) b hb h)
+  made-blank c b hc h hb = rw (resolutions-part l level boundary F c hc) (blank-band l level boundary (part 128 F c) (codedCountAt l c) b hb h)
 
   pub legal-ranged : (S : List ℕ) (C : List ℤ) → legalRecord l level boundary F S C ≡ true → AllRanged l (allResolutions l level boundary F) C
   unfolding legalRecord legalChannels legalChannel legalCodes legalSubframe

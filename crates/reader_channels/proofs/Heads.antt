@@ -36,17 +36,18 @@ codes-last : (level boundary : ℕ) (chans : List Chan) (x : Read Codes)
 codes-last level boundary chans (ok cs t) = refl
 codes-last level boundary chans (bad n k) = refl
 
-channels-last : (level boundary : ℕ) (x : Read (List Chan))
+channels-last : (l : Layout) (level boundary : ℕ) (x : Read (List Chan))
     → andThen {A = Rec} {B = ℕ × (ℕ × (List Chan × Codes))}
     (andThen {A = ℕ × (ℕ × (List Chan × Codes))} {B = ℕ × (List Chan × Codes)}
     (andThen {A = ℕ × (List Chan × Codes)} {B = List Chan × Codes}
-    (andThen {A = List Chan × Codes} x (λ chans. each (λ _. each (each readCode) (resolutions level boundary chans)) (times 8) >>= λ cs. pure (chans, cs)))
+    (andThen {A = List Chan × Codes} x (λ chans. each (λ _. each (each readCode) (resolutions l level boundary chans)) (times 8) >>= λ cs. pure (chans, cs)))
     (λ y. pure (boundary, y)))
     (λ y. pure (level, y)))
     (λ y. pure (record { level = y .0; boundary = y .1 .0; chans = y .1 .1 .0; codes = y .1 .1 .1 }))
-    ≡ andThen {A = Rec} x (codesThen level boundary)
-channels-last level boundary (ok chans t) = codes-last level boundary chans (each (λ _. each (each readCode) (resolutions level boundary chans)) (times 8) t)
-channels-last level boundary (bad n k) = refl
+    ≡ andThen {A = Rec} x (codesThen l level boundary)
+channels-last l level boundary (ok chans t) =
+    codes-last level boundary chans (each (λ _. each (each readCode) (resolutions l level boundary chans)) (times 8) t)
+channels-last l level boundary (bad n k) = refl
 
 -- LEVEL AND BOUNDARY
 module _ (l : Layout) (s : List ℕ) where
@@ -69,7 +70,7 @@ module _ (l : Layout) (s : List ℕ) where
     started {b} {p} i =
         let t = number-read s (q .at) 7 i in
         record {
-          is = rw (level-read .is, t .is) (channels-last v b (each (readChannel l) (kindsOf l) (leftAt s (p .at))));
+          is = rw (level-read .is, t .is) (channels-last l v b (each (readChannel l) (kindsOf l) (leftAt s (p .at))));
           within = t .within;
           holds = omega (arith, level-read .small);
         }

@@ -11,5 +11,5 @@ use Rattle.reader_channels.specs.Answers.{Rows}
 -- factors and side values lie in their buffers
 abbrev pub Headed : (l : Layout) (s F S : List ℕ) (r : Head) → Type 0
 Headed l s F S r =
-    HeadAgrees l s (λ level boundary. codesThen level boundary (build (chanOf l F S) (l .channels)))
+    HeadAgrees l s (λ level boundary. codesThen l level boundary (build (chanOf l F S) (l .channels)))
     (λ level _. (level ≤ 511) × Rows l F S (l .channels)) r

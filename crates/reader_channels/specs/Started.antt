@@ -37,13 +37,13 @@ pub record HeadAgrees (l : Layout) (s : List ℕ) (rest : (level boundary : ℕ)
   pub holds : ifHead r P
 
 -- the codes after a header; the channels, and the codes after them
-abbrev pub codesThen : (level boundary : ℕ) (chans : List Chan) → Reader Rec
-codesThen level boundary chans =
-    each (λ _. each (each readCode) (resolutions level boundary chans)) (times 8)
+abbrev pub codesThen : (l : Layout) (level boundary : ℕ) (chans : List Chan) → Reader Rec
+codesThen l level boundary chans =
+    each (λ _. each (each readCode) (resolutions l level boundary chans)) (times 8)
     >>= λ codes. pure (record { level = level; boundary = boundary; chans = chans; codes = codes })
 
 abbrev pub channelsThen : (l : Layout) (level boundary : ℕ) → Reader Rec
-channelsThen l level boundary = each (readChannel l) (kindsOf l) >>= codesThen level boundary
+channelsThen l level boundary = each (readChannel l) (kindsOf l) >>= codesThen l level boundary
 
 -- LEVEL AND BOUNDARY were read
 abbrev pub Started : (l : Layout) (s : List ℕ) (r : Head) → Type 0

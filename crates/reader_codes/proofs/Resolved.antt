@@ -17,7 +17,7 @@ use Rattle.reader_codes.specs.Rows.{codedRows}
 module _ (l : Layout) (level boundary : ℕ) (factors side : List ℕ) where
   -- the resolutions that the codes are read by are those of the record in the buffers
   pub coded-rows : LegalLayout l → length factors ≡ factorLength l
-      → codedRows l (allResolutions l level boundary factors) ≡ resolutions level boundary (build (chanOf l factors side) (l .channels))
+      → codedRows l (allResolutions l level boundary factors) ≡ resolutions l level boundary (build (chanOf l factors side) (l .channels))
   unfolding codedRows
   coded-rows z e = resolutions-are l level boundary factors side z e
 

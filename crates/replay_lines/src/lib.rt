@@ -60,6 +60,8 @@ fn voice() -> Layout {
         stereo: 0,
         total: 100,
         frame_size: 170,
+        minimum: 1,
+        maximum: 15,
     }
 }
 

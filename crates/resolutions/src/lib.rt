@@ -29,13 +29,13 @@ fn held_position(noise: usize, factor: u8) -> usize
     held(position, 0, 58) as usize
 }
 
-fn larger(a: u8, b: u8) -> u8
+pub(crate) fn larger(a: u8, b: u8) -> u8
     ensures { λ r. ⌜ r ≡ max a b ⌝ }
 {
     if a < b { b } else { a }
 }
 
-fn smaller(a: u8, b: u8) -> u8
+pub(crate) fn smaller(a: u8, b: u8) -> u8
     ensures { λ r. ⌜ r ≡ min a b ⌝ }
 {
     if b < a { b } else { a }
@@ -52,37 +52,48 @@ fn resolution_in(lowest: u8, highest: u8, noise: usize, factor: u8) -> u8
     smaller(larger(curve(at), lowest), highest)
 }
 
-pub fn calculate_resolution(factor: u8, noise: usize) -> u8
-    requires { ⌜ noise ≤ 511 ⌝ }
-    ensures { λ r. ⌜ (r ≡ resolution noise factor) × (r ≤ 15) ⌝ }
+// Within the layout's pair.
+pub fn calculate_resolution(layout: Layout, factor: u8, noise: usize) -> u8
+    requires { ⌜ LegalLayout layout × (noise ≤ 511) ⌝ }
+    ensures { λ r. ⌜ (r ≡ resolution layout noise factor) × (r ≤ 15) ⌝ }
 {
-    resolution_in(1, 15, noise, factor)
+    let lowest = layout.minimum as u8;
+    let highest = layout.maximum as u8;
+    resolution_in(lowest, highest, noise, factor)
 }
 
-fn band_resolution(level: usize, boundary: usize, factor: u8, coded: usize, band: usize) -> u8
-    requires { ⌜ level ≤ 511 ⌝ }
-    ensures { λ r. ⌜ (r ≡ cond (ltb band coded) (resolution (noiseAt level boundary band) factor) 0) × (r ≤ 15) ⌝ }
+fn band_resolution(
+    layout: Layout,
+    level: usize,
+    boundary: usize,
+    factor: u8,
+    coded: usize,
+    band: usize,
+) -> u8
+    requires { ⌜ LegalLayout layout × (level ≤ 511) ⌝ }
+    ensures { λ r. ⌜ (r ≡ cond (ltb band coded) (resolution layout (noiseAt level boundary band) factor) 0) × (r ≤ 15) ⌝ }
 {
     if band < coded {
-        return calculate_resolution(factor, noise_at(level, boundary, band));
+        return calculate_resolution(layout, factor, noise_at(level, boundary, band));
     }
     0
 }
 
 fn channel_resolutions(
+    layout: Layout,
     level: usize,
     boundary: usize,
     factors: &[u8],
     coded: usize,
     resolutions: &mut [u8],
 )
-    requires { ⌜ level ≤ 511 ⌝ }
+    requires { ⌜ LegalLayout layout × (level ≤ 511) ⌝ }
     requires { ⌜ (length (now factors) ≡ 128) × (length (now resolutions) ≡ 128) ⌝ }
-    ensures { λ r. ⌜ now (resolutions .exit) ≡ channelResolutions level boundary (now (factors .entry)) coded ⌝ }
+    ensures { λ r. ⌜ now (resolutions .exit) ≡ channelResolutions layout level boundary (now (factors .entry)) coded ⌝ }
 {
     let mut b = 0;
     while b < 128 {
-        resolutions[b] = band_resolution(level, boundary, factors[b], coded, b);
+        resolutions[b] = band_resolution(layout, level, boundary, factors[b], coded, b);
         b += 1;
     }
 }
@@ -105,6 +116,7 @@ pub fn calculate_frame_resolutions(
         let at = c * 128;
         let coded = coded_count(layout, c);
         channel_resolutions(
+            layout,
             level,
             boundary,
             &factors[at..at + 128],

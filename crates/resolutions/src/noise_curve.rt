@@ -2,11 +2,15 @@
 ghost use mathlib.Core.Path.{_≡_};
 ghost use Prim.Native.Nat.{_*_, _≤_};
 ghost use lib.ListN.{getD, take, drop};
+ghost use Rattle.rules.specs.Layout.{LegalLayout};
 ghost use Rattle.rules.specs.Tables.{resolutionCurve};
 ghost use Rattle.rules.specs.Resolution.{noiseAt, resolution};
 ghost use Rattle.quantizer.specs.SixteenInOne.{sixteenInOne};
-ghost use Rattle.resolutions.specs.Stretched.{IsStretched, placeOf};
+ghost use Rattle.resolutions.specs.Stretched.{IsPlain, IsStretched, placeOf};
+use crate::larger;
+use crate::smaller;
 use quantizer::tables::row_entry;
+use rules::Layout;
 
 mod stretched;
 
@@ -42,11 +46,41 @@ pub fn curve(at: usize) -> u8
     row_entry(curve_row(at / 16), at % 16) as u8
 }
 
-// The curve, stretched, with its rule. It is taken once and lent down.
-pub fn curve_table() -> [u8; 688]
-    ensures { λ t. ⌜ IsStretched t ⌝ }
+// The curve, stretched, with its rule.
+fn plain_curve() -> [u8; 688]
+    ensures { λ t. ⌜ IsPlain t ⌝ }
 {
     stretched::STRETCHED
+}
+
+// Within the layout's pair, and a removed band's zeros behind.
+fn held_curve(layout: Layout) -> [u8; 688]
+    requires { ⌜ LegalLayout layout ⌝ }
+    ensures { λ t. ⌜ IsStretched layout t ⌝ }
+{
+    let lowest = layout.minimum as u8;
+    let highest = layout.maximum as u8;
+    let plain = plain_curve();
+    let mut table = [0u8; 688];
+    let mut i = 0;
+    while i < 416 {
+        table[i] = smaller(larger(plain[i], lowest), highest);
+        i += 1;
+    }
+    table
+}
+
+// A call's curve. It is taken once and lent down. 1 and 15, which most layouts have, hold no entry: these need no walk.
+pub fn curve_table(layout: Layout) -> [u8; 688]
+    requires { ⌜ LegalLayout layout ⌝ }
+    ensures { λ t. ⌜ IsStretched layout t ⌝ }
+{
+    if layout.minimum == 1 {
+        if layout.maximum == 15 {
+            return plain_curve();
+        }
+    }
+    held_curve(layout)
 }
 
 // Where a factor stands on it at noise 0.
@@ -58,10 +92,10 @@ pub fn place_of(factor: u8) -> usize
     if factor == 0 { 417 } else { 159 - down }
 }
 
-// The resolution of a factor at a noise: one entry.
-pub fn read_curve(curve: &[u8; 688], factor: u8, noise: usize) -> u8
-    requires { ⌜ IsStretched (now curve) × (factor ≤ 63) × (noise ≤ 254) ⌝ }
-    ensures { λ r. ⌜ (r ≡ resolution noise factor) × (r ≤ 15) ⌝ }
+// The resolution of a factor at a noise: one entry. The layout stands for the pair that the curve is held by.
+pub fn read_curve(layout: Layout, curve: &[u8; 688], factor: u8, noise: usize) -> u8
+    requires { ⌜ IsStretched layout (now curve) × (factor ≤ 63) × (noise ≤ 254) ⌝ }
+    ensures { λ r. ⌜ (r ≡ resolution layout noise factor) × (r ≤ 15) ⌝ }
 {
     curve[place_of(factor) + noise]
 }

@@ -28,7 +28,16 @@ use Rattle.rules.specs.declared.Layout.{Layout}
 
 -- n Discrete channels with b coded bands and no others, F = 8
 abbrev flat : ℕ → ℕ → Layout
-flat n b = record { channels = n; kinds = replicate n (record { kind = Discrete }); base = b; stereo = 0; total = b; «frame_size» = 8 }
+flat n b = record {
+  channels = n;
+  kinds = replicate n (record { kind = Discrete });
+  base = b;
+  stereo = 0;
+  total = b;
+  «frame_size» = 8;
+  minimum = 1;
+  maximum = 15;
+}
 
 -- n silent channels of one band, with this head
 abbrev headed : (level boundary n : ℕ) → Rec
@@ -60,6 +69,8 @@ pair = record {
   stereo = 1;
   total = 15;
   «frame_size» = 48;
+  minimum = 1;
+  maximum = 15;
 }
 
 abbrev loud : Rec

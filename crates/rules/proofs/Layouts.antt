@@ -7,7 +7,8 @@ use native.Mathlib.Omega.{arith}
 use borrow.Author.Tests.{le-leb, leb-true, eqb-false, ne-eqb}
 use lib.Dec.{leb, eqb}
 use Rattle.buffers.proofs.Tests.{and-fst, and-snd, not-true-false, cond-bound}
-use Rattle.rules.specs.Layout.{legalLayout, LegalLayout, frameSize, kindAt, isSecondary, startBand, hfrBands, ceilDiv, bandsPerGroup, groupCount}
+use Rattle.rules.specs.Layout.{legalPair, legalLayout, LegalLayout, frameSize, kindAt, isSecondary, startBand, hfrBands, ceilDiv, bandsPerGroup}
+use Rattle.rules.specs.Layout.{groupCount}
 use Rattle.rules.specs.Layout.{codedCountAt, sideCountAt, spectrumLength, factorLength, sideLength, hasRoom, HasRoom}
 use Rattle.rules.specs.declared.Layout.{Layout}
 use Rattle.rules.specs.declared.Room.{Room}
@@ -23,6 +24,9 @@ legal-true l h =
       le-leb _ _ (h .start),
       le-leb _ _ (h .small),
       le-leb _ _ (h .large),
+      le-leb _ _ (h .lowest),
+      le-leb _ _ (h .paired),
+      le-leb _ _ (h .highest),
     )
 
 pub legal-sizes : (l : Layout) → legalLayout l ≡ true → LegalLayout l
@@ -33,6 +37,9 @@ legal-sizes l e₁ =
     let e₄ = and-snd (leb 1 (l .total)) _ e₃ in
     let e₅ = and-snd (leb (l .total) 128) _ e₄ in
     let e₆ = and-snd (leb (startBand l) (l .total)) _ e₅ in
+    let e₇ = and-snd (leb 8 (frameSize l)) _ e₆ in
+    let e₈ = and-snd (leb (frameSize l) 65535) _ e₇ in
+    let e₉ = and-snd (leb 1 (l .minimum)) _ e₈ in
     record {
       some = leb-true _ _ (and-fst (leb 1 (l .channels)) _ e₁);
       few = leb-true _ _ (and-fst (leb (l .channels) 16) _ e₂);
@@ -40,8 +47,18 @@ legal-sizes l e₁ =
       bands = leb-true _ _ (and-fst (leb (l .total) 128) _ e₄);
       start = leb-true _ _ (and-fst (leb (startBand l) (l .total)) _ e₅);
       small = leb-true _ _ (and-fst (leb 8 (frameSize l)) _ e₆);
-      large = leb-true _ _ (and-snd (leb 8 (frameSize l)) _ e₆);
+      large = leb-true _ _ (and-fst (leb (frameSize l) 65535) _ e₇);
+      lowest = leb-true _ _ (and-fst (leb 1 (l .minimum)) _ e₈);
+      paired = leb-true _ _ (and-fst (leb (l .minimum) (l .maximum)) _ e₉);
+      highest = leb-true _ _ (and-snd (leb (l .minimum) (l .maximum)) _ e₉);
     }
+
+-- where all but the pair is within its limits, the pair decides
+pub legal-pair : (l : Layout) → 1 ≤ l .channels → l .channels ≤ 16 → 1 ≤ l .total → l .total ≤ 128 → l .base + l .stereo ≤ l .total → 8 ≤ frameSize l
+    → frameSize l ≤ 65535 → legalLayout l ≡ legalPair (l .minimum) (l .maximum)
+unfolding legalLayout
+legal-pair l h₁ h₂ h₃ h₄ h₅ h₆ h₇ =
+    rw (le-leb _ _ h₁, le-leb _ _ h₂, le-leb _ _ h₃, le-leb _ _ h₄, le-leb _ _ h₅, le-leb _ _ h₆, le-leb _ _ h₇)
 
 pub legal-false : (l : Layout) → (LegalLayout l → ⊥) → legalLayout l ≡ false
 legal-false l h = not-true-false (legalLayout l) (λ e. h (legal-sizes l e))

@@ -5,6 +5,7 @@ pub mod LentRows
 pub mod Signs
 pub mod Levels
 pub mod Boundaries
+pub mod Limits
 pub mod Bands
 pub mod Legality
 pub mod Made

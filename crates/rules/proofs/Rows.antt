@@ -1,10 +1,10 @@
 -- Document 01's 'Table to be proved': its ten rows in one table of questions with their results, under one theorem by computation; and the
--- small tables that code may use in the place of a float operation. Assumes nothing.
+-- small tables that code may use in the place of a float operation. Request A8's rows, under other pairs of resolutions. Assumes nothing.
 use mathlib.Core.Path.{_≡_, refl, sym, ap, _∙_}
 use mathlib.Core.List.{List, [], _∷_, map}
 use Prim.Native.Nat.{ℕ, _<_}
 use lib.IntN.{ℤ, pos}
-use lib.ListN.{length, getD, List·getD-map}
+use lib.ListN.{length, getD, replicate, List·getD-map}
 use lib.Ieee.{binary32, ofBits, le, add, mul, toSigned}
 use Rattle.bits.specs.Bits.{bits}
 use Rattle.buffers.specs.Walk.{build}
@@ -18,11 +18,26 @@ use Rattle.rules.specs.Width.{near, laterCost, deltaCost, cost, allZero,
 use Rattle.rules.specs.Code.{stepOf, stepShift, rawCode, magnitudeBits, codeLimit, codeOf, codePlace}
 use Rattle.rules.specs.Estimate.{valueBits}
 use Rattle.rules.specs.Fields.{smallBits, codeBits}
+use Rattle.rules.specs.declared.ChannelType.the-variants.{Discrete}
+use Rattle.rules.specs.declared.Layout.{Layout}
+
+-- one Discrete channel of two bands, F = 17, with this pair
+abbrev pub paired : (minimum maximum : ℕ) → Layout
+paired minimum maximum = record {
+  channels = 1;
+  kinds = replicate 16 (record { kind = Discrete });
+  base = 2;
+  stereo = 0;
+  total = 2;
+  «frame_size» = 17;
+  minimum = minimum;
+  maximum = maximum;
+}
 
 pub data Question : Type 0 where
   -- of a pattern
   factor : ℕ → Question
-  -- of a factor and a noise
+  -- of a factor and a noise, with 1 and 15
   resolutionOf : ℕ → ℕ → Question
   -- of factors
   widthOf : List ℕ → Question
@@ -34,7 +49,7 @@ pub data Question : Type 0 where
 
 unfoldable pub answer : Question → ℤ
 answer (factor p) = pos (factorOf (ofBits binary32 p))
-answer (resolutionOf f noise) = pos (resolution noise f)
+answer (resolutionOf f noise) = pos (resolution (paired 1 15) noise f)
 answer (widthOf fs) = pos (width fs)
 answer (costOf fs) = pos (widthCost fs)
 answer (code p r) = codeOf r (ofBits binary32 p)
@@ -75,6 +90,17 @@ unfolding answer questions results factorOf countLe scalingTable resolution reso
     cheaper allZero cost deltaCost laterCost near codeOf rawCode stepOf stepShift stepTable codeLimit magnitudeBits maxBitTable valueBits codePlace
     deadZoneTable codeBits smallBits spectrumBits spectrumValue bits absF ofBits le add mul toSigned
 rows = refl
+
+-- under a pair, of a factor and a noise
+abbrev limited : (minimum maximum f noise : ℕ) → ℕ
+limited minimum maximum f noise = resolution (paired minimum maximum) noise f
+
+-- request A8: 4 and 10 with factors 63, 1 and 0; 3 and 3
+pub limited-rows : limited 4 10 63 0 ∷ limited 4 10 63 208 ∷ limited 4 10 63 213 ∷ limited 4 10 1 0 ∷ limited 4 10 1 254 ∷ limited 4 10 0 0
+    ∷ limited 3 3 63 0 ∷ limited 3 3 63 213 ∷ []
+    ≡ 10 ∷ 4 ∷ 4 ∷ 10 ∷ 4 ∷ 0 ∷ 3 ∷ 3 ∷ []
+unfolding resolution resolutionIn heldPosition curvePosition resolutionCurve heldZ
+limited-rows = refl
 
 -- The corner of the upper clip: the codes are 3, 5 and 6 at resolutions 2, 4 and 5, one past the range. They get no bits, and none are counted.
 abbrev corner : (Question → ℤ) → (ℕ → Question) → List ℤ

@@ -27,8 +27,8 @@ unfoldable pub bandBits : (scaled : List Float) (band resolution : ℕ) → ℕ
 bandBits scaled band resolution = sumTo (λ s. valueBits resolution (getD scaled (band * 8 + s) nan)) 8
 
 -- its coded bands
-unfoldable pub channelBits : (scaled : List Float) (factors : List ℕ) (coded level boundary : ℕ) → ℕ
-channelBits scaled factors coded level boundary = sumTo (λ b. bandBits scaled b (resolutionAt level boundary factors b)) coded
+unfoldable pub channelBits : (l : Layout) (scaled : List Float) (factors : List ℕ) (coded level boundary : ℕ) → ℕ
+channelBits l scaled factors coded level boundary = sumTo (λ band. bandBits scaled band (resolutionAt l level boundary factors band)) coded
 
 -- per channel its width cost, and 32 (secondary) or 6G
 unfoldable pub headerBits : (l : Layout) (factors : List ℕ) (channel : ℕ) → ℕ
@@ -40,7 +40,7 @@ fixedBits l factors = 48 + sumTo (λ c. headerBits l (part 128 factors c) c) (l 
 
 unfoldable pub spectralBits : (l : Layout) (scaled : List Float) (factors : List ℕ) (level boundary : ℕ) → ℕ
 spectralBits l scaled factors level boundary =
-    sumTo (λ c. channelBits (part 1024 scaled c) (part 128 factors c) (codedCountAt l c) level boundary) (l .channels)
+    sumTo (λ c. channelBits l (part 1024 scaled c) (part 128 factors c) (codedCountAt l c) level boundary) (l .channels)
 
 unfoldable pub usedBits : (l : Layout) (scaled : List Float) (factors : List ℕ) (level boundary : ℕ) → ℕ
 usedBits l scaled factors level boundary = fixedBits l factors + spectralBits l scaled factors level boundary

@@ -62,4 +62,4 @@ codeBits resolution code = cond (eqb resolution 0) []
 unfoldable pub fields : (l : Layout) (r : Rec) → List Bool
 fields l r =
     bits 16 0xFFFF ++ (bits 9 (r .level) ++ (bits 7 (r .boundary) ++ (eachBits (channelFields l) (kindsOf l) (r .chans)
-    ++ eachBits (λ _. eachBits (eachBits codeBits) (resolutions (r .level) (r .boundary) (r .chans))) (times 8) (r .codes))))
+    ++ eachBits (λ _. eachBits (eachBits codeBits) (resolutions l (r .level) (r .boundary) (r .chans))) (times 8) (r .codes))))

@@ -14,11 +14,16 @@ use Rattle.rules.specs.declared.Room.{Room}
 abbrev pub frameSize : (l : Layout) → ℕ
 frameSize l = l .«frame_size»
 
+-- the lowest and the highest resolution (request A8)
+abbrev pub legalPair : (minimum maximum : ℕ) → Bool
+legalPair minimum maximum = leb 1 minimum && (leb minimum maximum && leb maximum 15)
+
 -- Channels C: 1 to 16. Bands: total 1 to 128, base + stereo at most total. Frame size F: 8 to 65,535 bytes.
 unfoldable pub legalLayout : (l : Layout) → Bool
 legalLayout l =
     leb 1 (l .channels) && (leb (l .channels) 16 && (leb 1 (l .total) && (leb (l .total) 128
-    && (leb (l .base + l .stereo) (l .total) && (leb 8 (frameSize l) && leb (frameSize l) 65535)))))
+    && (leb (l .base + l .stereo) (l .total) && (leb 8 (frameSize l) && (leb (frameSize l) 65535
+    && legalPair (l .minimum) (l .maximum)))))))
 
 -- the same as facts
 pub record LegalLayout (l : Layout) : Type 0 where
@@ -29,6 +34,9 @@ pub record LegalLayout (l : Layout) : Type 0 where
   pub start : l .base + l .stereo ≤ l .total
   pub small : 8 ≤ frameSize l
   pub large : frameSize l ≤ 65535
+  pub lowest : 1 ≤ l .minimum
+  pub paired : l .minimum ≤ l .maximum
+  pub highest : l .maximum ≤ 15
 
 -- the kinds of the channels, in their order
 unfoldable pub kindAt : (l : Layout) (channel : ℕ) → ChannelType

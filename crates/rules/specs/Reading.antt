@@ -70,7 +70,7 @@ readSync = here λ left. require 9 left (λ v. eqb v 0xFFFF) (number 16)
 unfoldable pub readRecord : (l : Layout) → Reader Rec
 readRecord l =
     (number 9 ⊗ λ level. number 7 ⊗ λ boundary. each (readChannel l) (kindsOf l) ⊗ λ chans.
-    each (λ _. each (each readCode) (resolutions level boundary chans)) (times 8))
+    each (λ _. each (each readCode) (resolutions l level boundary chans)) (times 8))
     >>= λ x. pure (record { level = x .0; boundary = x .1 .0; chans = x .1 .1 .0; codes = x .1 .1 .1 })
 
 unfoldable pub readFields : (l : Layout) → Reader Rec

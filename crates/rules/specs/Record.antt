@@ -44,13 +44,13 @@ pub record LegalChan (l : Layout) (k : ChannelType) (c : Chan) : Type 0 where
   pub side : Each (λ _ v. v < 2 ^ sideWidth k) (times (sideCount l k)) (c .side)
 
 -- the resolutions of each channel's coded bands
-abbrev pub resolutions : (level boundary : ℕ) (chans : List Chan) → List (List ℕ)
-resolutions level boundary chans = map (λ c. resolutionsOf level boundary (c .factors)) chans
+abbrev pub resolutions : (l : Layout) (level boundary : ℕ) (chans : List Chan) → List (List ℕ)
+resolutions l level boundary chans = map (λ c. resolutionsOf l level boundary (c .factors)) chans
 
 pub record Legal (l : Layout) (r : Rec) : Type 0 where
   pub head : LegalHead (r .level) (r .boundary)
   pub chans : Each (LegalChan l) (kindsOf l) (r .chans)
-  pub codes : Each (λ _. Each (Each LegalCode) (resolutions (r .level) (r .boundary) (r .chans))) (times 8) (r .codes)
+  pub codes : Each (λ _. Each (Each LegalCode) (resolutions l (r .level) (r .boundary) (r .chans))) (times 8) (r .codes)
 
 -- THE RECORD THAT LIES IN BUFFERS of document 01's lengths: factors C x 128, side C x 8, codes C x 1,024 by channel, subframe, band
 -- channel c, of its own 128 factors and 8 side values, and of all channels'
@@ -125,4 +125,4 @@ legalRecord l level boundary factors side codes =
 abbrev pub CodesInRange : (l : Layout) (level boundary : ℕ) (factors : List ℕ) (codes : List ℤ) → Type 0
 CodesInRange l level boundary factors codes =
     (c s b : ℕ) → c < l .channels → s < 8 → b < codedCountAt l c →
-    LegalCode (resolutionAt level boundary (part 128 factors c) b) (getD (part 1024 codes c) (s * 128 + b) (pos 0))
+    LegalCode (resolutionAt l level boundary (part 128 factors c) b) (getD (part 1024 codes c) (s * 128 + b) (pos 0))

@@ -27,29 +27,24 @@ unfoldable pub resolutionIn : (lowest highest noise factor : ℕ) → ℕ
 resolutionIn lowest highest noise factor =
     cond (eqb factor 0) 0 (min (max (getD resolutionCurve (heldPosition noise factor) 0) lowest) highest)
 
-abbrev pub lowestResolution : ℕ
-lowestResolution = 1
+-- within the layout's pair (request A8)
+unfoldable pub resolution : (l : Layout) (noise factor : ℕ) → ℕ
+resolution l noise factor = resolutionIn (l .minimum) (l .maximum) noise factor
 
-abbrev pub highestResolution : ℕ
-highestResolution = 15
-
-unfoldable pub resolution : (noise factor : ℕ) → ℕ
-resolution noise factor = resolutionIn lowestResolution highestResolution noise factor
-
--- of band b of a channel with these factors
-unfoldable pub resolutionAt : (level boundary : ℕ) (factors : List ℕ) (band : ℕ) → ℕ
-resolutionAt level boundary factors band = resolution (noiseAt level boundary band) (getD factors band 0)
+-- of a band of a channel with these factors
+unfoldable pub resolutionAt : (l : Layout) (level boundary : ℕ) (factors : List ℕ) (band : ℕ) → ℕ
+resolutionAt l level boundary factors band = resolution l (noiseAt level boundary band) (getD factors band 0)
 
 -- of each of its coded bands
-unfoldable pub resolutionsOf : (level boundary : ℕ) (factors : List ℕ) → List ℕ
-resolutionsOf level boundary factors = build (resolutionAt level boundary factors) (length factors)
+unfoldable pub resolutionsOf : (l : Layout) (level boundary : ℕ) (factors : List ℕ) → List ℕ
+resolutionsOf l level boundary factors = build (resolutionAt l level boundary factors) (length factors)
 
 -- of its 128 bands, 0 past the coded count; and of every channel's
-unfoldable pub bandResolution : (level boundary : ℕ) (factors : List ℕ) (coded band : ℕ) → ℕ
-bandResolution level boundary factors coded band = cond (ltb band coded) (resolutionAt level boundary factors band) 0
+unfoldable pub bandResolution : (l : Layout) (level boundary : ℕ) (factors : List ℕ) (coded band : ℕ) → ℕ
+bandResolution l level boundary factors coded band = cond (ltb band coded) (resolutionAt l level boundary factors band) 0
 
-unfoldable pub channelResolutions : (level boundary : ℕ) (factors : List ℕ) (coded : ℕ) → List ℕ
-channelResolutions level boundary factors coded = build (bandResolution level boundary factors coded) 128
+unfoldable pub channelResolutions : (l : Layout) (level boundary : ℕ) (factors : List ℕ) (coded : ℕ) → List ℕ
+channelResolutions l level boundary factors coded = build (bandResolution l level boundary factors coded) 128
 
 unfoldable pub allResolutions : (l : Layout) (level boundary : ℕ) (factors : List ℕ) → List ℕ
-allResolutions l level boundary factors = blocks (λ c. channelResolutions level boundary (part 128 factors c) (codedCountAt l c)) (l .channels)
+allResolutions l level boundary factors = blocks (λ c. channelResolutions l level boundary (part 128 factors c) (codedCountAt l c)) (l .channels)

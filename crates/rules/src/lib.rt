@@ -10,7 +10,7 @@ pub struct Channel {
     pub kind: ChannelType,
 }
 
-// A stream's layout: how many channels of which kinds, the bands, and the frame's size in bytes.
+// A stream's layout: how many channels of which kinds, the bands, the frame's size in bytes, the lowest and the highest resolution.
 pub struct Layout {
     pub channels: usize,
     pub kinds: [Channel; 16],
@@ -18,6 +18,8 @@ pub struct Layout {
     pub stereo: usize,
     pub total: usize,
     pub frame_size: usize,
+    pub minimum: usize,
+    pub maximum: usize,
 }
 
 // The lengths of the lent buffers of a record and of its frame.

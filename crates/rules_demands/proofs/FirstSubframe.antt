@@ -127,11 +127,11 @@ module _ (rss : List (List ℕ)) where
 
 module _ (l : Layout) (r : Rec) (h : Legal l r) where
   cut-legal : Legal l (firstOnly r)
-  cut-legal = record { head = h .head; chans = h .chans; codes = silenced-legal (resolutions (r .level) (r .boundary) (r .chans)) (r .codes) (h .codes) }
+  cut-legal = record { head = h .head; chans = h .chans; codes = silenced-legal (resolutions l (r .level) (r .boundary) (r .chans)) (r .codes) (h .codes) }
 
   cut-short : length (fields l (firstOnly r)) ≤ length (fields l r)
   unfolding fields
-  cut-short = simp length-append (omega (arith, silenced-short (resolutions (r .level) (r .boundary) (r .chans)) (r .codes) (h .codes)))
+  cut-short = simp length-append (omega (arith, silenced-short (resolutions l (r .level) (r .boundary) (r .chans)) (r .codes) (h .codes)))
 
 -- after the first subframe it holds zeros
 silenced-at : (cs : List (List (List ℤ))) (s c b : ℕ) → 0 < s → getD (getD (getD (silenced cs) s []) c []) b (pos 0) ≡ pos 0

@@ -35,7 +35,7 @@ channel-fits l k =
 unfoldable pub recordFields : Layout → Rec → List Bool
 recordFields l r =
     bits 9 (r .level) ++ (bits 7 (r .boundary) ++ (eachBits (channelFields l) (kindsOf l) (r .chans)
-    ++ eachBits (λ _. eachBits (eachBits codeBits) (resolutions (r .level) (r .boundary) (r .chans))) (times 8) (r .codes)))
+    ++ eachBits (λ _. eachBits (eachBits codeBits) (resolutions l (r .level) (r .boundary) (r .chans))) (times 8) (r .codes)))
 
 pub fields-are : (l : Layout) (r : Rec) → fields l r ≡ bits 16 0xFFFF ++ recordFields l r
 unfolding fields recordFields
@@ -51,7 +51,7 @@ record-fits l =
     (map-fits (λ r. (r .level, (r .boundary, (r .chans, r .codes))))
     (λ x. record { level = x .0; boundary = x .1 .0; chans = x .1 .1 .0; codes = x .1 .1 .1 }) (λ x. refl) (λ r. refl)
     (pair-fits (number-fits 9) (λ level _. pair-fits (number-fits 7) (λ boundary _. pair-fits (each-fits (channel-fits l) (kindsOf l)) (λ chans _.
-    each-fits (λ _. each-fits (each-fits code-fits) (resolutions level boundary chans)) (times 8))))))
+    each-fits (λ _. each-fits (each-fits code-fits) (resolutions l level boundary chans)) (times 8))))))
 
 pub fields-fits : (l : Layout) → Lawful (Legal l) (fields l) (readFields l)
 unfolding fields recordFields readFields

@@ -59,9 +59,9 @@ unfolding codeRange
 range-none = refl
 
 -- a channel's codes, at the resolutions of its bands
-module _ (level boundary n : ℕ) (fs : List ℕ) (cs : List ℤ) where
+module _ (l : Layout) (level boundary n : ℕ) (fs : List ℕ) (cs : List ℤ) where
   abbrev rs : List ℕ
-  rs = channelResolutions level boundary fs n
+  rs = channelResolutions l level boundary fs n
 
   code-within : legalCodes rs cs ≡ true → (s b : ℕ) → s < 8 → b < 128 → natAbs (getD cs (s * 128 + b) (pos 0)) ≤ codeRange (getD rs b 0)
   unfolding legalCodes legalSubframe
@@ -70,13 +70,13 @@ module _ (level boundary n : ℕ) (fs : List ℕ) (cs : List ℤ) where
       ≡ true = every-at _ 128 b (every-at (λ j. legalSubframe rs (part 128 cs j)) 8 s e h) g in
       rw (row-code cs s b g) at (leb-true (natAbs (getD (part 128 cs s) b (pos 0))) (codeRange (getD rs b 0)) k)
 
-  codes-within : legalCodes rs cs ≡ true → (s b : ℕ) → s < 8 → b < 128 → b < n → LegalCode (resolutionAt level boundary fs b) (getD cs (s * 128 + b) (pos 0))
-  codes-within e s b h g k = rw (coded-band level boundary fs n b g k) at (code-within e s b h g)
+  codes-within : legalCodes rs cs ≡ true → (s b : ℕ) → s < 8 → b < 128 → b < n → LegalCode (resolutionAt l level boundary fs b) (getD cs (s * 128 + b) (pos 0))
+  codes-within e s b h g k = rw (coded-band l level boundary fs n b g k) at (code-within e s b h g)
 
   codes-blank : legalCodes rs cs ≡ true → (s b : ℕ) → s < 8 → b < 128 → n ≤ b → getD cs (s * 128 + b) (pos 0) ≡ pos 0
-  codes-blank e s b h g k = no-size _ (rw (blank-band level boundary fs n b g k, range-none) at (code-within e s b h g))
+  codes-blank e s b h g k = no-size _ (rw (blank-band l level boundary fs n b g k, range-none) at (code-within e s b h g))
 
-  codes-of : ((s b : ℕ) → s < 8 → b < 128 → b < n → LegalCode (resolutionAt level boundary fs b) (getD cs (s * 128 + b) (pos 0)))
+  codes-of : ((s b : ℕ) → s < 8 → b < 128 → b < n → LegalCode (resolutionAt l level boundary fs b) (getD cs (s * 128 + b) (pos 0)))
       → ((s b : ℕ) → s < 8 → b < 128 → n ≤ b → getD cs (s * 128 + b) (pos 0) ≡ pos 0) → legalCodes rs cs ≡ true
   unfolding legalCodes legalSubframe
   codes-of f g =
@@ -84,8 +84,8 @@ module _ (level boundary n : ℕ) (fs : List ℕ) (cs : List ℤ) where
       (λ s h. every-all _ 128
       (λ b k. rw (row-code cs s b k)
       (by-order b n
-      (λ lt. rw (coded-band level boundary fs n b k lt) (le-leb _ _ (f s b h k lt)))
-      (λ ge. rw (blank-band level boundary fs n b k ge, range-none, g s b h k ge)))))
+      (λ lt. rw (coded-band l level boundary fs n b k lt) (le-leb _ _ (f s b h k lt)))
+      (λ ge. rw (blank-band l level boundary fs n b k ge, range-none, g s b h k ge)))))
 
 -- ---- the test of the whole, by what is written and what is not
 
@@ -131,14 +131,14 @@ module _ (l : Layout) (level boundary : ℕ) (F S : List ℕ) (C : List ℤ) whe
     head = head-legal level boundary (and-fst (legalHead level boundary) _ e);
     factors = λ c i h g. row-below _ 64 128 _ (factors-ok e c h) i (omega (arith, coded-few l z c)) g;
     side = λ c i h g. row-below _ _ 8 _ (side-ok e c h) i (omega (arith, sides-le l c)) g;
-    codes = λ c s b h k g. codes-within level boundary _ _ _ (codes-ok e c h) s b k (omega (arith, coded-few l z c)) g;
+    codes = λ c s b h k g. codes-within l level boundary _ _ _ (codes-ok e c h) s b k (omega (arith, coded-few l z c)) g;
   }
 
   pub record-blank : legalRecord l level boundary F S C ≡ true → Blank l F S C
   record-blank e = record {
     factors = λ c i h g k. row-blank _ 64 128 _ (factors-ok e c h) i k g;
     side = λ c i h g k. row-blank _ _ 8 _ (side-ok e c h) i k g;
-    codes = λ c s b h k g q. codes-blank level boundary _ _ _ (codes-ok e c h) s b k q g;
+    codes = λ c s b h k g q. codes-blank l level boundary _ _ _ (codes-ok e c h) s b k q g;
   }
 
   pub held-record : Held l level boundary F S C → Blank l F S C → legalRecord l level boundary F S C ≡ true
@@ -150,37 +150,39 @@ module _ (l : Layout) (level boundary : ℕ) (F S : List ℕ) (C : List ℤ) whe
       (row-of (codedCountAt l c) 64 128 (part 128 F c) (λ i _ g. h .factors c i k g) (λ i q g. o .factors c i k g q))
       (and-true
       (row-of (sideCountAt l c) (2 ^ sideWidth (kindAt l c)) 8 (part 8 S c) (λ i _ g. h .side c i k g) (λ i q g. o .side c i k g q))
-      (codes-of level boundary (codedCountAt l c) (part 128 F c) (part 1024 C c) (λ s b g _ q. h .codes c s b k g q) (λ s b g q p. o .codes c s b k g p q))))))
+      (codes-of l level boundary (codedCountAt l c) (part 128 F c) (part 1024 C c) (λ s b g _ q. h .codes c s b k g q)
+      (λ s b g q p. o .codes c s b k g p q))))))
 
 -- ---- the record that lies there
 
-resolution-front : (level boundary n b : ℕ) (fs : List ℕ) → b < n → resolutionAt level boundary (take n fs) b ≡ resolutionAt level boundary fs b
+resolution-front : (l : Layout) (level boundary n b : ℕ) (fs : List ℕ) → b < n
+    → resolutionAt l level boundary (take n fs) b ≡ resolutionAt l level boundary fs b
 unfolding resolutionAt
-resolution-front level boundary n b fs h = rw (getD-take n fs b 0 h)
+resolution-front l level boundary n b fs h = rw (getD-take n fs b 0 h)
 
-module _ (level boundary n : ℕ) (fs : List ℕ) (long : length (take n fs) ≡ n) where
+module _ (l : Layout) (level boundary n : ℕ) (fs : List ℕ) (long : length (take n fs) ≡ n) where
   -- the resolution of a coded band
-  coded-resolution : (b : ℕ) → b < n → getD (resolutionsOf level boundary (take n fs)) b 0 ≡ resolutionAt level boundary fs b
+  coded-resolution : (b : ℕ) → b < n → getD (resolutionsOf l level boundary (take n fs)) b 0 ≡ resolutionAt l level boundary fs b
   unfolding resolutionsOf
   coded-resolution b h =
-      build-at (resolutionAt level boundary (take n fs)) (length (take n fs)) b 0 (omega arith) ∙ resolution-front level boundary n b fs h
+      build-at (resolutionAt l level boundary (take n fs)) (length (take n fs)) b 0 (omega arith) ∙ resolution-front l level boundary n b fs h
 
-  resolved : length (resolutionsOf level boundary (take n fs)) ≡ n
-  resolved = length-resolutions level boundary (take n fs) ∙ long
+  resolved : length (resolutionsOf l level boundary (take n fs)) ≡ n
+  resolved = length-resolutions l level boundary (take n fs) ∙ long
 
   -- n codes of a row
   module _ (cs : List ℤ) where
-    codes-each : n ≤ length cs → ((b : ℕ) → b < n → LegalCode (resolutionAt level boundary fs b) (getD cs b (pos 0)))
-        → Each LegalCode (resolutionsOf level boundary (take n fs)) (take n cs)
+    codes-each : n ≤ length cs → ((b : ℕ) → b < n → LegalCode (resolutionAt l level boundary fs b) (getD cs b (pos 0)))
+        → Each LegalCode (resolutionsOf l level boundary (take n fs)) (take n cs)
     codes-each m f =
-        each-of LegalCode 0 (pos 0) (resolutionsOf level boundary (take n fs)) (take n cs) (length-take-le n cs m ∙ sym resolved)
+        each-of LegalCode 0 (pos 0) (resolutionsOf l level boundary (take n fs)) (take n cs) (length-take-le n cs m ∙ sym resolved)
         (λ b g. let h : b < n = omega (arith, resolved) in rw (coded-resolution b h, getD-take n cs b (pos 0) h) (f b h))
 
-    each-code : Each LegalCode (resolutionsOf level boundary (take n fs)) (take n cs) → (b : ℕ) → b < n
-        → LegalCode (resolutionAt level boundary fs b) (getD cs b (pos 0))
+    each-code : Each LegalCode (resolutionsOf l level boundary (take n fs)) (take n cs) → (b : ℕ) → b < n
+        → LegalCode (resolutionAt l level boundary fs b) (getD cs b (pos 0))
     each-code e b h =
         rw (coded-resolution b h, getD-take n cs b (pos 0) h) at
-        (each-at LegalCode 0 (pos 0) (resolutionsOf level boundary (take n fs)) (take n cs) e b (omega (arith, resolved)))
+        (each-at LegalCode 0 (pos 0) (resolutionsOf l level boundary (take n fs)) (take n cs) e b (omega (arith, resolved)))
 
 module _ (l : Layout) (level boundary : ℕ) (F S : List ℕ) (C : List ℤ) where
   rec-chan : (c : ℕ) → c < l .channels → getD ((recOf l level boundary F S C) .chans) c noChan ≡ chanOf l F S c
@@ -200,7 +202,8 @@ module _ (l : Layout) (z : LegalLayout l) (level boundary : ℕ) (F S : List ℕ
     legal-long : (c : ℕ) → c < l .channels → length (take (codedCountAt l c) (part 128 F c)) ≡ codedCountAt l c
     legal-long c g = rw (rec-chan l level boundary F S C c g) at (factors-long l (recOf l level boundary F S C) h c g)
 
-    legal-bands : (s c : ℕ) → s < 8 → c < l .channels → Each LegalCode (resolutionsOf level boundary (take (codedCountAt l c) (part 128 F c))) (codesIn l C s c)
+    legal-bands : (s c : ℕ) → s < 8 → c < l .channels → Each LegalCode (resolutionsOf l level boundary (take (codedCountAt l c) (part 128 F c)))
+        (codesIn l C s c)
     unfolding recOf
     legal-bands s c g k = rw (rec-chan l level boundary F S C c k, rec-codes l level boundary F S C s c g k)
         at (bands-legal l (recOf l level boundary F S C) h s c g k)
@@ -214,7 +217,7 @@ module _ (l : Layout) (z : LegalLayout l) (level boundary : ℕ) (F S : List ℕ
       side = λ c i g k. rw (getD-take (sideCountAt l c) (part 8 S c) i 0 k) at
           (times-at (λ v. v < 2 ^ sideWidth (kindAt l c)) (sideCountAt l c) (take (sideCountAt l c) (part 8 S c)) 0 (legal-chan c g .side) i k);
       codes = λ c s b g k q. rw (row-code (part 1024 C c) s b (omega (arith, coded-few l z c))) at
-          (each-code level boundary (codedCountAt l c) (part 128 F c) (legal-long c g) (part 128 (part 1024 C c) s) (legal-bands s c k g) b q);
+          (each-code l level boundary (codedCountAt l c) (part 128 F c) (legal-long c g) (part 128 (part 1024 C c) s) (legal-bands s c k g) b q);
     }
 
   -- and back, in buffers that are long enough
@@ -230,26 +233,27 @@ module _ (l : Layout) (z : LegalLayout l) (level boundary : ℕ) (F S : List ℕ
           (λ i k. rw (getD-take (sideCountAt l c) (part 8 S c) i 0 k) (h .side c i g k));
     }
 
-    held-bands : (s c : ℕ) → s < 8 → c < l .channels → Each LegalCode (resolutionsOf level boundary (take (codedCountAt l c) (part 128 F c))) (codesIn l C s c)
+    held-bands : (s c : ℕ) → s < 8 → c < l .channels → Each LegalCode (resolutionsOf l level boundary (take (codedCountAt l c) (part 128 F c)))
+        (codesIn l C s c)
     held-bands s c g k =
         let few = coded-few l z c in
         let row = part 1024 C c in
-        codes-each level boundary (codedCountAt l c) (part 128 F c)
+        codes-each l level boundary (codedCountAt l c) (part 128 F c)
         (length-take-le (codedCountAt l c) (part 128 F c) (omega (arith, length-part 128 (l .channels) c F lf k)))
         (part 128 row s) (omega (arith, length-part 128 8 s row (omega (arith, length-part 1024 (l .channels) c C lc k)) g))
         (λ b q. rw (row-code row s b (omega arith)) (h .codes c s b k g q))
 
-    held-subframe : (s : ℕ) → s < 8 → Each (Each LegalCode) (resolutions level boundary (build (chanOf l F S) (l .channels)))
-        (build (codesIn l C s) (l .channels))
+    held-subframe : (s : ℕ) → s < 8
+        → Each (Each LegalCode) (resolutions l level boundary (build (chanOf l F S) (l .channels))) (build (codesIn l C s) (l .channels))
     held-subframe s g =
         let chans = build (chanOf l F S) (l .channels) in
-        let long : length (resolutions level boundary chans) ≡ l .channels = length-map chans (λ x. resolutionsOf level boundary (x .factors))
-        ∙ length-build (chanOf l F S) (l .channels) in
-        each-of (Each LegalCode) (resolutionsOf level boundary []) [] (resolutions level boundary chans) (build (codesIn l C s) (l .channels))
+        let long : length (resolutions l level boundary chans) ≡ l .channels =
+        length-map chans (λ x. resolutionsOf l level boundary (x .factors)) ∙ length-build (chanOf l F S) (l .channels) in
+        each-of (Each LegalCode) (resolutionsOf l level boundary []) [] (resolutions l level boundary chans) (build (codesIn l C s) (l .channels))
         (length-build (codesIn l C s) (l .channels) ∙ sym long)
         (λ c q. let k : c < l .channels = omega (arith, long) in
         rw (
-          List·getD-map (λ (x : Chan). resolutionsOf level boundary (x .factors)) chans c noChan,
+          List·getD-map (λ (x : Chan). resolutionsOf l level boundary (x .factors)) chans c noChan,
           build-at (chanOf l F S) (l .channels) c noChan k,
           build-at (codesIn l C s) (l .channels) c [] k,
         ) (held-bands s c g k))
@@ -267,7 +271,7 @@ module _ (l : Layout) (z : LegalLayout l) (level boundary : ℕ) (F S : List ℕ
     held-legal = record {
       head = h .head;
       chans = held-chans;
-      codes = times-of (Each (Each LegalCode) (resolutions level boundary (build (chanOf l F S) (l .channels)))) 8
+      codes = times-of (Each (Each LegalCode) (resolutions l level boundary (build (chanOf l F S) (l .channels)))) 8
           (build (λ s. build (codesIn l C s) (l .channels)) 8) [] (length-build (λ s. build (codesIn l C s) (l .channels)) 8)
           (λ s g. rw (build-at (λ j. build (codesIn l C j) (l .channels)) 8 s [] g) (held-subframe s g));
     }

@@ -187,10 +187,10 @@ module _ (l : Layout) (z : LegalLayout l) (level boundary : ℕ) (factors side :
       (λ c. omega (arith, part-short (codedCountAt l c) 128 c factors, part-short (sideCountAt l c) 8 c side)) (l .channels) in
       omega arith
 
-  codes-short : length (eachBits (λ _. eachBits (eachBits codeBits) (resolutions level boundary (r .chans))) (times 8) (r .codes)) ≤ 8 * (l .channels * 1536)
+  codes-short : length (eachBits (λ _. eachBits (eachBits codeBits) (resolutions l level boundary (r .chans))) (times 8) (r .codes)) ≤ 8 * (l .channels * 1536)
   unfolding recOf
   codes-short =
-      let rss = resolutions level boundary (r .chans) in
+      let rss = resolutions l level boundary (r .chans) in
       let row : ℕ → List (List ℤ) = λ s. build (codesIn l codes s) (l .channels) in
       let a = walk-short stay (λ _ _. eachBits (eachBits codeBits) rss) (total rowMost) (λ _ _ css. subframe-short rss css) tt (times 8) (build row 8) in
       let b = total-build (total rowMost) row (l .channels * 1536)
@@ -202,7 +202,7 @@ module _ (l : Layout) (z : LegalLayout l) (level boundary : ℕ) (factors side :
   unfolding fields recOf
   fields-short =
       let chans = eachBits (channelFields l) (kindsOf l) (r .chans) in
-      let all = eachBits (λ _. eachBits (eachBits codeBits) (resolutions (r .level) (r .boundary) (r .chans))) (times 8) (r .codes) in
+      let all = eachBits (λ _. eachBits (eachBits codeBits) (resolutions l (r .level) (r .boundary) (r .chans))) (times 8) (r .codes) in
       let a = length-append (bits 16 0xFFFF) (bits 9 (r .level) ++ (bits 7 (r .boundary) ++ (chans ++ all))) in
       let b = length-append (bits 9 (r .level)) (bits 7 (r .boundary) ++ (chans ++ all)) in
       let c = length-append (bits 7 (r .boundary)) (chans ++ all) in

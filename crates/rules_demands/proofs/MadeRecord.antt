@@ -199,7 +199,7 @@ codes-zero : (l : Layout) (level boundary : ℕ) (scaled : List Float) (F : List
 unfolding codeAt recordedCode
 codes-zero l level boundary scaled F c s b h g q k =
     code-at l (allResolutions l level boundary F) scaled c s b h g k
-    ∙ rw (resolutions-part l level boundary F c h, blank-band level boundary (part 128 F c) (codedCountAt l c) b k q)
+    ∙ rw (resolutions-part l level boundary F c h, blank-band l level boundary (part 128 F c) (codedCountAt l c) b k q)
 
 -- ---- what is made
 

@@ -125,19 +125,19 @@ code-refuses r =
     (bind-refuses 11 (number (magnitudeBits r)) signed (number-refuses 11 few (magnitudeBits r)) signed-refuses s)))
 
 -- what follows the level, the boundary and the channels
-abbrev codesNext : ℕ → ℕ → List Chan → Reader (List (List (List ℤ)))
-codesNext level boundary chans = each (λ _. each (each readCode) (resolutions level boundary chans)) (times 8)
+abbrev codesNext : Layout → ℕ → ℕ → List Chan → Reader (List (List (List ℤ)))
+codesNext l level boundary chans = each (λ _. each (each readCode) (resolutions l level boundary chans)) (times 8)
 
 abbrev chansNext : Layout → ℕ → ℕ → Reader (List Chan × List (List (List ℤ)))
-chansNext l level boundary = each (readChannel l) (kindsOf l) ⊗ codesNext level boundary
+chansNext l level boundary = each (readChannel l) (kindsOf l) ⊗ codesNext l level boundary
 
 abbrev boundaryNext : Layout → ℕ → Reader (ℕ × (List Chan × List (List (List ℤ))))
 boundaryNext l level = number 7 ⊗ chansNext l level
 
-codes-refuse : (level boundary : ℕ) (chans : List Chan) → Refuses 11 (codesNext level boundary chans)
-codes-refuse level boundary chans =
-    each-refuses 11 (λ _. each (each readCode) (resolutions level boundary chans))
-    (λ _. each-refuses 11 (each readCode) (each-refuses 11 readCode code-refuses) (resolutions level boundary chans)) (times 8)
+codes-refuse : (l : Layout) (level boundary : ℕ) (chans : List Chan) → Refuses 11 (codesNext l level boundary chans)
+codes-refuse l level boundary chans =
+    each-refuses 11 (λ _. each (each readCode) (resolutions l level boundary chans))
+    (λ _. each-refuses 11 (each readCode) (each-refuses 11 readCode code-refuses) (resolutions l level boundary chans)) (times 8)
 
 -- what follows the sync
 record-refuses : (l : Layout) → Refuses 11 (readRecord l)
@@ -146,8 +146,9 @@ record-refuses l =
     bind-refuses 11 (number 9 ⊗ boundaryNext l) (λ x. pure (record { level = x .0; boundary = x .1 .0; chans = x .1 .1 .0; codes = x .1 .1 .1 }))
     (pair-refuses 11 (number 9) (boundaryNext l) (number-refuses 11 few 9)
     (λ level. pair-refuses 11 (number 7) (chansNext l level) (number-refuses 11 few 7)
-    (λ boundary. pair-refuses 11 (each (readChannel l) (kindsOf l)) (codesNext level boundary) (each-refuses 11 (readChannel l) (channel-refuses l) (kindsOf l))
-    (codes-refuse level boundary))))
+    (λ boundary. pair-refuses 11 (each (readChannel l) (kindsOf l)) (codesNext l level boundary)
+    (each-refuses 11 (readChannel l) (channel-refuses l) (kindsOf l))
+    (codes-refuse l level boundary))))
     (λ _ _. tt)
 
 -- ---- the scan of the bits before the check, and the whole frame

@@ -28,9 +28,9 @@ length-kinds : (l : Layout) → length (kindsOf l) ≡ l .channels
 unfolding kindsOf
 length-kinds l = length-build (kindAt l) (l .channels)
 
-pub length-resolutions : (level boundary : ℕ) (fs : List ℕ) → length (resolutionsOf level boundary fs) ≡ length fs
+pub length-resolutions : (l : Layout) (level boundary : ℕ) (fs : List ℕ) → length (resolutionsOf l level boundary fs) ≡ length fs
 unfolding resolutionsOf
-length-resolutions level boundary fs = length-build (resolutionAt level boundary fs) (length fs)
+length-resolutions l level boundary fs = length-build (resolutionAt l level boundary fs) (length fs)
 
 -- ---- the stored lengths, of any record
 
@@ -94,7 +94,7 @@ module _ (l : Layout) (r : Rec) (h : Legal l r) where
   side-long c g = times-length (λ v. v < 2 ^ sideWidth (kindAt l c)) (sideCount l (kindAt l c)) _ (chan-legal c g .side)
 
   abbrev Resolved : List (List ℕ)
-  Resolved = resolutions (r .level) (r .boundary) (r .chans)
+  Resolved = resolutions l (r .level) (r .boundary) (r .chans)
 
   pub subframes-long : length (r .codes) ≡ 8
   subframes-long = times-length (Each (Each LegalCode) Resolved) 8 (r .codes) (h .codes)
@@ -103,23 +103,23 @@ module _ (l : Layout) (r : Rec) (h : Legal l r) where
   subframe-legal s g = times-at (Each (Each LegalCode) Resolved) 8 (r .codes) [] (h .codes) s g
 
   resolved-long : length Resolved ≡ l .channels
-  resolved-long = length-map (r .chans) (λ c. resolutionsOf (r .level) (r .boundary) (c .factors)) ∙ chans-long
+  resolved-long = length-map (r .chans) (λ c. resolutionsOf l (r .level) (r .boundary) (c .factors)) ∙ chans-long
 
   pub bands-long : (s : ℕ) → s < 8 → length (getD (r .codes) s []) ≡ l .channels
   bands-long s g = each-length (Each LegalCode) Resolved (getD (r .codes) s []) (subframe-legal s g) ∙ resolved-long
 
   pub bands-legal : (s c : ℕ) → s < 8 → c < l .channels →
-      Each LegalCode (resolutionsOf (r .level) (r .boundary) ((getD (r .chans) c noChan) .factors)) (getD (getD (r .codes) s []) c [])
+      Each LegalCode (resolutionsOf l (r .level) (r .boundary) ((getD (r .chans) c noChan) .factors)) (getD (getD (r .codes) s []) c [])
   bands-legal s c g k =
-      rw (List·getD-map (λ (x : Chan). resolutionsOf (r .level) (r .boundary) (x .factors)) (r .chans) c noChan) at
-      (each-at (Each LegalCode) (resolutionsOf (r .level) (r .boundary) []) [] Resolved (getD (r .codes) s []) (subframe-legal s g) c
-      (omega (arith, resolved-long)))
+      rw (List·getD-map (λ (x : Chan). resolutionsOf l (r .level) (r .boundary) (x .factors)) (r .chans) c noChan) at
+      (each-at (Each LegalCode) (resolutionsOf l (r .level) (r .boundary) []) [] Resolved
+      (getD (r .codes) s []) (subframe-legal s g) c (omega (arith, resolved-long)))
 
   pub codes-long : (s c : ℕ) → s < 8 → c < l .channels → length (getD (getD (r .codes) s []) c []) ≡ codedCountAt l c
   codes-long s c g k =
       let fs = (getD (r .chans) c noChan) .factors in
-      each-length LegalCode (resolutionsOf (r .level) (r .boundary) fs) (getD (getD (r .codes) s []) c []) (bands-legal s c g k)
-      ∙ length-resolutions (r .level) (r .boundary) fs ∙ factors-long c k
+      each-length LegalCode (resolutionsOf l (r .level) (r .boundary) fs) (getD (getD (r .codes) s []) c []) (bands-legal s c g k)
+      ∙ length-resolutions l (r .level) (r .boundary) fs ∙ factors-long c k
 
 -- ---- what a legal record is stored as is that record, whatever stands after it in the buffers
 

@@ -10,7 +10,7 @@ use lib.Dec.{eqb, ltb}
 use lib.ListN.{length}
 use Rattle.buffers.proofs.Tests.{cond-both}
 use Rattle.rules.specs.Layout.{LegalLayout, legalLayout, kindAt, kindsOf, bandsPerGroup, groupCount, codedCountAt, sideCountAt, roomOf, HasRoom}
-use Rattle.rules.specs.Resolution.{allResolutions}
+use Rattle.rules.specs.Resolution.{resolution, resolutionAt, resolutionsOf, bandResolution, channelResolutions, allResolutions}
 use Rattle.rules.specs.Record.{recOf, legalChannel, legalChannels, legalRecord}
 use Rattle.rules.specs.Fields.{fields}
 use Rattle.rules.specs.Frame.{fieldEnd}
@@ -76,7 +76,16 @@ write-too-long l t n = (
 -- ---- ROOM ENOUGH: fields and legality do not look at the frame's size
 
 abbrev pub resized : (l : Layout) (size : ℕ) → Layout
-resized l size = record { channels = l .channels; kinds = l .kinds; base = l .base; stereo = l .stereo; total = l .total; «frame_size» = size }
+resized l size = record {
+  channels = l .channels;
+  kinds = l .kinds;
+  base = l .base;
+  stereo = l .stereo;
+  total = l .total;
+  «frame_size» = size;
+  minimum = l .minimum;
+  maximum = l .maximum;
+}
 
 -- the same record, to be written to another buffer
 abbrev pub lentTo : (t : WriterLent) (frame : List ℕ) → WriterLent
@@ -84,11 +93,12 @@ lentTo t frame = record { level = t .level; boundary = t .boundary; factors = t 
 
 module _ (l : Layout) (t : WriterLent) (size : ℕ) (frame : List ℕ) where
   same-bits : writtenBits (resized l size) (lentTo t frame) ≡ writtenBits l t
-  unfolding fields lentRecord recOf kindsOf kindAt codedCountAt sideCountAt groupCount bandsPerGroup
+  unfolding fields lentRecord recOf kindsOf kindAt codedCountAt sideCountAt groupCount bandsPerGroup resolutionsOf resolutionAt resolution
   same-bits = refl
 
   same-writable : Writable l t → 8 ≤ size → size ≤ 65535 → size ≤ length frame → Writable (resized l size) (lentTo t frame)
-  unfolding legalRecord legalChannels legalChannel allResolutions kindAt codedCountAt sideCountAt groupCount bandsPerGroup
+  unfolding legalRecord legalChannels legalChannel allResolutions channelResolutions bandResolution resolutionAt resolution kindAt codedCountAt sideCountAt
+      groupCount bandsPerGroup
   same-writable k small large long =
       let z : LegalLayout l = legal-sizes l (k .layout) in
       let e : HasRoom l (roomOf (length (t .factors)) (length (t .side)) (length (t .codes)) (length (t .frame))) = room-facts l _ (k .room) in
@@ -100,8 +110,10 @@ module _ (l : Layout) (t : WriterLent) (size : ℕ) (frame : List ℕ) where
           bands = z .bands;
           start = z .start;
           small = small;
-          large =
-              large;
+          large = large;
+          lowest = z .lowest;
+          paired = z .paired;
+          highest = z .highest;
         });
         room = room-true (resized l size) _ (record { factors = e .factors; side = e .side; codes = e .codes; frame = long });
         legal = k .legal;

@@ -30,6 +30,8 @@ voices channels = record {
   stereo = 0;
   total = 100;
   «frame_size» = 170;
+  minimum = 1;
+  maximum = 15;
 }
 
 -- 48,000 Hz, 47 frames, padding 512, a loop from 0 to 896: its end is an edge
@@ -70,6 +72,8 @@ mixedBands = record {
   stereo = 20;
   total = 100;
   «frame_size» = 0xA1B2;
+  minimum = 1;
+  maximum = 15;
 }
 
 abbrev pub fullStream : (points : LoopPoints) → Stream

@@ -1,4 +1,4 @@
--- Request A1: each field of a header that fits reads back to its value from its offset. Assumes nothing.
+-- Request A1: each field of a header that fits reads back to its value from its offset. Request A8: two bytes of it are the layout's pair. Assumes nothing.
 use mathlib.Core.Path.{_≡_, refl, sym, ap, _∙_}
 use mathlib.Core.List.{List, [], _∷_, _++_}
 use mathlib.Core.Bool.{Bool, true, false, cond, _&&_}
@@ -16,17 +16,20 @@ use Rattle.crc.proofs.Sealed.{length-sealed}
 use Rattle.numbers.specs.Numbers.{highFirst, ofHigh}
 use Rattle.numbers.proofs.HighFirst.{high-length, high-back}
 use Rattle.rules.specs.Layout.{legalLayout, LegalLayout, bandsPerGroup, ceilDiv}
+use Rattle.rules.specs.Lent.{overwrite}
+use Rattle.rules.specs.Refusals.{delivered}
 use Rattle.rules.specs.declared.Layout.{Layout}
 use Rattle.rules.proofs.Layouts.{legal-sizes}
+use Rattle.rules.proofs.Answers.{never}
 use Rattle.rules_files.specs.declared.header.LoopPoints.{LoopPoints}
 use Rattle.rules_files.specs.declared.header.LoopPoints.the-variants.{Absent, Given}
 use Rattle.rules_files.specs.declared.header.Stream.{Stream}
 use Rattle.rules_files.specs.FileHeader.{Piece, piece, covers, pieceBytes, byteOf, pieces, piecesWith, loopPieces, afterLoop, headerByte, headerOf}
 use Rattle.rules_files.specs.FileHeader.{magicPieces, formatPieces, framePieces, bandPieces, tailPieces}
-use Rattle.rules_files.specs.FileHeader.{onEdge, loopFields, channelMapping, channelConfig, fitsHeader, PointsFit, HeaderFits}
+use Rattle.rules_files.specs.FileHeader.{onEdge, loopFields, channelMapping, channelConfig, fitsHeader, PointsFit, HeaderFits, writeHeader}
 use Rattle.rules_files.proofs.Pieces.{within}
 use Rattle.rules_files.proofs.HeaderFitting.{fits-facts}
-use Rattle.rules_files.proofs.HeaderTheorems.{apart, pieces-apart, LoopMoved, loop-moved}
+use Rattle.rules_files.proofs.HeaderTheorems.{apart, pieces-apart, LoopMoved, loop-moved, header-case}
 
 abbrev pub noPiece : Piece
 noPiece = piece 0 0 0
@@ -167,3 +170,31 @@ module _ (l : Layout) (st : Stream) (k : ℕ) (h : k < length (pieces l st)) whe
   pub pieces-read : legalLayout l ≡ true → fitsHeader l st ≡ true → ofHigh (take (p .width) (drop (p .offset) (headerOf l st))) ≡ p .value
   pieces-read legal fits =
       ap ofHigh bytes-read ∙ high-back (p .width) (p .value) (fit-at (pieces l st) k (all-fit l st (legal-sizes l legal) (fits-facts l st fits)) h)
+
+-- ---- request A8: bytes 30 and 31 are the layout's pair
+
+module _ (l : Layout) (st : Stream) where
+  body-byte : (h : List ℕ) (i : ℕ) → i < 94 → getD (overwrite (headerOf l st) h) i 0 ≡ headerByte l st i
+  unfolding headerOf
+  body-byte h i q =
+      let m : List ℕ = build (headerByte l st) 94 in
+      let n : length m ≡ 94 = length-build (headerByte l st) 94 in
+      List·getD-append (sealed m) (drop (length (sealed m)) h) 0 i (omega (arith, length-sealed m))
+      ∙ List·getD-append m (check m) 0 i (omega arith)
+      ∙ build-at (headerByte l st) 94 i 0 q
+
+  pair-bytes : LegalLayout l → (headerByte l st 30 ≡ l .minimum) × (headerByte l st 31 ≡ l .maximum)
+  unfolding pieces byteOf loopPieces afterLoop highFirst
+  pair-bytes s = by-points (st .points)
+    where
+      by-points : (p : LoopPoints) → (byteOf (piecesWith l st p) 30 0 ≡ l .minimum) × (byteOf (piecesWith l st p) 31 0 ≡ l .maximum)
+      by-points Absent = (omega arith, omega arith)
+      by-points (Given start end) = (omega arith, omega arith)
+
+  -- of every delivered header
+  pub header-pair : (h : List ℕ) → writeHeader l st h .outcome ≡ delivered []
+      → (getD (writeHeader l st h .header) 30 0 ≡ l .minimum) × (getD (writeHeader l st h .header) 31 0 ≡ l .maximum)
+  header-pair h =
+      header-case l st h (λ x. x .outcome ≡ delivered [] → (getD (x .header) 30 0 ≡ l .minimum) × (getD (x .header) 31 0 ≡ l .maximum))
+      (λ _ e. never (sym e)) (λ _ _ e. never (sym e)) (λ _ _ _ e. never (sym e))
+      (λ legal _ _ _. let (low, high) = pair-bytes (legal-sizes l legal) in (body-byte h 30 (omega arith) ∙ low, body-byte h 31 (omega arith) ∙ high))

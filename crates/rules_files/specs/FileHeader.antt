@@ -28,13 +28,6 @@ encoderDelay = 128
 abbrev pub frameSamples : ℕ
 frameSamples = 1024
 
--- bytes 30 and 31
-abbrev pub minimumResolution : ℕ
-minimumResolution = 1
-
-abbrev pub maximumResolution : ℕ
-maximumResolution = 15
-
 -- DEFAULT_CHANNEL_MAPPING, by the number of channels
 unfoldable pub channelMapping : List ℕ
 channelMapping = 0 ∷ 1 ∷ 0 ∷ 4 ∷ 0 ∷ 1 ∷ 3 ∷ 7 ∷ 3 ∷ []
@@ -93,7 +86,7 @@ formatPieces channels st =
 
 -- comp, frame size, minimum and maximum resolution, track count
 abbrev pub framePieces : (l : Layout) → List Piece
-framePieces l = piece 24 4 0x636F6D70 ∷ piece 28 2 (frameSize l) ∷ piece 30 1 minimumResolution ∷ piece 31 1 maximumResolution ∷ piece 32 1 1 ∷ []
+framePieces l = piece 24 4 0x636F6D70 ∷ piece 28 2 (frameSize l) ∷ piece 30 1 (l .minimum) ∷ piece 31 1 (l .maximum) ∷ piece 32 1 1 ∷ []
 
 -- channel configuration; total, base, stereo, bands per group
 abbrev pub bandPieces : (l : Layout) → List Piece

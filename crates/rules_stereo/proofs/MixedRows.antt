@@ -47,6 +47,8 @@ three = record {
   stereo = 1;
   total = 3;
   «frame_size» = 8;
+  minimum = 1;
+  maximum = 15;
 }
 
 abbrev lent : Signal
@@ -93,6 +95,8 @@ shaped first second third stereo = record {
   stereo = stereo;
   total = 3;
   «frame_size» = 8;
+  minimum = 1;
+  maximum = 15;
 }
 
 pub not-mixed :
@@ -158,7 +162,7 @@ silent-row = refl
 
 -- bands 1 to 3, of base 1, stereo 2 and total 4: subframe 3 has 0.5, 1, 0, 2, 4 on the left and 0, -5, 0, 0, 1 on the right
 abbrev four : Layout
-four = record { channels = 2; kinds = []; base = 1; stereo = 2; total = 4; «frame_size» = 8 }
+four = record { channels = 2; kinds = []; base = 1; stereo = 2; total = 4; «frame_size» = 8; minimum = 1; maximum = 15 }
 
 abbrev fourLent : List Float
 fourLent =

@@ -30,6 +30,7 @@ use Rattle.rules.specs.Reader.{readerLent, readerLeft, readerHasRoom}
 use Rattle.rules.specs.declared.ChannelType.{ChannelType}
 use Rattle.rules.specs.declared.ChannelType.the-variants.{Discrete, StereoPrimary, StereoSecondary}
 use Rattle.rules.specs.declared.Layout.{Layout}
+use Rattle.rules.proofs.Rows.{paired}
 use Rattle.rules.specs.declared.StageAnswer.{StageAnswer}
 use Rattle.rules.specs.declared.StageAnswer.the-variants as stage
 use Rattle.rules.specs.declared.WriteAnswer.{WriteAnswer}
@@ -83,7 +84,9 @@ unfolding scaledValue scaleOf scalingTable heldF ofBits toBits mul div lt neg
 clip-row = refl
 
 -- the position far below 0 and far above 58; noise below the boundary, at it, and not below 0
-pub position-row : resolution 0 63 ∷ resolution 500 1 ∷ resolution 500 0 ∷ noiseAt 5 3 2 ∷ noiseAt 5 3 3 ∷ noiseAt 0 3 2 ∷ [] ≡ 15 ∷ 1 ∷ 0 ∷ 4 ∷ 5 ∷ 0 ∷ []
+pub position-row :
+    resolution (paired 1 15) 0 63 ∷ resolution (paired 1 15) 500 1 ∷ resolution (paired 1 15) 500 0 ∷ noiseAt 5 3 2 ∷ noiseAt 5 3 3 ∷ noiseAt 0 3 2 ∷ []
+    ≡ 15 ∷ 1 ∷ 0 ∷ 4 ∷ 5 ∷ 0 ∷ []
 unfolding resolution resolutionIn heldPosition curvePosition resolutionCurve heldZ noiseAt
 position-row = refl
 
@@ -99,15 +102,24 @@ clip-codes = (refl, refl)
 
 -- one channel of a kind; bands
 abbrev kinded : ChannelType → Layout
-kinded k = record { channels = 1; kinds = replicate 16 (record { kind = k }); base = 1; stereo = 0; total = 1; «frame_size» = 9 }
+kinded k = record { channels = 1; kinds = replicate 16 (record { kind = k }); base = 1; stereo = 0; total = 1; «frame_size» = 9; minimum = 1; maximum = 15 }
 
 abbrev bands : (base stereo : ℕ) → Layout
-bands base stereo = record { channels = 1; kinds = replicate 16 (record { kind = Discrete }); base = base; stereo = stereo; total = 10; «frame_size» = 9 }
+bands base stereo = record {
+  channels = 1;
+  kinds = replicate 16 (record { kind = Discrete });
+  base = base;
+  stereo = stereo;
+  total = 10;
+  «frame_size» = 9;
+  minimum = 1;
+  maximum = 15;
+}
 
 -- ---- refusal 2: no buffer may be one shorter. One channel, nine bytes a frame
 
 abbrev mono : Layout
-mono = record { channels = 1; kinds = replicate 16 (record { kind = Discrete }); base = 1; stereo = 0; total = 1; «frame_size» = 9 }
+mono = record { channels = 1; kinds = replicate 16 (record { kind = Discrete }); base = 1; stereo = 0; total = 1; «frame_size» = 9; minimum = 1; maximum = 15 }
 
 abbrev lentOf : (spectra intensities scaled codes factors side frame : ℕ) → StageLent
 lentOf spectra intensities scaled codes factors side frame =
@@ -144,8 +156,9 @@ layout channels base stereo total size =
       base = base;
       stereo = stereo;
       total = total;
-      «frame_size» =
-          size;
+      «frame_size» = size;
+      minimum = 1;
+      maximum = 15;
     })
 
 pub layout-row :
@@ -159,6 +172,17 @@ pub no-layout-row :
     ≡ replicate 7 false
 unfolding legalLayout
 no-layout-row = refl
+
+-- request A8: each limit of the pair is taken, and the next number is not
+abbrev pairTaken : (minimum maximum : ℕ) → Bool
+pairTaken minimum maximum = legalLayout (paired minimum maximum)
+
+pub pair-row :
+    (pairTaken 1 15 ∷ pairTaken 1 1 ∷ pairTaken 15 15 ∷ pairTaken 8 9 ∷ [] ≡ replicate 4 true)
+    × (pairTaken 0 15 ∷ pairTaken 1 16 ∷ pairTaken 9 8 ∷ pairTaken 16 16 ∷ pairTaken 16 15 ∷ pairTaken 0 0 ∷ pairTaken 257 271 ∷ pairTaken 1 0xFFFFFFFF ∷ []
+    ≡ replicate 8 false)
+unfolding legalLayout
+pair-row = (refl, refl)
 
 -- ---- each buffer of a call is lent and left under its own name
 
@@ -280,7 +304,7 @@ eight-codes = refl
 
 -- bands a group and groups, of so many HFR bands
 abbrev grouped : (bands : ℕ) → Layout
-grouped bands = record { channels = 1; kinds = []; base = 0; stereo = 0; total = bands; «frame_size» = 9 }
+grouped bands = record { channels = 1; kinds = []; base = 0; stereo = 0; total = bands; «frame_size» = 9; minimum = 1; maximum = 15 }
 
 abbrev counts : List ℕ
 counts = 0 ∷ 1 ∷ 8 ∷ 9 ∷ 16 ∷ 17 ∷ 128 ∷ []
@@ -300,7 +324,7 @@ value-row = refl
 
 -- three coded bands of scaled values 1.0, 2.0 and 4.0, five HFR bands: the source goes down from band 2 and ends with band 0
 abbrev three : Layout
-three = record { channels = 1; kinds = []; base = 2; stereo = 1; total = 8; «frame_size» = 9 }
+three = record { channels = 1; kinds = []; base = 2; stereo = 1; total = 8; «frame_size» = 9; minimum = 1; maximum = 15 }
 
 abbrev steps : List Float
 steps = replicate 8 oneF ++ (replicate 8 (ofBits binary32 0x40000000) ++ replicate 1008 (ofBits binary32 0x40800000))
@@ -318,6 +342,8 @@ sided = record {
   stereo = 0;
   total = 2;
   «frame_size» = 9;
+  minimum = 1;
+  maximum = 15;
 }
 
 pub side-rows :
@@ -329,6 +355,7 @@ side-rows = refl
 
 -- N = 119, total 128: g = 2, and the fifth group has band 127 alone: it stops at band 128
 pub stops-at-128 : (xs : List Float)
-    → spectrumAverage (record { channels = 1; kinds = []; base = 119; stereo = 0; total = 128; «frame_size» = 9 }) xs 4 ≡ withEight xs 127 128 noAverage
+    → spectrumAverage (record { channels = 1; kinds = []; base = 119; stereo = 0; total = 128; «frame_size» = 9; minimum = 1; maximum = 15 }) xs 4
+    ≡ withEight xs 127 128 noAverage
 unfolding spectrumAverage groupAverage bandsTaken bandsPerGroup ceilDiv
 stops-at-128 xs = refl

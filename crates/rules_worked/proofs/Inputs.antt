@@ -2,7 +2,7 @@
 use mathlib.Core.Path.{_≡_, refl}
 use mathlib.Core.List.{List, [], _∷_, _++_}
 use Prim.Native.Nat.{ℕ, _+_}
-use lib.IntN.{pos}
+use lib.IntN.{pos, negsuc}
 use lib.Ieee.{Float, binary32, ofBits, le, lt, neg, add, mul, div, toSigned, ofInt}
 use lib.ListN.{replicate}
 use Rattle.bits.specs.Bits.{bits, value, bitsOf, pack}
@@ -28,13 +28,14 @@ use Rattle.rules.specs.Fields.{deltaSymbol, deltaBits, smallBits, codeBits, fie
 use Rattle.rules.specs.Frame.{filledFields, frameOf}
 use Rattle.rules.specs.Lent.{noFloats, noCodes, noFactors, noSide}
 use Rattle.rules.specs.Stage.{stageHasRoom, stageRecord}
+use Rattle.rules.proofs.Rows.{paired}
 use Rattle.rules_demands.proofs.FirstSubframe.{firstOnly}
 use Rattle.rules_worked.proofs.Runs.{halving, narrowing, removalStep, removing, allFinite, Example, Right}
 use Rattle.rules.specs.declared.ChannelType.{ChannelType}
 use Rattle.rules.specs.declared.ChannelType.the-variants.{Discrete, StereoSecondary}
 use Rattle.rules.specs.declared.Layout.{Layout}
 
--- channels of one kind, with so many bands and HFR bands
+-- channels of one kind, with so many bands and HFR bands; resolutions 1 to 15
 abbrev pub uniform : ChannelType → ℕ → ℕ → ℕ → ℕ → Layout
 uniform kind channels bands hfr size = record {
   channels = channels;
@@ -43,6 +44,8 @@ uniform kind channels bands hfr size = record {
   stereo = 0;
   total = bands + hfr;
   «frame_size» = size;
+  minimum = 1;
+  maximum = 15;
 }
 
 -- zero spectra
@@ -102,6 +105,37 @@ loud = record {
     codes = pos 28 ∷ pos 14 ∷ replicate 1022 (pos 0);
   };
   bits = 116;
+}
+
+-- the same spectra under other pairs (request A8): 8 is the highest, so that level 0 has room; 9 the lowest, so that no level has
+abbrev pub coarse : Example
+coarse = record {
+  layout = paired 1 8;
+  spectra = loud .spectra;
+  factors = loud .factors;
+  analysis = record {
+    scaled = loud .analysis .scaled;
+    side = replicate 8 0;
+    found = record { level = 0; pairs = 0; factors = loud .factors };
+    boundary = 0;
+    codes = pos 14 ∷ pos 14 ∷ replicate 1022 (pos 0);
+  };
+  bits = 108;
+}
+
+abbrev pub fine : Example
+fine = record {
+  layout = paired 9 15;
+  spectra = loud .spectra;
+  factors = loud .factors;
+  analysis = record {
+    scaled = loud .analysis .scaled;
+    side = replicate 8 0;
+    found = record { level = 255; pairs = 0; factors = loud .factors };
+    boundary = 0;
+    codes = pos 28 ∷ pos 28 ∷ replicate 127 (pos 0) ++ (negsuc 0 ∷ replicate 894 (pos 0));
+  };
+  bits = 125;
 }
 
 -- two bands, with 1.0 in later subframes too, so that both the estimate and the fields come to their limits exactly
@@ -169,6 +203,7 @@ edged = record {
 }
 
 pub right : Right five × Right six × Right secondary × Right quiet × Right loud × Right later × Right removed × Right hfr × Right edged
+    × Right coarse × Right fine
 unfolding legalLayout stageHasRoom hasRoom allFinite stageRecord allFactors channelFactors bandFactor peakOf factorOf countLe scalingTable folded maxF absF
     build blocks allScaled channelScaled scaledBand scaledValue heldF allSide channelSide intensitySide scaleSide groupCount bandsPerGroup ceilDiv secondaryAt
     kindAt codedCountAt sideCountAt removing removalStep halving narrowing exceeds usedBits fixedBits spectralBits headerBits channelBits bandBits valueBits
@@ -177,7 +212,7 @@ unfolding legalLayout stageHasRoom hasRoom allFinite stageRecord allFactors chan
     spectrumBits toSigned add mul heldZ clearPair clearTwo codeOf maxBitTable magnitudeBits codeLimit curvePosition heldPosition resolutionCurve deadZoneTable
     scaleOf neg div spectrumValue smallBits cheaper deltaCost laterCost near deltaBits deltaSymbol hfrScale spectrumAverage sourceAverage groupAverage
     bandsTaken noAverage withEight mean meanF groupValue minF ofInt
-right = (refl, refl, refl, refl, refl, refl, refl, refl, refl)
+right = (refl, refl, refl, refl, refl, refl, refl, refl, refl, refl, refl)
 
 -- and the bytes of some frames
 abbrev pub bytesOf : Example → List ℕ
@@ -195,13 +230,17 @@ loudBytes = 0xFF ∷ 0xFF ∷ 0x56 ∷ 0x81 ∷ 0x3B ∷ 0xB8 ∷ 0xE0 ∷ 0x00 
 abbrev pub laterBytes : List ℕ
 laterBytes = 0xFF ∷ 0xFF ∷ 0x56 ∷ 0x81 ∷ 0x3B ∷ 0xB8 ∷ 0xE0 ∷ 0x00 ∷ 0x00 ∷ 0x00 ∷ 0xE0 ∷ 0x38 ∷ 0x0E ∷ 0x03 ∷ 0x80 ∷ 0xA4 ∷ 0xF4 ∷ []
 
+abbrev pub coarseBytes : List ℕ
+coarseBytes = 0xFF ∷ 0xFF ∷ 0x00 ∷ 0x00 ∷ 0x3B ∷ 0xB9 ∷ 0xC0 ∷ 0x00 ∷ 0x00 ∷ 0x00 ∷ 0x00 ∷ 0x00 ∷ 0x00 ∷ 0x00 ∷ 0x00 ∷ 0x2A ∷ 0xDA ∷ []
+
 pub frames :
     (bytesOf five ≡ fiveBytes) × (bytesOf quiet ≡ quietBytes) × (bytesOf loud ≡ loudBytes) × (bytesOf later ≡ laterBytes)
     × (frameOf (later .layout) (firstOnly (stageRecord (later .layout) (later .analysis))) ≡ loudBytes)
+    × (bytesOf coarse ≡ coarseBytes)
 unfolding stageRecord recOf build kindAt codedCountAt sideCountAt kindsOf groupCount bandsPerGroup ceilDiv fields width cheaper allZero cost deltaCost laterCost
     near deltaBits deltaSymbol codeBits smallBits codePlace spectrumBits spectrumValue heldZ magnitudeBits maxBitTable resolutionsOf resolutionAt resolution
     resolutionIn noiseAt heldPosition curvePosition resolutionCurve frameOf filledFields bits value bitsOf pack checksum blocks
-frames = (refl, refl, refl, refl, refl)
+frames = (refl, refl, refl, refl, refl, refl)
 
 -- the edge costs a bit in the estimate (133, with the check's 16) and none in the frame (116 and 16)
 pub estimated : usedBits (loud .layout) (loud .analysis .scaled) (loud .factors) 173 1 ≡ 133

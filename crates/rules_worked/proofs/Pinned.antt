@@ -8,7 +8,7 @@ use lib.ListN.{replicate}
 use Rattle.floats.specs.Single.{zeroF}
 use Rattle.rules.specs.Stage.{StageLeft, delivery}
 use Rattle.rules_worked.proofs.Runs.{run-delivered}
-use Rattle.rules_worked.proofs.Inputs.{loud, removed, hfr, right}
+use Rattle.rules_worked.proofs.Inputs.{loud, coarse, removed, hfr, right}
 use Rattle.rules_worked.proofs.Worked.{left}
 
 -- HFR: one group, whose average of 0.0625 is multiplied by SQRT_2, has scale 47; the rest of side is 0
@@ -31,6 +31,11 @@ loud-factors = ap (λ (x : StageLeft). x .factors) (run-delivered loud (right .4
 pub loud-codes : left loud .codes ≡ pos 28 ∷ pos 14 ∷ replicate 1022 (pos 0)
 unfolding delivery
 loud-codes = ap (λ (x : StageLeft). x .codes) (run-delivered loud (right .4) (omega arith) (omega arith))
+
+-- the same with the highest resolution 8
+pub coarse-codes : left coarse .codes ≡ pos 14 ∷ pos 14 ∷ replicate 1022 (pos 0)
+unfolding delivery
+coarse-codes = ap (λ (x : StageLeft). x .codes) (run-delivered coarse (right .9) (omega arith) (omega arith))
 
 -- Removal: the factors of the pair are 0, the scaled values stay
 pub removed-factors : left removed .factors ≡ replicate 128 0

@@ -5,8 +5,8 @@ use native.Mathlib.Omega.{arith}
 use Rattle.rules.specs.Refusals.{delivered, refused}
 use Rattle.rules.specs.Stage.{StageLeft, encodeFrame}
 use Rattle.rules_worked.proofs.Runs.{Example, lent, run-outcome, run-none, run-frame}
-use Rattle.rules_worked.proofs.Inputs.{five, six, secondary, quiet, loud, later, removed, hfr, right, frames, fiveBytes, quietBytes, loudBytes}
-use Rattle.rules_worked.proofs.Inputs.{laterBytes}
+use Rattle.rules_worked.proofs.Inputs.{five, six, secondary, quiet, loud, coarse, fine, later, removed, hfr, right}
+use Rattle.rules_worked.proofs.Inputs.{frames, fiveBytes, quietBytes, loudBytes, coarseBytes, laterBytes}
 
 -- what the stage leaves on an example's spectra
 abbrev pub left : Example → StageLeft
@@ -35,6 +35,13 @@ removed-delivered = run-outcome removed (right .6) (omega arith) (omega arith)
 pub hfr-delivered : left hfr .outcome ≡ delivered (142 ∷ 0 ∷ 0 ∷ 120 ∷ [])
 hfr-delivered = run-outcome hfr (right .7) (omega arith) (omega arith)
 
+-- the spectra of `loud` under the pairs 1, 8 and 9, 15 (request A8)
+pub coarse-delivered : left coarse .outcome ≡ delivered (0 ∷ 0 ∷ 0 ∷ 108 ∷ [])
+coarse-delivered = run-outcome coarse (right .9) (omega arith) (omega arith)
+
+pub fine-refused : left fine .outcome ≡ refused 5 0
+fine-refused = ap (λ x. x .outcome) (run-none fine (right .10) (omega arith))
+
 -- their frames
 pub five-frame : left five .frame ≡ fiveBytes
 five-frame = run-frame five (right .0) _ (frames .0) (omega arith) (omega arith)
@@ -44,6 +51,9 @@ quiet-frame = run-frame quiet (right .3) _ (frames .1) (omega arith) (omega arit
 
 pub loud-frame : left loud .frame ≡ loudBytes
 loud-frame = run-frame loud (right .4) _ (frames .2) (omega arith) (omega arith)
+
+pub coarse-frame : left coarse .frame ≡ coarseBytes
+coarse-frame = run-frame coarse (right .9) _ (frames .5) (omega arith) (omega arith)
 
 pub later-frame : left later .frame ≡ laterBytes
 later-frame = run-frame later (right .5) _ (frames .3) (omega arith) (omega arith)

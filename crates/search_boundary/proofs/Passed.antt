@@ -31,13 +31,13 @@ pub even-turn : (f g : ℕ → ℕ) (n start fall rise x y u v : ℕ) → sumTo 
     → sumTo f (n + 1) + (fall + v + start) ≡ sumTo g (n + 1) + (rise + u)
 even-turn f g n start fall rise x y u v e h p q = omega (arith, sum-more f n, sum-more g n)
 
-module _ (sc : List Float) (fs : List ℕ) (coded level : ℕ) where
+module _ (l : Layout) (sc : List Float) (fs : List ℕ) (coded level : ℕ) where
   -- band b's bits at a noise
   abbrev pub bitsAt : (noise b : ℕ) → ℕ
-  bitsAt noise b = bandBits sc b (resolution noise (getD fs b 0))
+  bitsAt noise b = bandBits sc b (resolution l noise (getD fs b 0))
 
   -- from the boundary b to the next, band b goes from the level's noise to the finer one
-  pub passes : (b : ℕ) → b < coded → channelBits sc fs coded level (b + 1) + bitsAt level b ≡ channelBits sc fs coded level b + bitsAt (level - 1) b
+  pub passes : (b : ℕ) → b < coded → channelBits l sc fs coded level (b + 1) + bitsAt level b ≡ channelBits l sc fs coded level b + bitsAt (level - 1) b
   unfolding channelBits resolutionAt noiseAt
   passes b h =
       ap (λ k. sumTo next coded + k) (sym (rw (le-ltb b b (omega arith))))
@@ -47,12 +47,12 @@ module _ (sc : List Float) (fs : List ℕ) (coded level : ℕ) where
       ∙ ap (λ k. sumTo here coded + k) (rw (lt-ltb b (b + 1) (omega arith)))
     where
       next : ℕ → ℕ
-      next i = bandBits sc i (resolutionAt level (b + 1) fs i)
+      next i = bandBits sc i (resolutionAt l level (b + 1) fs i)
 
       here : ℕ → ℕ
-      here i = bandBits sc i (resolutionAt level b fs i)
+      here i = bandBits sc i (resolutionAt l level b fs i)
 
-  pub all-passed : (x y : ℕ) → coded ≤ x → coded ≤ y → channelBits sc fs coded level x ≡ channelBits sc fs coded level y
+  pub all-passed : (x y : ℕ) → coded ≤ x → coded ≤ y → channelBits l sc fs coded level x ≡ channelBits l sc fs coded level y
   unfolding channelBits resolutionAt noiseAt
   all-passed x y h k =
       sum-same _ _ coded
@@ -61,11 +61,11 @@ module _ (sc : List Float) (fs : List ℕ) (coded level : ℕ) where
 -- when every channel has moved, so have the frame's bits
 pub all-moved : (l : Layout) (scaled : List Float) (factors : List ℕ) (level used from to n rise fall : ℕ) → n ≡ l .channels
     → used ≡ usedBits l scaled factors level from
-    → sumTo (λ i. channelBits (part 1024 scaled i) (part 128 factors i) (codedCountAt l i) level to) n + (fall + used)
-    ≡ sumTo (λ i. channelBits (part 1024 scaled i) (part 128 factors i) (codedCountAt l i) level from) n + rise
+    → sumTo (λ i. channelBits l (part 1024 scaled i) (part 128 factors i) (codedCountAt l i) level to) n + (fall + used)
+    ≡ sumTo (λ i. channelBits l (part 1024 scaled i) (part 128 factors i) (codedCountAt l i) level from) n + rise
     → usedBits l scaled factors level to + fall ≡ rise
 unfolding usedBits spectralBits
 all-moved l scaled factors level used from to n rise fall p u e =
-    let x = ap (sumTo (λ i. channelBits (part 1024 scaled i) (part 128 factors i) (codedCountAt l i) level to)) p in
-    let y = ap (sumTo (λ i. channelBits (part 1024 scaled i) (part 128 factors i) (codedCountAt l i) level from)) p in
+    let x = ap (sumTo (λ i. channelBits l (part 1024 scaled i) (part 128 factors i) (codedCountAt l i) level to)) p in
+    let y = ap (sumTo (λ i. channelBits l (part 1024 scaled i) (part 128 factors i) (codedCountAt l i) level from)) p in
     omega (arith, u, e, x, y)

@@ -26,7 +26,7 @@ fn binary_search_boundary(
     used: usize,
 ) -> usize
     requires { ⌜ LegalLayout layout ⌝ }
-    requires { ⌜ IsStretched (now curve) × Counted layout (now scaled) (now counts) × AtMost 63 (now factors) ⌝ }
+    requires { ⌜ IsStretched layout (now curve) × Counted layout (now scaled) (now counts) × AtMost 63 (now factors) ⌝ }
     requires { ⌜ (length (now scaled) ≡ spectrumLength layout) × (length (now factors) ≡ factorLength layout) × (0 < level) × (level ≤ 254) ⌝ }
     requires { ⌜ (used ≡ usedBits layout (now scaled) (now factors) level 0) × (used ≤ 8 * frameSize layout) ⌝ }
     ensures { λ r. ⌜ (r ≡ searchBoundary (exceeds layout (now (scaled .entry)) (now (factors .entry)) level)) × (r ≤ 127) ⌝ }
@@ -87,7 +87,7 @@ pub fn calculate_evaluation_boundary(
     used: usize,
 ) -> usize
     requires { ⌜ LegalLayout layout ⌝ }
-    requires { ⌜ IsStretched (now curve) × Counted layout (now scaled) (now counts) × AtMost 63 (now factors) ⌝ }
+    requires { ⌜ IsStretched layout (now curve) × Counted layout (now scaled) (now counts) × AtMost 63 (now factors) ⌝ }
     requires { ⌜ (length (now scaled) ≡ spectrumLength layout) × (length (now factors) ≡ factorLength layout) × (level ≤ 254) ⌝ }
     requires { ⌜ (used ≡ usedBits layout (now scaled) (now factors) level 0) × (used ≤ 8 * frameSize layout) ⌝ }
     ensures { λ r. ⌜ (r ≡ boundaryOf level (exceeds layout (now (scaled .entry)) (now (factors .entry)) level)) × (r ≤ 127) ⌝ }

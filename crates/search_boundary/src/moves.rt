@@ -25,6 +25,7 @@ struct Change {
 
 // Of a channel's coded bands.
 fn channel_change(
+    layout: Layout,
     curve: &[u8; 688],
     scaled: &[f32],
     counts: &[i32],
@@ -34,11 +35,11 @@ fn channel_change(
     from: usize,
     to: usize,
 ) -> Change
-    requires { ⌜ IsStretched (now curve) × ChannelCounted (now scaled) coded (now counts) × AtMost 63 (now factors) ⌝ }
+    requires { ⌜ IsStretched layout (now curve) × ChannelCounted (now scaled) coded (now counts) × AtMost 63 (now factors) ⌝ }
     requires { ⌜ (length (now counts) ≡ 1024) × (length (now factors) ≡ 128) × (coded ≤ 128) ⌝ }
     requires { ⌜ (0 < level) × (level ≤ 254) × (from ≤ to) × (to ≤ 128) ⌝ }
-    ensures { λ r. ⌜ (channelBits (now (scaled .entry)) (now (factors .entry)) coded level to + r .fall
-        ≡ channelBits (now (scaled .entry)) (now (factors .entry)) coded level from + r .rise) × (r .rise ≤ 12288) × (r .fall ≤ 12288) ⌝ }
+    ensures { λ r. ⌜ (channelBits layout (now (scaled .entry)) (now (factors .entry)) coded level to + r .fall
+        ≡ channelBits layout (now (scaled .entry)) (now (factors .entry)) coded level from + r .rise) × (r .rise ≤ 12288) × (r .fall ≤ 12288) ⌝ }
 {
     let end = smaller(to, coded);
     let finer = level - 1;
@@ -47,8 +48,8 @@ fn channel_change(
     let mut b = from;
     while b < end {
         let factor = factors[b];
-        rise += band_bits(curve, scaled, counts, b, factor, finer);
-        fall += band_bits(curve, scaled, counts, b, factor, level);
+        rise += band_bits(layout, curve, scaled, counts, b, factor, finer);
+        fall += band_bits(layout, curve, scaled, counts, b, factor, level);
         b += 1;
     }
     Change { rise, fall }
@@ -67,7 +68,7 @@ pub fn move_boundary(
     to: usize,
 ) -> usize
     requires { ⌜ LegalLayout layout ⌝ }
-    requires { ⌜ IsStretched (now curve) × Counted layout (now scaled) (now counts) × AtMost 63 (now factors) ⌝ }
+    requires { ⌜ IsStretched layout (now curve) × Counted layout (now scaled) (now counts) × AtMost 63 (now factors) ⌝ }
     requires { ⌜ (length (now scaled) ≡ spectrumLength layout) × (length (now factors) ≡ factorLength layout) ⌝ }
     requires { ⌜ (0 < level) × (level ≤ 254) × (from ≤ to) × (to ≤ 128) ⌝ }
     requires { ⌜ (used ≡ usedBits layout (now scaled) (now factors) level from) × (used ≤ 8 * frameSize layout) ⌝ }
@@ -82,6 +83,7 @@ pub fn move_boundary(
         let a = c * 1024;
         let f = c * 128;
         let change = channel_change(
+            layout,
             curve,
             &scaled[a..a + 1024],
             &counts[a..a + 1024],

@@ -29,7 +29,7 @@ fn binary_search_level(
     factors: &[u8],
 ) -> Halving
     requires { ⌜ LegalLayout layout ⌝ }
-    requires { ⌜ IsStretched (now curve) × Counted layout (now scaled) (now counts) × AtMost 63 (now factors) ⌝ }
+    requires { ⌜ IsStretched layout (now curve) × Counted layout (now scaled) (now counts) × AtMost 63 (now factors) ⌝ }
     requires { ⌜ (length (now scaled) ≡ spectrumLength layout) × (length (now factors) ≡ factorLength layout) ⌝ }
     ensures { λ r. ⌜ (r .level ≡ levelOf (λ level. exceeds layout (now (scaled .entry)) (now (factors .entry)) level 0)) × (r .level ≤ 255)
         × (r .used ≡ levelBits layout (now (scaled .entry)) (now (factors .entry)) (r .level)) × (r .used ≤ 8 * frameSize layout) ⌝ }
@@ -91,7 +91,7 @@ pub fn calculate_noise_level(
     factors: &mut [u8],
 ) -> Removal
     requires { ⌜ LegalLayout layout ⌝ }
-    requires { ⌜ IsStretched (now curve) × Counted layout (now scaled) (now counts) × AtMost 63 (now factors) ⌝ }
+    requires { ⌜ IsStretched layout (now curve) × Counted layout (now scaled) (now counts) × AtMost 63 (now factors) ⌝ }
     requires { ⌜ (length (now scaled) ≡ spectrumLength layout) × (length (now factors) ≡ factorLength layout) ⌝ }
     ensures { λ r. ⌜ (r .level ≡ levelFound layout (now (scaled .entry)) (now (factors .entry)) .level)
         × (r .pairs ≡ levelFound layout (now (scaled .entry)) (now (factors .entry)) .pairs)

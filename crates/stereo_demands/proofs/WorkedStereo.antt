@@ -61,6 +61,8 @@ pair = record {
   stereo = 2;
   total = 3;
   «frame_size» = 26;
+  minimum = 1;
+  maximum = 15;
 }
 
 -- the first subframe has 1, 1, 2, 5 on the left and 0.5, 3, -1, 0.25 on the right

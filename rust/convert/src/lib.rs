@@ -6,7 +6,7 @@
 //! ```
 //! let wav = std::fs::read("../../sample/line.wav")?;
 //! let take = hca_frame::read_wav(&wav)?;
-//! let settings = hca_convert::Settings { bitrate: 48_000, loop_points: None };
+//! let settings = hca_convert::Settings { bitrate: 48_000, loop_points: None, resolutions: (1, 15) };
 //! let made = hca_convert::convert(&take, &settings, |_, _| ())?;
 //! assert_eq!((made.entries.len(), made.file.len()), (47, 96 + 47 * 278));
 //! # Ok::<(), Box<dyn std::error::Error>>(())
@@ -15,7 +15,7 @@
 
 mod published;
 
-use hca_frame::{write_header, Delivered, Encoder, Kind, Layout, Refusal, Stream, Take};
+use hca_frame::{write_header, Delivered, Encoder, Kind, Layout, LayoutError, Refusal, Stream, Take};
 use published::Front;
 use std::fmt;
 
@@ -26,6 +26,8 @@ pub struct Settings {
     pub bitrate: u32,
     /// The loop's first sample and the one behind its last, of one channel.
     pub loop_points: Option<(u64, u64)>,
+    /// The lowest and the highest resolution of a band that is not silent; the published encoder's are 1 and 15.
+    pub resolutions: (u32, u32),
 }
 
 /// An HCA file and its numbers.
@@ -46,6 +48,8 @@ pub struct Converted {
 pub enum Fault {
     /// No HCA file has this rate or so many channels, nor does the published encoder take them: refusal 16, as a header's.
     Unfit,
+    /// The two resolutions are outside their limits: refusal 1.
+    Resolutions(LayoutError),
     /// The take has no samples.
     Empty,
     /// The loop does not lie within the take, which has so many samples a channel.
@@ -61,6 +65,7 @@ impl Fault {
     pub fn refusal(&self) -> Option<Refusal> {
         match *self {
             Fault::Unfit => Some(Refusal::new(Refusal::BAD_HEADER, 0)),
+            Fault::Resolutions(_) => Some(Refusal::new(Refusal::BAD_LAYOUT, 0)),
             Fault::Empty | Fault::Loop(_) => None,
             Fault::Header(refusal) | Fault::Frame(_, refusal) => Some(refusal),
         }
@@ -71,6 +76,7 @@ impl fmt::Display for Fault {
     fn fmt(&self, f: &mut fmt::Formatter<'_>) -> fmt::Result {
         match self {
             Fault::Unfit => write!(f, "no HCA file has this rate or so many channels"),
+            Fault::Resolutions(error) => error.fmt(f),
             Fault::Empty => write!(f, "it has no samples"),
             Fault::Loop(length) => write!(f, "the loop does not lie within the {length} samples"),
             Fault::Header(refusal) => write!(f, "the header: {refusal}"),
@@ -86,7 +92,10 @@ impl std::error::Error for Fault {}
 /// Samples outside -1 to 1 are taken as the nearer of the two, as the published encoder takes them.
 pub fn convert(take: &Take, settings: &Settings, mut told: impl FnMut(usize, usize)) -> Result<Converted, Fault> {
     let mut front = Front::new(take.rate, take.channels, settings.bitrate).map_err(|_| Fault::Unfit)?;
-    let layout = front.layout().map_err(|_| Fault::Unfit)?;
+    let layout = front.layout(settings.resolutions).map_err(|error| match error {
+        LayoutError::Resolutions { .. } => Fault::Resolutions(error),
+        _ => Fault::Unfit,
+    })?;
     let (count, padding) = front.begin(&take.samples).ok_or(Fault::Empty)?;
     let length = take.samples.len().div_ceil(layout.channels()) as u64;
     if settings.loop_points.is_some_and(|(start, end)| end <= start || length < end) {

@@ -53,7 +53,8 @@ impl Front {
         HcaEncoder::new(config).map(Front).map_err(|_| Unfit)
     }
 
-    pub fn layout(&self) -> Result<Layout, LayoutError> {
+    /// Its layout, with these resolutions in the place of its own, which are 1 and 15.
+    pub fn layout(&self, (minimum, maximum): (u32, u32)) -> Result<Layout, LayoutError> {
         let channels = &self.0.channel[..self.0.config.channels as usize];
         let kind = |channel: &ChannelEncodeState| match channel.channel_type {
             ChannelType::Discrete => Kind::Discrete,
@@ -62,7 +63,12 @@ impl Front {
         };
         let kinds: Vec<Kind> = channels.iter().map(kind).collect();
         let bands = [self.0.base_band_count, self.0.stereo_band_count, self.0.total_band_count];
-        Layout::builder().channels(&kinds).bands(bands[0], bands[1], bands[2]).frame_size(self.0.frame_size).build()
+        Layout::builder()
+            .channels(&kinds)
+            .bands(bands[0], bands[1], bands[2])
+            .frame_size(self.0.frame_size)
+            .resolutions(minimum, maximum)
+            .build()
     }
 
     /// Begins a take: its frames and its padding; none of no samples.
@@ -170,7 +176,7 @@ mod tests {
 
     #[test]
     fn layouts_of_the_published_encoder() {
-        let layout = |rate, channels, bitrate| Front::new(rate, channels, bitrate).ok().unwrap().layout().unwrap();
+        let layout = |rate, channels, bitrate| Front::new(rate, channels, bitrate).ok().unwrap().layout((1, 15)).unwrap();
         let mono = layout(22_050, 1, 48_000);
         assert_eq!((mono.frame_size(), mono.kinds()), (278, &[Kind::Discrete][..]));
         let pair = layout(22_050, 2, 72_000);

@@ -12,7 +12,7 @@ fn take(channels: u16, rate: u32, samples: usize) -> Take {
 }
 
 fn made(take: &Take, bitrate: u32) -> Result<Converted, Fault> {
-    convert(take, &Settings { bitrate, loop_points: None }, |_, _| ())
+    convert(take, &Settings { bitrate, loop_points: None, resolutions: (1, 15) }, |_, _| ())
 }
 
 #[test]
@@ -38,7 +38,9 @@ fn what_no_hca_file_has() {
 #[test]
 fn loops_lie_within_the_take() {
     let take = take(2, 48_000, 4000);
-    let with = |start, end| convert(&take, &Settings { bitrate: 96_000, loop_points: Some((start, end)) }, |_, _| ());
+    let with = |start, end| {
+        convert(&take, &Settings { bitrate: 96_000, loop_points: Some((start, end)), resolutions: (1, 15) }, |_, _| ())
+    };
     assert_eq!(with(5, 5).unwrap_err(), Fault::Loop(2000));
     assert_eq!(with(0, 2001).unwrap_err(), Fault::Loop(2000));
     assert_eq!(with(0, u64::MAX).unwrap_err(), Fault::Loop(2000));
@@ -57,7 +59,22 @@ fn frames_that_are_too_small() {
 #[test]
 fn every_frame_is_told() {
     let mut heard = Vec::new();
-    convert(&take(1, 48_000, 1921), &Settings { bitrate: 64_000, loop_points: None }, |done, all| heard.push((done, all)))
-        .unwrap();
+    convert(&take(1, 48_000, 1921), &Settings { bitrate: 64_000, loop_points: None, resolutions: (1, 15) }, |done, all| {
+        heard.push((done, all))
+    })
+    .unwrap();
     assert_eq!(heard, [(1, 3), (2, 3), (3, 3)]);
+}
+
+#[test]
+fn resolutions_of_the_settings() {
+    let take = take(1, 48_000, 4000);
+    let with = |resolutions| convert(&take, &Settings { bitrate: 64_000, loop_points: None, resolutions }, |_, _| ());
+    let limited = with((4, 6)).unwrap();
+    assert_eq!((limited.layout.minimum_resolution(), limited.layout.maximum_resolution()), (4, 6));
+    assert_eq!(limited.file[30..32], [4, 6]);
+    assert_ne!(limited.file[96..], made(&take, 64_000).unwrap().file[96..]);
+    let fault = with((9, 8)).unwrap_err();
+    assert_eq!(fault, Fault::Resolutions(LayoutError::Resolutions { minimum: 9, maximum: 8 }));
+    assert_eq!((fault.refusal().unwrap().number, fault.to_string().starts_with("resolutions from 9 to 8;")), (1, true));
 }

@@ -15,6 +15,9 @@ LAYOUT is --kinds PS --base 40 --stereo 60 --total 117 --frame-size 512:
   --kinds       a letter a channel, 1 to 16 of them: D discrete, P stereo primary, S stereo secondary
   --base, --stereo, --total   counts of bands; total is 1 to 128, base and stereo together at most total
   --frame-size  bytes of a frame, 8 to 65535
+  --minimum, --maximum   the lowest and the highest resolution of a band that is not silent, within 1 to 15; 1 and 15 where
+                they are not given. They say how coarsely and how finely a band may be coded; frames are read with the two
+                that they were made with, and the header of a file carries them
 or --layout FILE, a text file with these words; a line that begins with # is a comment.
 ";
 
@@ -34,10 +37,11 @@ A closed pipe ends the text, not the work. Where standard output is full or clos
 const CONVERT: &str = "\
 Makes the HCA file of a WAV file. The word --in may be left out. The published encoder chooses the layout for the bit rate.
 Proved: reading the WAV file, mixing pairs, each frame, the header and the list are calls of the proved library. Not proved:
-the layout's choice, the number of frames and the MDCT, which are taken from the published encoder's source; runs show that the
-file is that of its encode_wav_to_hca, byte for byte. What it takes and convert refuses: samples that are NaN or infinite
-(refusal 25), of other depths than 16, 24 and 32 bits (24), more than 16777216 of them (30), and a loop that does not lie
-within the take (status 2). Samples beyond -1 and 1 are clipped, as there; so refusal 17 does not come. Not here: a cipher.
+the layout's choice, the number of frames and the MDCT, which are taken from the published encoder's source; runs show that with
+resolutions 1 to 15, which are its own, the file is that of its encode_wav_to_hca, byte for byte. What it takes and convert
+refuses: samples that are NaN or infinite (refusal 25), of other depths than 16, 24 and 32 bits (24), more than 16777216 of them
+(30), and a loop that does not lie within the take (status 2). Samples beyond -1 and 1 are clipped, as there; so refusal 17 does
+not come. Not here: a cipher.
 ";
 
 const BANK: &str = "\
@@ -220,8 +224,8 @@ usage: hcaframe header LAYOUT --rate N --count N --padding N [--loop-start N --l
 [--frames FILE [--unchecked]] --out FILE [--quiet]
 usage: hcaframe wav --in FILE [--samples FILE] [--quiet]
 usage: hcaframe list --list FILE [--frame N] [--svg FILE [--frame-size N]] [--quiet]
-usage: hcaframe convert [--in] FILE --bitrate N [--loop-start N --loop-end N] --out FILE [--list FILE] [--quiet]
-usage: hcaframe bank --bitrate N --in FOLDER --out FOLDER [--jobs N] [--shard K/N] [--report FILE] [--force] [--quiet]
+usage: hcaframe convert [--in] FILE --bitrate N [--minimum N] [--maximum N] [--loop-start N --loop-end N] --out FILE [--list FILE] [--quiet]
+usage: hcaframe bank --bitrate N [--minimum N] [--maximum N] --in FOLDER --out FOLDER [--jobs N] [--shard K/N] [--report FILE] [--force] [--quiet]
 ";
         assert_eq!(all, expected);
     }

@@ -11,13 +11,48 @@ pub fn layout_of(options: &Options) -> Result<Layout, Stop> {
     let size = number(Name::FrameSize);
     let kinds = options.kinds();
     if let Some(limit) = broken_limit(kinds.len(), base, stereo, total, size) {
-        let refusal = crate::report::refusal(Refusal::new(Refusal::BAD_LAYOUT, 0));
-        return Err(Stop::wrong(format_args!("{refusal}: {limit}")));
+        return Err(bad_layout(&limit));
     }
+    let (minimum, maximum) = resolutions_of(options)?;
     // each is below 2^16 here
     let bands = [base, stereo, total].map(|n| n as u32);
-    let built = Layout::builder().channels(kinds).bands(bands[0], bands[1], bands[2]).frame_size(size as u32).build();
+    let built = Layout::builder()
+        .channels(kinds)
+        .bands(bands[0], bands[1], bands[2])
+        .frame_size(size as u32)
+        .resolutions(minimum, maximum)
+        .build();
     built.map_err(|error| Stop::wrong(format_args!("refusal 1: {error}")))
+}
+
+/// The lowest and the highest resolution, or refusal 1.
+pub fn resolutions_of(options: &Options) -> Result<(u32, u32), Stop> {
+    let minimum = options.number(Name::Minimum).unwrap_or(1);
+    let maximum = options.number(Name::Maximum).unwrap_or(15);
+    match wrong_resolutions(minimum, maximum) {
+        Some(limit) => Err(bad_layout(&limit)),
+        // each is at most 15 here
+        None => Ok((minimum as u32, maximum as u32)),
+    }
+}
+
+/// The two as words, none where they are what they are without words.
+pub fn resolution_words(minimum: u32, maximum: u32) -> String {
+    match (minimum, maximum) {
+        (1, 15) => String::new(),
+        _ => format!(" --minimum {minimum} --maximum {maximum}"),
+    }
+}
+
+fn bad_layout(limit: &str) -> Stop {
+    let refusal = crate::report::refusal(Refusal { number: Refusal::BAD_LAYOUT, place: 0 });
+    Stop::wrong(format_args!("{refusal}: {limit}"))
+}
+
+fn wrong_resolutions(minimum: u64, maximum: u64) -> Option<String> {
+    let is_right = 1 <= minimum && minimum <= maximum && maximum <= 15;
+    let limits = "they are within 1 to 15, the minimum at most the maximum";
+    (!is_right).then(|| format!("--minimum is {minimum} and --maximum is {maximum}; {limits}"))
 }
 
 /// The first limit that is broken, in the order in which the calls judge.
@@ -90,5 +125,12 @@ mod tests {
             "--base is 999999999999999999, above --total, which is 60"
         );
         assert_eq!(broken_limit(1, 40, 20, 60, 8), None);
+        assert_eq!(
+            wrong_resolutions(0, 999_999_999_999_999_999).unwrap(),
+            "--minimum is 0 and --maximum is 999999999999999999; they are within 1 to 15, the minimum at most the maximum"
+        );
+        let right = (0..=16).flat_map(|a| (0..=16).map(move |b| (a, b))).filter(|&(a, b)| wrong_resolutions(a, b).is_none());
+        assert_eq!(right.count(), 120);
+        assert_eq!(resolution_words(1, 15) + &resolution_words(4, 15), " --minimum 4 --maximum 15");
     }
 }

@@ -68,6 +68,8 @@ pub enum Name {
     Count,
     Padding,
     Bitrate,
+    Minimum,
+    Maximum,
     LoopStart,
     LoopEnd,
     AnyKinds,
@@ -141,7 +143,7 @@ const FRAMES: &[Command] = &[Encode, Read, Write, Check, Header];
 
 // The words of a layout have a text of their own in the help.
 #[rustfmt::skip]
-pub const OPTIONS: [Row; 31] = [
+pub const OPTIONS: [Row; 33] = [
     row(Name::Kinds, "--kinds", &[taken(FRAMES, Kinds, Needed, "")]),
     row(Name::Base, "--base", &[taken(FRAMES, Number, Needed, "")]),
     row(Name::Stereo, "--stereo", &[taken(FRAMES, Number, Needed, "")]),
@@ -170,6 +172,14 @@ pub const OPTIONS: [Row; 31] = [
             frames x 1024 - 128 - n, with (n + 128) / 1024 frames, rounded up"),
     ]),
     row(Name::Bitrate, "--bitrate", &[taken(&[Convert, Bank], Number, Needed, "bits a second, 1000 to 4294967295")]),
+    row(Name::Minimum, "--minimum", &[
+        taken(FRAMES, Number, Optional, ""),
+        taken(&[Convert, Bank], Number, Optional, "the lowest resolution of a band that is not silent, 1 to --maximum; 1 where it is not given"),
+    ]),
+    row(Name::Maximum, "--maximum", &[
+        taken(FRAMES, Number, Optional, ""),
+        taken(&[Convert, Bank], Number, Optional, "the highest resolution, --minimum to 15; 15 where it is not given. The header carries both"),
+    ]),
     row(Name::LoopStart, "--loop-start", &[
         taken(&[Header], Number, With(Name::LoopEnd), "the loop in samples, at most 4294967167; both or none"),
         taken(&[Convert], Number, With(Name::LoopEnd), "the loop's first sample, and the one behind its last; both or none"),
@@ -243,9 +253,10 @@ impl Name {
         OPTIONS[self as usize].uses.iter().find(|one| one.by.contains(&command))
     }
 
-    /// Is it of the five that say a layout, and may stand in a layout file?
+    /// Is it of the seven that say a layout, and may stand in a layout file?
     pub fn is_of_layout(self) -> bool {
-        matches!(self, Name::Kinds | Name::Base | Name::Stereo | Name::Total | Name::FrameSize)
+        let is_limit = matches!(self, Name::Minimum | Name::Maximum);
+        is_limit || matches!(self, Name::Kinds | Name::Base | Name::Stereo | Name::Total | Name::FrameSize)
     }
 }
 

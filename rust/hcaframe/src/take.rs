@@ -44,6 +44,7 @@ fn refused(take: &Take, fault: Fault) -> Stop {
             take.channels,
             take.rate
         )),
+        Fault::Resolutions(error) => Stop::wrong(format_args!("refusal 1: {error}")),
         Fault::Empty => Stop::refused("hcaframe: it has no samples\n".to_string()),
         Fault::Loop(length) => Stop::wrong(format_args!(
             "the loop does not lie within the take: --loop-start is below --loop-end, and that at most {length}, its samples a channel"

@@ -1,19 +1,26 @@
 //! A take's whole way, by `hca_convert::convert` over the library and by the Rust's own `encode_wav_to_hca`: the same file byte for byte, or
 //! refused by both. With a program in HCAFRAME (an absolute path) each case goes through `hcaframe convert` too, whose file has to be the same.
+//! With --pairs each take is made under one of the 120 pairs of limits, and held against the Rust's second copy.
 use compare::{run, Options, Outcome};
 use gen::convert::{case, kind_of, Case, KINDS};
+use gen::limits::pair;
 use hca_convert::{convert, Fault, Settings};
 use hca_frame::{read_wav, Refusal};
 use published::hca::encoder::{encode_wav_to_hca, HcaEncoderConfig, HcaEncoderError};
+use published::hca::limited;
+use published::limits::under;
 use std::io::Cursor;
 use std::path::PathBuf;
 use std::process::{Command, Stdio};
 
+/// Lowest and highest resolution.
+type Pair = (u32, u32);
+
 /// The file, or the number of the refusal; 0 where there is none.
-fn by_library(case: &Case) -> Result<Vec<u8>, u32> {
+fn by_library(case: &Case, resolutions: Pair) -> Result<Vec<u8>, u32> {
     let take = read_wav(&case.wav).map_err(|no| no.number)?;
     let loop_points = case.loop_points.map(|(start, end)| (start.into(), end.into()));
-    let settings = Settings { bitrate: case.bitrate, loop_points };
+    let settings = Settings { bitrate: case.bitrate, loop_points, resolutions };
     let made = convert(&take, &settings, |_, _| ()).map_err(|fault: Fault| fault.refusal().map_or(0, |no| no.number))?;
     Ok(made.file)
 }
@@ -28,6 +35,24 @@ fn by_rust(case: &Case) -> Result<Vec<u8>, HcaEncoderError> {
     Ok(file.into_inner())
 }
 
+/// The same by the second copy, under a pair of limits.
+fn by_second_copy(case: &Case, (minimum, maximum): Pair) -> Result<Vec<u8>, HcaEncoderError> {
+    let mut config = limited::HcaEncoderConfig::new(case.rate, case.channels.into()).with_bitrate(case.bitrate);
+    if let Some((start, end)) = case.loop_points {
+        (config.loop_start, config.loop_end) = (Some(start), Some(end));
+    }
+    let mut file = Cursor::new(Vec::new());
+    let made = under(&[0, 0, 0, 0, 0, minimum, maximum], || limited::encode_wav_to_hca(&case.wav, &mut file, Some(config)));
+    match made {
+        Ok(_) => Ok(file.into_inner()),
+        Err(limited::HcaEncoderError::InvalidSampleRate(n)) => Err(HcaEncoderError::InvalidSampleRate(n)),
+        Err(limited::HcaEncoderError::InvalidChannelCount(n)) => Err(HcaEncoderError::InvalidChannelCount(n)),
+        Err(limited::HcaEncoderError::FrameTooLarge) => Err(HcaEncoderError::FrameTooLarge),
+        Err(limited::HcaEncoderError::NoSamples) => Err(HcaEncoderError::NoSamples),
+        Err(limited::HcaEncoderError::Io(error)) => Err(HcaEncoderError::Io(error)),
+    }
+}
+
 /// The refusals that stand for an error of the Rust.
 fn numbers(error: &HcaEncoderError) -> &'static [u32] {
     match error {
@@ -38,8 +63,9 @@ fn numbers(error: &HcaEncoderError) -> &'static [u32] {
     }
 }
 
-fn compared(case: &Case) -> (String, Option<String>) {
-    let (ours, theirs) = (by_library(case), by_rust(case));
+fn compared(case: &Case, limits: Option<Pair>) -> (String, Option<String>) {
+    let ours = by_library(case, limits.unwrap_or((1, 15)));
+    let theirs = limits.map_or_else(|| by_rust(case), |pair| by_second_copy(case, pair));
     match (&ours, &theirs) {
         (Ok(a), Ok(b)) if a == b => ("equal".into(), None),
         (Ok(a), Ok(b)) => {
@@ -74,7 +100,7 @@ fn counted(case: &Case, outcome: String) -> Vec<String> {
 }
 
 /// The program on the same file; nothing where it makes what the library's calls make.
-fn by_program(program: &str, k: u64, case: &Case) -> Option<String> {
+fn by_program(program: &str, k: u64, case: &Case, limits: Option<Pair>) -> Option<String> {
     let folder = std::env::temp_dir();
     let name = |end: &str| -> PathBuf { folder.join(format!("compare-convert-{}-{k}.{end}", std::process::id())) };
     let (wav, hca) = (name("wav"), name("hca"));
@@ -84,10 +110,13 @@ fn by_program(program: &str, k: u64, case: &Case) -> Option<String> {
     if let Some((start, end)) = case.loop_points {
         call.args(["--loop-start", &start.to_string(), "--loop-end", &end.to_string()]);
     }
+    if let Some((minimum, maximum)) = limits {
+        call.args(["--minimum", &minimum.to_string(), "--maximum", &maximum.to_string()]);
+    }
     let status = call.stdout(Stdio::null()).stderr(Stdio::null()).status().expect("the program runs").code();
     let made = std::fs::read(&hca).ok();
     let _ = std::fs::remove_file(&wav).and_then(|()| std::fs::remove_file(&hca));
-    match (by_library(case), status, made) {
+    match (by_library(case, limits.unwrap_or((1, 15))), status, made) {
         (Ok(file), Some(0), Some(made)) if file == made => None,
         (Err(_), Some(1), None) => None,
         (_, status, _) => Some(format!("hcaframe convert: status {status:?}, or another file than the library's calls make")),
@@ -99,13 +128,14 @@ fn main() {
     let program = std::env::var("HCAFRAME").ok();
     let good = run(&o, "compare-convert", |k| {
         let case = case(o.seed, k);
-        let (outcome, mut difference) = compared(&case);
+        let limits = o.pairs.then(|| pair(k + k / 100));
+        let (outcome, mut difference) = compared(&case, limits);
         if let (None, Some(program)) = (&difference, &program) {
-            difference = by_program(program, k, &case);
+            difference = by_program(program, k, &case, limits);
         }
         let about = |text| {
             format!(
-                "  {} channels, {} Hz, {} bits, {} bytes, {} bit/s, loop {:?}\n  {text}\n",
+                "  {} channels, {} Hz, {} bits, {} bytes, {} bit/s, loop {:?}, limits {limits:?}\n  {text}\n",
                 case.channels,
                 case.rate,
                 case.depth,

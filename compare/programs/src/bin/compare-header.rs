@@ -1,8 +1,9 @@
 //! The library's header writer against the Rust's `write_header`, the buffer whole; and on the sample lines against the
 //! file that the Rust's `encode` writes.
 use compare::front::{encoder_for, read_wav, Wav};
+use compare::pairs::Met;
 use compare::{differ, run, Options, Outcome};
-use gen::header::{call, kind_of, KINDS};
+use gen::header::{call, kind_of, limited, KINDS};
 use gen::speech::call_of;
 use published::driver::pattern_bytes;
 use published::header::{write, HeaderCall};
@@ -84,12 +85,15 @@ fn sample_lines(model: bool) -> Result<(), String> {
 
 fn main() {
     let o = Options::parse("compare-header", 100_000, 3_000);
+    let met = Met::default();
     let mut good = run(&o, "compare-header", |k| {
-        let call = call(o.seed, k);
+        let call = if o.pairs { limited(o.seed, k) } else { call(o.seed, k) };
         let (number, difference) = compared(&call, o.model);
+        let difference = difference.or(met.note(&call.layout, number));
         Outcome { kind: KINDS[kind_of(k).0].0, counted: named(&call, number), difference }
     });
-    if o.only.is_none() {
+    good &= met.all(&o);
+    if o.only.is_none() && !o.pairs {
         if let Err(what) = sample_lines(o.model) {
             println!("SAMPLE LINES DIFFER, {what}");
             good = false;

@@ -1,8 +1,10 @@
 //! The library's line against as many single calls of the Rust and of the library itself, every buffer whole. Then lines of
 //! 65,535 frames, which is the most, and of one more.
+use compare::pairs::Met;
 use compare::{differ, differ_answer, run, Options, Outcome};
-use gen::line::{call, kind_of, KINDS, LONGEST};
-use published::driver::{stage, Lent, StageCall};
+use gen::line::{call, kind_of, limited, KINDS, LONGEST};
+use published::driver::{Lent, StageCall};
+use published::limits::stage;
 use published::line::{line, LineCall, LineLent, MOST};
 use std::sync::Mutex;
 
@@ -84,7 +86,7 @@ fn compared(call: &LineCall, model: bool) -> (u32, usize, String) {
 
 fn describe(call: &LineCall) -> String {
     format!(
-        "  layout (channels, base, stereo, total, frame) {:?}, kinds {:?}, {} frames, tally {:?}\n  {} spectra, {} intensities\n  lengths of scaled, codes, factors, side, frames, answers, answer: {:?}\n",
+        "  layout (channels, base, stereo, total, frame, minimum, maximum) {:?}, kinds {:?}, {} frames, tally {:?}\n  {} spectra, {} intensities\n  lengths of scaled, codes, factors, side, frames, answers, answer: {:?}\n",
         call.layout,
         call.kinds,
         call.count,
@@ -138,10 +140,11 @@ fn longest_lines(model: bool) -> bool {
 
 fn main() {
     let o = Options::parse("compare-line", 20_000, 600);
-    let places = Mutex::new(Places::default());
+    let (places, met) = (Mutex::new(Places::default()), Met::default());
     let good = run(&o, "compare-line", |k| {
-        let call = call(o.seed, k);
-        let (number, place, text) = compared(&call, o.model);
+        let call = if o.pairs { limited(o.seed, k) } else { call(o.seed, k) };
+        let (number, place, mut text) = compared(&call, o.model);
+        text += &met.note(&call.layout, number).unwrap_or_default();
         let mut counted = vec![if number == 0 { "delivered".to_string() } else { format!("refusal {number}") }];
         if [3, 4, 5, 7].contains(&number) {
             places.lock().unwrap()[number as usize] |= 1 << place;
@@ -150,8 +153,10 @@ fn main() {
         let difference = (!text.is_empty()).then(|| format!("{}{text}", describe(&call)));
         Outcome { kind: KINDS[kind_of(k).0].0, counted, difference }
     });
-    let whole = o.only.is_none() && o.cases >= 600;
+    // a frame that is refused under 1 and 15 may be delivered under another pair
+    let whole = o.only.is_none() && o.cases >= 600 && !o.pairs;
+    let good = met.all(&o) && good;
     let good = (!whole || all_places(&places.lock().unwrap())) && good;
-    let good = (o.only.is_some() || longest_lines(o.model)) && good;
+    let good = (o.only.is_some() || o.pairs || longest_lines(o.model)) && good;
     std::process::exit(if good { 0 } else { 1 });
 }

@@ -1,8 +1,9 @@
 //! The library's strict reader, record writer and checksum against the model in
 //! C++, every buffer whole. What the library's reader accepts, its writer has to
 //! write to the same bytes again.
+use compare::pairs::Met;
 use compare::{differ, differ_answer, run, Options, Outcome};
-use gen::records::{calls, heads, kind_of, Call, ReadCall, WriteCall, KINDS};
+use gen::records::{calls, heads, kind_of, limited, Call, ReadCall, WriteCall, KINDS};
 use published::driver::{pattern_bytes, pattern_words};
 use published::hca::decoder::crc16_checksum;
 
@@ -28,7 +29,7 @@ fn number_differs(expected: u32, got: u32, text: &mut String) {
     }
 }
 
-fn read(call: &ReadCall, model: bool, counted: &mut Vec<String>) -> Option<String> {
+fn read(call: &ReadCall, model: bool, met: &Met, counted: &mut Vec<String>) -> Option<String> {
     let (p, l) = (call.pattern, &call.lengths);
     let before = Read {
         factors: pattern_bytes(p, 2, l[0]),
@@ -42,7 +43,7 @@ fn read(call: &ReadCall, model: bool, counted: &mut Vec<String>) -> Option<Strin
     let f = if model { hca_model::read_frame } else { hca_frame::raw::read_frame };
     let got = f(&call.layout, &call.kinds, &call.frame, &mut g.factors, &mut g.side, &mut g.codes, &mut g.answer);
     counted.push(named("read", number));
-    let mut text = String::new();
+    let mut text = met.note(&call.layout, got).unwrap_or_default();
     number_differs(number, got, &mut text);
     differ_answer(&before.answer, &e.answer, &g.answer, &mut text);
     differ("factors", &before.factors, &e.factors, &g.factors, &mut text);
@@ -53,7 +54,7 @@ fn read(call: &ReadCall, model: bool, counted: &mut Vec<String>) -> Option<Strin
     }
     (!text.is_empty()).then(|| {
         format!(
-            "read_frame\n  layout (channels, base, stereo, total, frame) {:?}, kinds {:?}\n  frame {}\n  lengths of factors, side, codes, answer: {:?}\n  model: {number} {:?}, library: {got} {:?}\n{text}",
+            "read_frame\n  layout (channels, base, stereo, total, frame, minimum, maximum) {:?}, kinds {:?}\n  frame {}\n  lengths of factors, side, codes, answer: {:?}\n  model: {number} {:?}, library: {got} {:?}\n{text}",
             call.layout, call.kinds, hex(&call.frame), call.lengths, e.answer, g.answer
         )
     })
@@ -70,7 +71,7 @@ fn write_back(call: &ReadCall, model: bool, g: &Read, text: &mut String) {
     differ("frame written back", &vec![0x5A; size], &call.frame[..size], &frame, text);
 }
 
-fn write(call: &WriteCall, model: bool, counted: &mut Vec<String>) -> Option<String> {
+fn write(call: &WriteCall, model: bool, met: &Met, counted: &mut Vec<String>) -> Option<String> {
     let before = (pattern_bytes(call.pattern, 4, call.lengths[0]), pattern_words(call.pattern, 5, call.lengths[1]));
     let (mut e, mut g) = (before.clone(), before.clone());
     let number = hca_model::write_record(
@@ -86,7 +87,7 @@ fn write(call: &WriteCall, model: bool, counted: &mut Vec<String>) -> Option<Str
     let f = if model { hca_model::write_record } else { hca_frame::raw::write_record };
     let got = f(&call.layout, &call.kinds, &call.record, &call.factors, &call.side, &call.codes, &mut g.0, &mut g.1);
     counted.push(named("write", number));
-    let mut text = String::new();
+    let mut text = met.note(&call.layout, got).unwrap_or_default();
     number_differs(number, got, &mut text);
     differ_answer(&before.1, &e.1, &g.1, &mut text);
     differ("frame", &before.0, &e.0, &g.0, &mut text);
@@ -96,7 +97,7 @@ fn write(call: &WriteCall, model: bool, counted: &mut Vec<String>) -> Option<Str
     }
     (!text.is_empty()).then(|| {
         format!(
-            "write_record\n  layout (channels, base, stereo, total, frame) {:?}, kinds {:?}, level and boundary {:?}\n  factors {}\n  side {}\n  codes not zero (place: code) {}\n  lengths of frame, answer: {:?}\n  model: {number} {:?}, library: {got} {:?}\n{text}",
+            "write_record\n  layout (channels, base, stereo, total, frame, minimum, maximum) {:?}, kinds {:?}, level and boundary {:?}\n  factors {}\n  side {}\n  codes not zero (place: code) {}\n  lengths of frame, answer: {:?}\n  model: {number} {:?}, library: {got} {:?}\n{text}",
             call.layout, call.kinds, call.record, hex(&call.factors), hex(&call.side), sparse(&call.codes), call.lengths, e.1, g.1
         )
     })
@@ -142,7 +143,7 @@ fn every_head(model: bool) -> bool {
             println!("level and boundary {put:?} in {}: answered {number} {answer:?}", hex(&call.frame));
             return false;
         }
-        if let Some(difference) = read(&call, model, &mut Vec::new()) {
+        if let Some(difference) = read(&call, model, &Met::default(), &mut Vec::new()) {
             println!("level and boundary {put:?}:\n{difference}");
             return false;
         }
@@ -161,19 +162,21 @@ fn sparse(codes: &[i32]) -> String {
 
 fn main() {
     let o = Options::parse("compare-records", 100_000, 3_000);
+    let met = Met::default();
     let good = run(&o, "compare-records", |k| {
         let mut counted = Vec::new();
         let mut difference = None;
-        for call in calls(o.seed, k) {
+        for call in if o.pairs { limited(o.seed, k) } else { calls(o.seed, k) } {
             let d = match &call {
-                Call::Read(c) => read(c, o.model, &mut counted),
-                Call::Write(c) => write(c, o.model, &mut counted),
+                Call::Read(c) => read(c, o.model, &met, &mut counted),
+                Call::Write(c) => write(c, o.model, &met, &mut counted),
                 Call::Check(b) => check(b, o.model, &mut counted),
             };
             difference = difference.or(d);
         }
         Outcome { kind: KINDS[kind_of(k).0].0, counted, difference }
     });
-    let good = (o.only.is_some() || every_head(o.model)) && good;
+    let good = met.all(&o) && good;
+    let good = (o.only.is_some() || o.pairs || every_head(o.model)) && good;
     std::process::exit(if good { 0 } else { 1 });
 }

@@ -1,7 +1,9 @@
-//! The library's frame stage against the published Rust, every buffer whole.
+//! The library's frame stage against the published Rust, every buffer whole; with --pairs against its second copy, under pairs of limits.
+use compare::pairs::Met;
 use compare::{differ, differ_answer, run, Options, Outcome};
-use gen::stage::{call, kind_of, KINDS};
-use published::driver::{stage, Lent, Notes, StageCall};
+use gen::stage::{call, kind_of, limited, KINDS};
+use published::driver::{Lent, Notes, StageCall};
+use published::limits::{pair_of, stage};
 
 fn by_library(call: &StageCall, model: bool, b: &mut Lent) -> u32 {
     let f = if model { hca_model::encode_frame } else { hca_frame::raw::encode_frame };
@@ -40,7 +42,7 @@ fn named(number: u32, notes: &Notes) -> Vec<String> {
 fn describe(call: &StageCall) -> String {
     let loud = call.spectra.iter().filter(|v| v.to_bits() << 1 != 0).count();
     format!(
-        "  layout (channels, base, stereo, total, frame) {:?}, kinds {:?}\n  {} spectra, {} not zero; intensities {:?}\n  lengths of scaled, codes, factors, side, frame, answer: {:?}\n",
+        "  layout (channels, base, stereo, total, frame, minimum, maximum) {:?}, kinds {:?}\n  {} spectra, {} not zero; intensities {:?}\n  lengths of scaled, codes, factors, side, frame, answer: {:?}\n",
         call.layout,
         call.kinds,
         call.spectra.len(),
@@ -58,13 +60,18 @@ fn list(spectra: &[f32]) -> String {
 
 fn main() {
     let o = Options::parse("compare-stage", 100_000, 3_000);
+    let met = Met::default();
     let good = run(&o, "compare-stage", |k| {
-        let call = call(o.seed, k);
+        let call = if o.pairs { limited(o.seed, k) } else { call(o.seed, k) };
         let before = call.lent();
         let (mut expected, mut got) = (before.clone(), before.clone());
         let (number, notes) = stage(&call, &mut expected);
         let answer = by_library(&call, o.model, &mut got);
-        let mut text = String::new();
+        let mut text = met.note(&call.layout, answer).unwrap_or_default();
+        let (minimum, maximum) = pair_of(&call.layout);
+        if answer == 0 && minimum == maximum && got.answer[0] != 0 {
+            text.push_str(&format!("  one resolution for all: expected level 0, got {}\n", got.answer[0]));
+        }
         if answer != number {
             text.push_str(&format!("  refusal number (0: delivered): expected {number}, got {answer}\n"));
         }
@@ -80,5 +87,6 @@ fn main() {
         });
         Outcome { kind: KINDS[kind_of(k).0].0, counted: named(number, &notes), difference }
     });
+    let good = met.all(&o) && good;
     std::process::exit(if good { 0 } else { 1 });
 }

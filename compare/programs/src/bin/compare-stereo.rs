@@ -1,6 +1,7 @@
 //! The library's stereo stage against the published Rust, every buffer whole: those of the stage, spectra and intensities.
+use compare::pairs;
 use compare::{differ, differ_answer, run, Options, Outcome};
-use gen::stereo::{call, kind_of, KINDS};
+use gen::stereo::{call, kind_of, limited, KINDS};
 use published::driver::{Notes, StageCall};
 use published::stereo::{stereo_stage, Met, StereoLent};
 use std::sync::Mutex;
@@ -41,7 +42,7 @@ fn named(number: u32, notes: &Notes, met: &Met) -> Vec<String> {
 
 fn describe(call: &StageCall) -> String {
     format!(
-        "  layout (channels, base, stereo, total, frame) {:?}, kinds {:?}\n  {} spectra; intensities {:?}\n  lengths of scaled, codes, factors, side, frame, answer: {:?}\n",
+        "  layout (channels, base, stereo, total, frame, minimum, maximum) {:?}, kinds {:?}\n  {} spectra; intensities {:?}\n  lengths of scaled, codes, factors, side, frame, answer: {:?}\n",
         call.layout,
         call.kinds,
         call.spectra.len(),
@@ -70,14 +71,14 @@ fn all_met(met: &Met) -> bool {
 
 fn main() {
     let o = Options::parse("compare-stereo", 100_000, 3_000);
-    let all = Mutex::new(Met::default());
+    let (all, under) = (Mutex::new(Met::default()), pairs::Met::default());
     let good = run(&o, "compare-stereo", |k| {
-        let call = call(o.seed, k);
+        let call = if o.pairs { limited(o.seed, k) } else { call(o.seed, k) };
         let before = StereoLent::of(&call);
         let (mut expected, mut got) = (before.clone(), before.clone());
         let (number, notes, met) = stereo_stage(&call, &mut expected);
         let answer = by_library(&call, o.model, &mut got);
-        let mut text = String::new();
+        let mut text = under.note(&call.layout, answer).unwrap_or_default();
         if answer != number {
             text.push_str(&format!("  refusal number (0: delivered): expected {number}, got {answer}\n"));
         }
@@ -98,6 +99,7 @@ fn main() {
         *all = all.with(met);
         Outcome { kind: KINDS[kind_of(k).0].0, counted: named(number, &notes, &met), difference }
     });
+    let good = under.all(&o) && good;
     let good = (o.only.is_some() || o.cases < 3_000 || all_met(&all.lock().unwrap())) && good;
     std::process::exit(if good { 0 } else { 1 });
 }

@@ -56,8 +56,8 @@ fn same(i: &mut Input, number: u32, answer: &[u32], sums: &[u32]) -> bool {
     expected == (number, answer.to_vec(), sums.to_vec())
 }
 
-fn stage(i: &mut Input) -> bool {
-    let (layout, kinds) = (i.words(5), i.bytes());
+fn stage(i: &mut Input, numbers: usize) -> bool {
+    let (layout, kinds) = (i.words(numbers), i.bytes());
     let spectra: Vec<f32> = i.runs().into_iter().map(f32::from_bits).collect();
     let intensities = i.bytes();
     let l = i.words(5);
@@ -82,8 +82,8 @@ fn stage(i: &mut Input) -> bool {
     same(i, number, &answer, &[scaled, codes, sum(factors), sum(side), sum(frame)])
 }
 
-fn read(i: &mut Input) -> bool {
-    let (layout, kinds, frame) = (i.words(5), i.bytes(), i.bytes());
+fn read(i: &mut Input, numbers: usize) -> bool {
+    let (layout, kinds, frame) = (i.words(numbers), i.bytes(), i.bytes());
     let l = i.words(3);
     let (mut factors, mut side) = (vec![0x5A; l[0] as usize], vec![0x5A; l[1] as usize]);
     let mut codes = vec![WORD as i32; l[2] as usize];
@@ -93,8 +93,8 @@ fn read(i: &mut Input) -> bool {
     same(i, number, &answer, &[sum(factors), sum(side), codes])
 }
 
-fn write(i: &mut Input) -> bool {
-    let (layout, kinds, record, factors, side) = (i.words(5), i.bytes(), i.words(2), i.bytes(), i.bytes());
+fn write(i: &mut Input, numbers: usize) -> bool {
+    let (layout, kinds, record, factors, side) = (i.words(numbers), i.bytes(), i.words(2), i.bytes(), i.bytes());
     let codes: Vec<i32> = i.runs().into_iter().map(|w| w as i32).collect();
     let mut frame = vec![0x5A; i.word() as usize];
     let mut answer = [WORD; 4];
@@ -110,19 +110,21 @@ fn replay(file: &[u8]) -> (u32, Vec<u32>) {
         let kind = i.word();
         let body = i.bytes();
         let mut b = Input(&body);
+        // from 101 on the layout has its own length
+        let numbers = if kind > 100 { b.word() as usize } else { 5 };
         let good = match kind {
-            1 => stage(&mut b),
-            2 => read(&mut b),
-            3 => write(&mut b),
+            1 | 101 => stage(&mut b, numbers),
+            2 | 102 => read(&mut b, numbers),
+            3 | 103 => write(&mut b, numbers),
             4 => u32::from(raw::checksum(&b.bytes())) == b.word(),
-            5 => header::replay(&mut b),
+            5 | 105 => header::replay(&mut b, numbers),
             6 => list::write(&mut b),
             7 => list::read(&mut b),
             8 => list::lookup(&mut b),
             9 => list::summary(&mut b),
             10 => wav::replay(&mut b),
-            11 => stereo::replay(&mut b),
-            12 => line::replay(&mut b),
+            11 | 111 => stereo::replay(&mut b, numbers),
+            12 | 112 => line::replay(&mut b, numbers),
             _ => panic!("case {k} is of no kind"),
         };
         good && b.0.is_empty()

@@ -10,11 +10,11 @@ use Rattle.estimate.proofs.channel_bits.Statement.{statement}
 use Rattle.estimate.proofs.channel_bits.Tie as tie
 
 abbrev Inv-loop : tie.InvT-loop
-Inv-loop curve scaled counts factors from to noise sum₀ b₀ sum b =
-    (from ≤ b) × (b ≤ to) × (sum + 96 * from ≤ 96 * b) × (channelBits scaled factors from noise 0 + sum ≡ channelBits scaled factors b noise 0)
+Inv-loop layout curve scaled counts factors from to noise sum₀ b₀ sum b =
+    (from ≤ b) × (b ≤ to) × (sum + 96 * from ≤ 96 * b) × (channelBits layout scaled factors from noise 0 + sum ≡ channelBits layout scaled factors b noise 0)
 
 abbrev μ-loop : tie.MeasureT-loop
-μ-loop curve scaled counts factors from to noise sum₀ b₀ sum b = to - b
+μ-loop layout curve scaled counts factors from to noise sum₀ b₀ sum b = to - b
 
 loop-holds : tie.Need-loop-holds Inv-loop μ-loop
 loop-holds c = (search needs, search needs, search needs, add-zero _)
@@ -41,7 +41,7 @@ loop-again : tie.Need-loop-again Inv-loop μ-loop
 loop-again c =
     let s = c .before .before .before in
     let a = c .before .before .before .before .before .before .args in
-    let more = one-band-more (a .scaled .now) (a .factors .now) (a .noise) (s .loop .b) in
+    let more = one-band-more (a .layout) (a .scaled .now) (a .factors .now) (a .noise) (s .loop .b) in
     let e = s .loop .inv .3 in
     (search needs, search needs, omega (arith, c .band-bits .ensures .1), omega (arith, more, e, c .band-bits .ensures .0))
 
@@ -50,7 +50,7 @@ returns c =
     let s = c .before in
     let a = c .before .before .before .before .args in
     let q : s .loop .b ≡ a .to = omega arith in
-    (s .loop .inv .3 ∙ ap (λ n. channelBits (a .scaled .now) (a .factors .now) n (a .noise) 0) q, search needs)
+    (s .loop .inv .3 ∙ ap (λ n. channelBits (a .layout) (a .scaled .now) (a .factors .now) n (a .noise) 0) q, search needs)
 
 pub channel-bits-spec : {M : Type 1} → statement M
 channel-bits-spec =

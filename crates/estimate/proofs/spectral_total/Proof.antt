@@ -19,7 +19,7 @@ use Rattle.estimate.proofs.spectral_total.Tie as tie
 abbrev Inv-loop : tie.InvT-loop
 Inv-loop layout curve scaled counts factors level channels sum₀ c₀ sum c =
     (c ≤ channels) × (sum ≤ 12288 * c)
-    × (sum ≡ sumTo (λ (i : ℕ). channelBits (part 1024 scaled i) (part 128 factors i) (codedCountAt layout i) level 0) c)
+    × (sum ≡ sumTo (λ (i : ℕ). channelBits layout (part 1024 scaled i) (part 128 factors i) (codedCountAt layout i) level 0) c)
 
 abbrev μ-loop : tie.MeasureT-loop
 μ-loop layout curve scaled counts factors level channels sum₀ c₀ sum c = channels - c
@@ -114,7 +114,7 @@ loop-again c =
       search needs,
       search needs,
       sum-turn _ _ _ _ (s .loop .inv .2)
-          (from-first _ _ _ _ _ (c .channel-bits .ensures .0)
+          (from-first _ _ _ _ _ _ (c .channel-bits .ensures .0)
           ∙ rw (back-width (s .loop .c * 1024) 1024, back-width (s .loop .c * 128) 128, c .before .before .before .before .coded-count .ensures .0)),
     )
 

@@ -34,19 +34,28 @@ shared-slice-read-wide-5 c = search needs
 wide-requires-5 : tie.Need-wide-requires-5
 wide-requires-5 c κs = search needs
 
+number-or-requires : tie.Need-number-or-requires
+number-or-requires c κs = search needs
+
+number-or-requires-2 : tie.Need-number-or-requires-2
+number-or-requires-2 c κs = search needs
+
 channels-of-requires : tie.Need-channels-of-requires
 channels-of-requires c κs = search needs
 
 returns : tie.Need-returns
 unfolding layoutOf
 returns c =
+    let s = c .before .before .before in
     rw (
       c .channels-of .ensures,
-      c .before .wide5 .ensures,
-      c .before .before .before .wide4 .ensures,
-      c .before .before .before .before .before .wide3 .ensures,
-      c .before .before .before .before .before .before .before .wide2 .ensures,
-      c .before .before .before .before .before .before .before .before .before .wide .ensures,
+      c .before .number-or2 .ensures,
+      c .before .before .number-or .ensures,
+      s .wide5 .ensures,
+      s .before .before .wide4 .ensures,
+      s .before .before .before .before .wide3 .ensures,
+      s .before .before .before .before .before .before .wide2 .ensures,
+      s .before .before .before .before .before .before .before .before .wide .ensures,
     )
 
 pub layout-of-spec : {M : Type 1} → statement M
@@ -63,5 +72,7 @@ layout-of-spec =
     wide-requires-4
     shared-slice-read-wide-5
     wide-requires-5
+    number-or-requires
+    number-or-requires-2
     channels-of-requires
     returns)

@@ -1,8 +1,8 @@
 -- `layouts::legal` meets its contract. Assumes nothing.
 use borrow.Author.Needs.{needs}
 use native.Mathlib.Omega.{arith}
-use mathlib.Core.Path.{sym}
-use Rattle.rules.proofs.Layouts.{legal-false, legal-true}
+use mathlib.Core.Path.{sym, _∙_}
+use Rattle.rules.proofs.Layouts.{legal-false, legal-pair}
 use Rattle.layouts.proofs.legal.Statement.{statement}
 use Rattle.layouts.proofs.legal.Tie as tie
 
@@ -30,8 +30,13 @@ returns-7 c = sym (legal-false (c .before .before .before .before .before .befor
 returns-8 : tie.Need-returns-8
 returns-8 c = sym (legal-false (c .before .before .before .before .before .before .before .before .args .layout) (λ h. omega arith))
 
+legal-pair-requires : tie.Need-legal-pair-requires
+legal-pair-requires c κs = search needs
+
 returns-9 : tie.Need-returns-9
-returns-9 c = sym (legal-true (c .before .before .before .before .before .before .before .before .args .layout) (search needs))
+returns-9 c =
+    let l = c .before .before .before .before .before .before .before .before .before .args .layout in
+    c .legal-pair .ensures ∙ sym (legal-pair l (omega arith) (omega arith) (omega arith) (omega arith) (omega arith) (omega arith) (omega arith))
 
 pub legal-spec : {M : Type 1} → statement M
 legal-spec =
@@ -45,4 +50,5 @@ legal-spec =
     returns-6
     returns-7
     returns-8
+    legal-pair-requires
     returns-9)

@@ -41,7 +41,7 @@ write-codes-requires c κs =
       (
         (channels .0 .few, omega (arith, head .1, channels .1), long, s .pre .1 .1 .0 .2, more .0 .1, search needs, search needs),
         (
-          subst (λ rs. AtMost 15 rs) (sym lent) (resolutions-most (a .layout) (a .level) (a .boundary) (a .factors .now)),
+          subst (λ rs. AtMost 15 rs) (sym lent) (resolutions-most (a .layout) (a .level) (a .boundary) (a .factors .now) (s .pre .0)),
           subst (λ rs. Blank (a .layout) rs) (sym lent) (made-blank (a .layout) (a .level) (a .boundary) (a .factors .now)),
           more .1,
         ),

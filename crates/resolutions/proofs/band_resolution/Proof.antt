@@ -16,9 +16,10 @@ calculate-resolution-requires c κs = search needs
 
 returns : tie.Need-returns
 returns c =
-    let s = c .before in (
+    let s = c .before in
+    let a = s .before .before .args in (
       rw (lt-ltb _ _ (s .before .if1 .taken))
-          (c .calculate-resolution .ensures .0 ∙ ap (λ (n : ℕ). resolution n (s .before .before .args .factor)) (s .noise-at .ensures .0)),
+          (c .calculate-resolution .ensures .0 ∙ ap (λ (n : ℕ). resolution (a .layout) n (a .factor)) (s .noise-at .ensures .0)),
       c .calculate-resolution .ensures .1,
     )
 

@@ -71,7 +71,7 @@ channel-resolutions-requires c κs =
     let start = c .before .before .before .before .before .before .before in
     let s = c .before .before .before .before in
     let h = c .before .before .before .loop-test .taken in
-    (start .pre .1 .0, (lent-long 128 _ _ _ h (start .pre .1 .1 .0), lent-long 128 _ _ _ h (s .loop .inv .1 .0 ∙ start .pre .1 .1 .1)))
+    ((start .pre .0, start .pre .1 .0), (lent-long 128 _ _ _ h (start .pre .1 .1 .0), lent-long 128 _ _ _ h (s .loop .inv .1 .0 ∙ start .pre .1 .1 .1)))
 
 add-c : tie.Need-add-c Inv-loop μ-loop
 add-c c =
@@ -90,8 +90,8 @@ loop-again c =
     let h = c .before .before .before .before .before .before .loop-test .taken in (
       next-le _ _ h,
       blocked-more (resolutionsAt (a .layout) (a .level) (a .boundary) (a .factors .now)) 128 (a .layout .channels) (a .resolutions .now)
-          (λ i q. channel-size _ _ _ _) (s .loop .c) (s .loop .resolutions) h (s .loop .inv .1)
-          (c .before .before .channel-resolutions .last .1 .1 .1 .1 .0) (next-ends 128 _ _ _ h (start .pre .1 .1 .1))
+          (λ i q. channel-size _ _ _ _ _) (s .loop .c) (s .loop .resolutions) h (s .loop .inv .1)
+          (c .before .before .channel-resolutions .last .1 .1 .1 .1 .1 .0) (next-ends 128 _ _ _ h (start .pre .1 .1 .1))
           (c .before .before .channel-resolutions .ensures ∙ rw (
             back-width (s .loop .c * 128) 128,
             c .before .before .before .before .before .coded-count .ensures .0,

@@ -8,11 +8,11 @@ use Rattle.resolutions.proofs.channel_resolutions.Statement.{statement}
 use Rattle.resolutions.proofs.channel_resolutions.Tie as tie
 
 abbrev Inv-loop : tie.InvT-loop
-Inv-loop level boundary factors coded resolutions₀ b₀ resolutions b = (b ≤ 128)
-    × Filled (bandResolution level boundary factors coded) resolutions₀ b resolutions
+Inv-loop layout level boundary factors coded resolutions₀ b₀ resolutions b =
+    (b ≤ 128) × Filled (bandResolution layout level boundary factors coded) resolutions₀ b resolutions
 
 abbrev μ-loop : tie.MeasureT-loop
-μ-loop level boundary factors coded resolutions₀ b₀ resolutions b = 128 - b
+μ-loop layout level boundary factors coded resolutions₀ b₀ resolutions b = 128 - b
 
 loop-holds : tie.Need-loop-holds Inv-loop μ-loop
 loop-holds c = (search needs, filled-none _ _)

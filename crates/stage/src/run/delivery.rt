@@ -103,7 +103,7 @@ fn boundary_to_frame(
     frame: &mut [u8],
 ) -> StageAnswer
     requires { ⌜ LegalLayout layout ⌝ }
-    requires { ⌜ IsStretched (now curve) × Counted layout (now scaled) (now codes) × AtMost 63 (now factors) ⌝ }
+    requires { ⌜ IsStretched layout (now curve) × Counted layout (now scaled) (now codes) × AtMost 63 (now factors) ⌝ }
     requires { ⌜ level ≤ 254 ⌝ }
     requires { ⌜ (used ≡ usedBits layout (now scaled) (now factors) level 0) × (used ≤ 8 * frameSize layout) ⌝ }
     requires { ⌜ ExactBuffers layout (length (now scaled)) (length (now codes)) (length (now factors)) (length (now side)) (length (now frame)) ⌝ }
@@ -142,7 +142,7 @@ pub(crate) fn level_to_frame(
         (levelFound layout (now (scaled .entry)) (now (factors .entry)))) ⌝ }
 {
     frame_counts(layout, scaled, codes);
-    let curve = curve_table();
+    let curve = curve_table(layout);
     let removal = calculate_noise_level(layout, &curve, scaled, codes, factors);
     let level = removal.level;
     let pairs = removal.pairs;

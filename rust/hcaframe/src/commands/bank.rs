@@ -6,6 +6,7 @@ use crate::bank::turns::Turns;
 use crate::bank::words::{is_words_file, Words};
 use crate::bank::work::{Outcome, State, Work};
 use crate::files::{Ended, Files};
+use crate::layout::{resolution_words, resolutions_of};
 use crate::options::Name;
 use crate::parse::Options;
 use crate::progress::Progress;
@@ -22,7 +23,7 @@ use std::thread;
 use std::time::Duration;
 
 pub fn run(options: &Options, text: &mut Text) -> Result<Ended, Stop> {
-    let bitrate = bitrate_of(options)?;
+    let (bitrate, resolutions) = (bitrate_of(options)?, resolutions_of(options)?);
     let jobs = jobs_of(options)?;
     is_no_bank_file(options)?;
     let takes = find(options.folder(Name::In))?;
@@ -34,14 +35,15 @@ pub fn run(options: &Options, text: &mut Text) -> Result<Ended, Stop> {
     files.output(Name::Report)?;
     let mut outputs = files.outputs();
     // the words that the files' bytes depend on
-    let told = format!("hcaframe {} --bitrate {bitrate}", env!("CARGO_PKG_VERSION"));
+    let limits = resolution_words(resolutions.0, resolutions.1);
+    let told = format!("hcaframe {} --bitrate {bitrate}{limits}", env!("CARGO_PKG_VERSION"));
     let words = Words::open(to, told, options.shard())?;
     let own = takes.iter().flat_map(Take::outputs).map(|name| to.join(name));
     let left = leftovers::remove(own.chain([words.path().to_path_buf()]))?;
     if 0 < left {
         text.say(format_args!("left behind by a run before, and removed: {left}\n"));
     }
-    let settings = Settings { bitrate, loop_points: None };
+    let settings = Settings { bitrate, loop_points: None, resolutions };
     let from = Path::new(options.folder(Name::In));
     let is_forced = options.is_given(Name::Force);
     let work =

@@ -1,9 +1,9 @@
-//! Kind 12: a whole line.
+//! Kinds 12 and 112: a whole line.
 use super::{same, sum, Input, WORD};
 use hca_frame::raw::encode_line;
 
-pub fn replay(i: &mut Input) -> bool {
-    let (layout, kinds, count) = (i.words(5), i.bytes(), i.word() as usize);
+pub fn replay(i: &mut Input, numbers: usize) -> bool {
+    let (layout, kinds, count) = (i.words(numbers), i.bytes(), i.word() as usize);
     let spectra: Vec<f32> = i.runs().into_iter().map(f32::from_bits).collect();
     let intensities = i.bytes();
     let l = i.words(6);

@@ -1,9 +1,9 @@
-//! Kind 11: the stereo stage.
+//! Kinds 11 and 111: the stereo stage.
 use super::{same, sum, Input, WORD};
 use hca_frame::raw::encode_stereo_frame;
 
-pub fn replay(i: &mut Input) -> bool {
-    let (layout, kinds) = (i.words(5), i.bytes());
+pub fn replay(i: &mut Input, numbers: usize) -> bool {
+    let (layout, kinds) = (i.words(numbers), i.bytes());
     let mut spectra: Vec<f32> = i.runs().into_iter().map(f32::from_bits).collect();
     let mut intensities = i.bytes();
     let l = i.words(5);

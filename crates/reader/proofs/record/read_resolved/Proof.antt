@@ -14,7 +14,8 @@ read-all-codes-requires : tie.Need-read-all-codes-requires
 read-all-codes-requires c κs =
     let p = c .before .before .before .before .before .before .before .before .before .pre in
     let r = c .before .before .before .before .calculate-frame-resolutions in
-    (p .0, ((p .1 .0 .1, p .1 .0 .2), (r .kept .1 .1 .1 .1 .0 ∙ p .1 .1 .1, p .1 .1 .2, subst (AtMost 15) (sym (r .ensures)) (resolutions-most _ _ _ _))))
+    let most = subst (AtMost 15) (sym (r .ensures)) (resolutions-most _ _ _ _ (p .0)) in
+    (p .0, ((p .1 .0 .1, p .1 .0 .2), (r .kept .1 .1 .1 .1 .0 ∙ p .1 .1 .1, p .1 .1 .2, most)))
 
 same-length : tie.Need-same-length
 same-length c = search needs

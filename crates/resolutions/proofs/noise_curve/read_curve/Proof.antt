@@ -16,10 +16,11 @@ element-copy-out-result c = search needs
 
 returns : tie.Need-returns
 returns c =
-    let s = c .before .before in (
-      curve-read (s .args .curve .now) (s .pre .0) (s .args .factor) (s .args .noise) (c .before .place-of .result) (s .pre .1) (s .pre .2)
-          (c .before .place-of .ensures .0),
-      curve-le (s .args .curve .now) (s .pre .0) (c .before .place-of .result + s .args .noise),
+    let s = c .before .before in
+    let a = s .args in
+    let place = c .before .place-of in (
+      curve-read (a .layout) (a .curve .now) (s .pre .0) (a .factor) (a .noise) (place .result) (s .pre .1) (s .pre .2) (place .ensures .0),
+      curve-le (a .layout) (a .curve .now) (s .pre .0) (place .result + a .noise),
     )
 
 pub read-curve-spec : {M : Type 1} → statement M

@@ -10,12 +10,12 @@ use Rattle.search_boundary.proofs.moves.channel_change.Statement.{state
 use Rattle.search_boundary.proofs.moves.channel_change.Tie as tie
 
 abbrev Inv-loop : tie.InvT-loop
-Inv-loop curve scaled counts factors coded level from to end finer rise₀ fall₀ b₀ rise fall b =
+Inv-loop layout curve scaled counts factors coded level from to end finer rise₀ fall₀ b₀ rise fall b =
     (from ≤ b) × (b ≤ to) × (rise ≤ 96 * b) × (fall ≤ 96 * b)
-    × (channelBits scaled factors coded level b + fall ≡ channelBits scaled factors coded level from + rise)
+    × (channelBits layout scaled factors coded level b + fall ≡ channelBits layout scaled factors coded level from + rise)
 
 abbrev μ-loop : tie.MeasureT-loop
-μ-loop curve scaled counts factors coded level from to end finer rise₀ fall₀ b₀ rise fall b = end - b
+μ-loop layout curve scaled counts factors coded level from to end finer rise₀ fall₀ b₀ rise fall b = end - b
 
 -- A band's turn, from x to z bits over y at the start: what it adds keeps the two sums even and in their bounds.
 module _ (x y z rise fall coarse fine b : ℕ) (even : x + fall ≡ y + rise) (passed : z + coarse ≡ x + fine) (low : rise ≤ 96 * b)
@@ -73,8 +73,8 @@ loop-again c =
     let a = c .before .before .before .before .before .before .before .before .args in
     let b = s .loop .b in
     let i = s .loop .inv in
-    let p = passes (a .scaled .now) (a .factors .now) (a .coded) (a .level) b
-    (coded-band _ _ _ _ (c .before .before .before .loop-test .taken) (c .before .before .before .before .before .smaller .ensures)) in
+    let k = coded-band _ _ _ _ (c .before .before .before .loop-test .taken) (c .before .before .before .before .before .smaller .ensures) in
+    let p = passes (a .layout) (a .scaled .now) (a .factors .now) (a .coded) (a .level) b k in
     let turn = changed _ _ _ _ _ _ _ b (i .4) p (i .2) (i .3) _ _ (c .before .band-bits .ensures .0) (c .band-bits2 .ensures .0)
     (c .before .band-bits .ensures .1) (c .band-bits2 .ensures .1) in
     (search needs, search needs, turn .0, turn .1, turn .2)
@@ -84,11 +84,11 @@ returns c =
     let s = c .before in
     let a = c .before .before .before .before .before .args in
     let e = s .loop .inv .4 in
-    let same : channelBits (a .scaled .now) (a .factors .now) (a .coded) (a .level) (a .to)
-    ≡ channelBits (a .scaled .now) (a .factors .now) (a .coded) (a .level) (s .loop .b) =
+    let same : channelBits (a .layout) (a .scaled .now) (a .factors .now) (a .coded) (a .level) (a .to)
+    ≡ channelBits (a .layout) (a .scaled .now) (a .factors .now) (a .coded) (a .level) (s .loop .b) =
     by-order (s .loop .b) (a .to)
-    (λ lt. all-passed (a .scaled .now) (a .factors .now) (a .coded) (a .level) _ _ (search needs) (search needs))
-    (λ ge. let q : a .to ≡ s .loop .b = omega arith in ap (channelBits (a .scaled .now) (a .factors .now) (a .coded) (a .level)) q) in
+    (λ lt. all-passed (a .layout) (a .scaled .now) (a .factors .now) (a .coded) (a .level) _ _ (search needs) (search needs))
+    (λ ge. let q : a .to ≡ s .loop .b = omega arith in ap (channelBits (a .layout) (a .scaled .now) (a .factors .now) (a .coded) (a .level)) q) in
     (ap (λ k. k + s .loop .fall) same ∙ e, search needs, search needs)
 
 pub channel-change-spec : {M : Type 1} → statement M

@@ -17,7 +17,7 @@ use Rattle.search_boundary.proofs.moves.move_boundary.Tie as tie
 
 abbrev Inv-loop : tie.InvT-loop
 Inv-loop layout curve scaled counts factors level used from to channels rise₀ fall₀ c₀ rise fall c =
-    let bits : ℕ → ℕ → ℕ = λ boundary i. channelBits (part 1024 scaled i) (part 128 factors i) (codedCountAt layout i) level boundary in
+    let bits : ℕ → ℕ → ℕ = λ boundary i. channelBits layout (part 1024 scaled i) (part 128 factors i) (codedCountAt layout i) level boundary in
     (c ≤ channels) × (rise ≤ used + 12288 * c) × (fall ≤ 12288 * c) × (sumTo (bits to) c + (fall + used) ≡ sumTo (bits from) c + rise)
 
 abbrev μ-loop : tie.MeasureT-loop
