@@ -14,21 +14,29 @@ target/release/replay-vectors vec/wav.vec
 target/release/compare-stage --small
 target/release/compare-stage --pairs --small
 target/release/compare-pairs
+target/release/compare-stage --held --small
+target/release/compare-modes
 target/release/compare-records --small
 target/release/compare-records --pairs --small
+target/release/compare-records --held --small
 target/release/compare-header --small
 target/release/compare-header --pairs --small
+target/release/compare-header --held --small
 target/release/compare-list --small
 target/release/compare-wav --small
 target/release/replay-vectors vec/stereo.vec
 target/release/compare-stereo --small
 target/release/compare-stereo --pairs --small
+target/release/compare-stereo --held --small
 target/release/replay-vectors vec/line.vec
 target/release/compare-line --small
 target/release/compare-line --pairs --small
+target/release/compare-line --held --small
 target/release/replay-vectors vec/limits.vec
+target/release/replay-vectors vec/modes.vec
 # through the program too, where it is built
 program=$(cd .. && pwd)/target/hcaframe
 if [ -x "$program" ]; then export HCAFRAME="$program"; fi
 target/release/compare-convert --small
 target/release/compare-convert --pairs --small
+target/release/compare-convert --held --small

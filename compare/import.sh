@@ -26,18 +26,22 @@ for f in encoder bitreader decoder tables; do
 done
 
 # The second copy of encoder.rs: where MIN_RESOLUTION and MAX_RESOLUTION are used, in three expressions on three lines, two numbers stand that
-# the thread sets before it calls (src/limits.rs). With the names put back it has to be the copy above.
+# the thread sets before it calls (src/limits.rs). In two expressions more, that of spectral_bit_count and that of quantize_spectra below resolution 8, the code
+# is first held as the thread's mode says. With the names put back, and the two holds taken out, it has to be the copy above.
 sed -e '/^pub const /!{' -e 's/MIN_RESOLUTION/crate::limits::minimum()/g' -e 's/MAX_RESOLUTION/crate::limits::maximum()/g' -e '}' \
-    "$work/encoder.rs" > "$work/limited.rs"
-sed -e 's/crate::limits::minimum()/MIN_RESOLUTION/g' -e 's/crate::limits::maximum()/MAX_RESOLUTION/g' "$work/limited.rs" > "$work/copy"
+    -e 's/quantized\.clamp(0, 15)/crate::limits::held(quantized, 8, resolution).clamp(0, 15)/' \
+    -e 's/quantized\.clamp(-8, 7)/crate::limits::held(quantized, 0, resolution).clamp(-8, 7)/' "$work/encoder.rs" > "$work/limited.rs"
+sed -e 's/crate::limits::minimum()/MIN_RESOLUTION/g' -e 's/crate::limits::maximum()/MAX_RESOLUTION/g' \
+    -e 's/crate::limits::held(quantized, [08], resolution)/quantized/' "$work/limited.rs" > "$work/copy"
 cmp "$work/encoder.rs" "$work/copy"
 lines=$(diff "$work/encoder.rs" "$work/limited.rs" | grep -c '^>')
-if [ "$lines" -ne 3 ]; then
-    echo "limited.rs: $lines lines have other limits, not three" >&2
+holds=$(grep -c 'crate::limits::held(quantized, [08], resolution)' "$work/limited.rs")
+if [ "$lines" -ne 5 ] || [ "$holds" -ne 2 ]; then
+    echo "limited.rs: $lines lines differ, $holds of them hold a code, not five and two" >&2
     exit 1
 fi
 cmp -s "$work/limited.rs" "$to/limited.rs" || cp "$work/limited.rs" "$to/limited.rs"
-echo "limited.rs: equal to encoder.rs but for the limits of the resolution, on $lines lines"
+echo "limited.rs: equal to encoder.rs but for the limits of the resolution and the mode, on $lines lines"
 
 # The lines that read a WAV file: encode_wav_to_hca hands out no samples, so its body up to where all are read (`let cfg`) makes a function
 # that does. Head and end are new; every line between them has to be the original's.

@@ -123,18 +123,19 @@ static void good_frame(struct source *s, const struct shape *l)
 {
     static float spectra[16 * 1024], scaled[16 * 1024];
     static const uint8_t intensities[128] = {7, 0, 15, 1, 8, 14, 2, 7};
-    uint32_t layout[7] = {l->channels, l->base, l->stereo, l->total, l->frame, l->minimum, l->maximum}, answer[4], number;
+    uint32_t layout[8] = {l->channels, l->base, l->stereo, l->total, l->frame, l->minimum, l->maximum, l->mode};
+    uint32_t answer[4], number;
     size_t n = l->channels;
     if (one_in(s, 4)) {
         fill_spectra(s, spectra, n * 1024);
-        number = hca_encode_frame(layout, 7, l->kinds, n, spectra, n * 1024, intensities, n * 8, scaled, n * 1024, made.codes,
+        number = hca_encode_frame(layout, 8, l->kinds, n, spectra, n * 1024, intensities, n * 8, scaled, n * 1024, made.codes,
                                   n * 1024, made.factors, n * 128, made.side, n * 8, frame_bytes, l->frame, answer, 4);
         if (number == 0)
             return;
     }
     make_record(s, l, &made);
     for (int attempt = 0; attempt < 2; attempt++) {
-        number = hca_write_record(layout, 7, l->kinds, n, made.head, 2, made.factors, n * 128, made.side, n * 8, made.codes,
+        number = hca_write_record(layout, 8, l->kinds, n, made.head, 2, made.factors, n * 128, made.side, n * 8, made.codes,
                                   n * 1024, frame_bytes, l->frame, answer, 4);
         if (number == 0)
             return;

@@ -157,18 +157,27 @@ void lend_named(struct set *b, const uint32_t *layout, size_t layout_len, const 
 
 static void lend_shape(struct set *b, const struct shape *l, struct source *s)
 {
-    uint32_t layout[9] = {l->channels, l->base, l->stereo, l->total, l->frame, l->minimum, l->maximum};
-    layout[7] = take_word(s);
+    uint32_t layout[10] = {l->channels, l->base, l->stereo, l->total, l->frame, l->minimum, l->maximum};
+    layout[7] = l->mode;
     layout[8] = take_word(s);
-    /* a default may be left out, and from the eighth number on nothing is looked at */
-    uint32_t least = l->maximum < 15 ? 7 : l->minimum > 1 ? 6 : 5;
-    lend_named(b, layout, least + pick(s, 10 - least), l->kinds, l->channels, s);
+    layout[9] = take_word(s);
+    /* a default may be left out, and from the ninth number on nothing is looked at */
+    uint32_t least = l->mode > 0 ? 8 : l->maximum < 15 ? 7 : l->minimum > 1 ? 6 : 5;
+    lend_named(b, layout, least + pick(s, 11 - least), l->kinds, l->channels, s);
+}
+
+/* The same with either mode: reader and writer do not look at it. */
+static void lend_in_any_mode(struct set *b, const struct shape *l, struct source *s)
+{
+    struct shape other = *l;
+    other.mode = pick(s, 2);
+    lend_shape(b, &other, s);
 }
 
 /* Reads a frame of this shape into set b, exact lengths. */
 uint32_t read_again(struct set *b, const struct shape *l, const uint8_t *frame, struct expected e, struct source *s)
 {
-    lend_shape(b, l, s);
+    lend_in_any_mode(b, l, s);
     lend(&b->frame, "frame", 1, l->frame, s);
     memcpy(b->frame.data, frame, l->frame);
     lend(&b->factors, "factors", 1, l->channels * 128, s);
@@ -181,7 +190,7 @@ uint32_t read_again(struct set *b, const struct shape *l, const uint8_t *frame, 
 /* Writes the record in set `from` into set b, exact lengths. */
 uint32_t write_again(struct set *b, const struct shape *l, const struct set *from, const uint32_t *record, struct source *s)
 {
-    lend_shape(b, l, s);
+    lend_in_any_mode(b, l, s);
     lend(&b->record, "record", 4, 2, s);
     memcpy(b->record.data, record, 8);
     lend(&b->factors, "factors", 1, l->channels * 128, s);
@@ -257,6 +266,8 @@ static void check_stage_frame(const struct shape *l, const struct set *b, struct
         fault("%u pairs removed of %u bands", a[2], l->start);
     if (v == ILLEGAL)
         fault("the stage delivered a record that is not legal");
+    if (v == CORNER && l->mode == 1)
+        fault("in held mode the stage delivered a code past its range");
     if (v == CORNER) {
         if (write_again(&sets[1], l, b, a, s) != HCA_NOT_LEGAL)
             fault("the writer takes a code past its range");
@@ -286,6 +297,8 @@ void check_stage_outcome(const struct shape *l, const struct set *b, uint32_t nu
         fault("refusal 5 after %u pairs of %u bands", words(&b->answer)[0], l->start);
     if (number == HCA_TOO_LONG)
         check_need(l, words(&b->answer)[0]);
+    if (number == HCA_TOO_LONG && l->maximum < 8) /* there every code is written in the bits that were counted for it */
+        fault("refusal 7 behind a found level, with no resolution above %u", l->maximum);
     if (number == 0)
         check_stage_frame(l, b, s);
 }

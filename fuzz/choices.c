@@ -33,7 +33,7 @@ static void corner_layout(struct source *s, uint32_t *w)
     w[3] = total;
 }
 
-/* The lowest and the highest resolution, now and then a wrong pair; behind them anything. Where both are missing they are 1 and 15. */
+/* The lowest and the highest resolution and the mode, now and then a wrong one; behind them anything. Where they are missing they are 1, 15 and 0. */
 static void wish_limits(struct source *s, struct wish *w)
 {
     static const uint32_t wrong[8] = {0, 16, 17, 256, 257, 271, 0x80000000, 0xFFFFFFFF};
@@ -41,9 +41,12 @@ static void wish_limits(struct source *s, struct wish *w)
     w->layout[6] = w->layout[5] + pick(s, 16 - w->layout[5]);
     if (one_in(s, 12))
         w->layout[5 + pick(s, 2)] = one_in(s, 3) ? 1 + pick(s, 15) : wrong[pick(s, 8)];
-    for (int i = 7; i < 9; i++)
+    w->layout[7] = pick(s, 2);
+    if (one_in(s, 12))
+        w->layout[7] = one_in(s, 3) ? 2 : wrong[1 + pick(s, 7)];
+    for (int i = 8; i < 10; i++)
         w->layout[i] = take_word(s);
-    w->layout_len = one_in(s, 40) ? pick(s, 10) : one_in(s, 2) ? 5 + pick(s, 5) : 5;
+    w->layout_len = one_in(s, 40) ? pick(s, 11) : one_in(s, 2) ? 5 + pick(s, 6) : 5;
 }
 
 static void wish_layout(struct source *s, struct wish *w)
@@ -102,9 +105,9 @@ size_t length_for(struct source *s, const struct wish *w, size_t need)
 
 void tame(const struct wish *w, struct shape *l)
 {
-    uint32_t layout[7] = {0, 0, 0, 0, 0, 1, 15};
+    uint32_t layout[8] = {0, 0, 0, 0, 0, 1, 15, 0};
     uint8_t kinds[20];
-    memcpy(layout, w->layout, 4 * (w->layout_len < 5 ? 5 : w->layout_len < 7 ? w->layout_len : 7));
+    memcpy(layout, w->layout, 4 * (w->layout_len < 5 ? 5 : w->layout_len < 8 ? w->layout_len : 8));
     for (int i = 0; i < 20; i++)
         kinds[i] = w->kinds[i] % 3;
     layout[0] = layout[0] < 1 ? 1 : layout[0] > 16 ? 16 : layout[0];
@@ -114,7 +117,8 @@ void tame(const struct wish *w, struct shape *l)
     layout[4] = layout[4] < 8 ? 8 : layout[4] > 65535 ? 65535 : layout[4];
     layout[5] = layout[5] < 1 ? 1 : layout[5] > 15 ? 15 : layout[5];
     layout[6] = layout[6] < layout[5] ? layout[5] : layout[6] > 15 ? 15 : layout[6];
-    shape_of(l, layout, 7, kinds, 20);
+    layout[7] %= 2;
+    shape_of(l, layout, 8, kinds, 20);
 }
 
 /* ---- spectra */

@@ -6,7 +6,7 @@
 #include "source.h"
 
 struct wish {
-    uint32_t layout[9];
+    uint32_t layout[10];
     size_t layout_len;
     uint8_t kinds[20];
     size_t kinds_len;

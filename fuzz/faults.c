@@ -1,6 +1,7 @@
 /* A library with one fault, to see that the fuzzer finds it: linked with --wrap for each function, and the environment's
    HCA_FAULT names the fault. `run.sh faults` runs them all; each has to be found. */
 #include "../include/hca_frame.h"
+#include "rules.h"
 
 #include <stdlib.h>
 #include <string.h>
@@ -22,7 +23,7 @@ static int is_fault(const char *name)
 
 static volatile uint8_t sink;
 
-/* The layout as a library takes it that does not mind its limits of the resolution; otherwise as it is. */
+/* The layout as a library takes it that does not mind its limits of the resolution or its mode; otherwise as it is. */
 static const uint32_t *minded(const uint32_t *layout, size_t layout_len, uint32_t *other)
 {
     if (layout_len < HCA_LAYOUT_FULL_COUNT)
@@ -34,9 +35,42 @@ static const uint32_t *minded(const uint32_t *layout, size_t layout_len, uint32_
         other[HCA_MAXIMUM] = 15;
     else if (is_fault("limits-exchanged"))
         other[HCA_MINIMUM] = layout[HCA_MAXIMUM], other[HCA_MAXIMUM] = layout[HCA_MINIMUM];
+    else if (is_fault("modes-exchanged"))
+        other[HCA_MODE] = layout[HCA_MODE] < 2 ? 1 - layout[HCA_MODE] : layout[HCA_MODE];
+    else if (is_fault("mode-2-let-in"))
+        other[HCA_MODE] = layout[HCA_MODE] == 2 ? 1 : layout[HCA_MODE];
+    else if (is_fault("held-in-the-code-alone"))
+        other[HCA_MODE] = layout[HCA_MODE] == 1 ? 0 : layout[HCA_MODE];
     else
         return layout;
     return other;
+}
+
+/* After a call in the Rust's mode: every code within its range, and the frame anew, which may have no room for them now. */
+static uint32_t hold_codes(const uint32_t *layout, size_t layout_len, const uint8_t *kinds, float *scaled, int32_t *codes, uint8_t *factors,
+                           uint8_t *side, uint8_t *frame, uint32_t *answer, const uint32_t *lent)
+{
+    struct shape l;
+    uint32_t record[2] = {answer[0], answer[1]}, told[4] = {0, 0, 0, 0};
+    if (layout_len < HCA_LAYOUT_FULL_COUNT || layout[HCA_MODE] != 1 || !shape_of(&l, layout, layout_len, kinds, 16))
+        return 0;
+    for (uint32_t i = 0; i < l.channels * 1024; i++) {
+        uint32_t c = i / 1024, b = i % 128, r = resolution(&l, factors[128 * c + b], record[0], record[1], b);
+        if (r < 8 && codes[i] > (int32_t)r)
+            codes[i] = (int32_t)r;
+    }
+    if (__real_hca_write_record(layout, layout_len, kinds, l.channels, record, 2, factors, l.channels * 128, side, l.channels * 8, codes,
+                                l.channels * 1024, frame, l.frame, told, 4) == 0) {
+        answer[3] = told[2];
+        return 0;
+    }
+    memset(scaled, 0, l.channels * 4096);
+    memset(codes, 0, l.channels * 4096);
+    memset(factors, 0, l.channels * 128);
+    memset(side, 0, l.channels * 8);
+    memcpy(answer, lent, 16);
+    answer[0] = told[0];
+    return 7;
 }
 
 uint32_t __wrap_hca_encode_frame(const uint32_t *layout, size_t layout_len, const uint8_t *kinds, size_t kinds_len,
@@ -48,6 +82,9 @@ uint32_t __wrap_hca_encode_frame(const uint32_t *layout, size_t layout_len, cons
     uint32_t other[HCA_LAYOUT_FULL_COUNT];
     const uint32_t *taken = minded(layout, layout_len, other);
     size_t count_taken = taken == layout ? layout_len : HCA_LAYOUT_FULL_COUNT;
+    uint32_t lent[4] = {0, 0, 0, 0};
+    if (answer_len >= 4)
+        memcpy(lent, answer, 16);
     uint32_t number = __real_hca_encode_frame(taken, count_taken, kinds, kinds_len, spectra, spectra_len, intensities,
                                               intensities_len, scaled, scaled_len, codes, codes_len, factors, factors_len, side,
                                               side_len, frame, frame_len, answer, answer_len);
@@ -79,6 +116,8 @@ uint32_t __wrap_hca_encode_frame(const uint32_t *layout, size_t layout_len, cons
         codes[0] = -codes[0];
     if (is_fault("stage-refuses-all") && number == 0)
         number = 6;
+    if (is_fault("held-in-the-code-alone") && number == 0)
+        number = hold_codes(layout, layout_len, kinds, scaled, codes, factors, side, frame, answer, lent);
     if (is_fault("stage-first-subframe-only") && number == 0)
         memset(codes + 128, 0, 4 * 896);
     return number;

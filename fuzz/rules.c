@@ -19,6 +19,9 @@ int shape_of(struct shape *out, const uint32_t *layout, size_t layout_len, const
     out->maximum = layout_len > 6 ? layout[6] : 15;
     if (out->minimum < 1 || out->maximum < out->minimum || out->maximum > 15)
         return 0;
+    out->mode = layout_len > 7 ? layout[7] : 0;
+    if (out->mode > 1)
+        return 0;
     for (uint32_t c = 0; c < out->channels; c++) {
         if (kinds[c] > 2)
             return 0;

@@ -8,6 +8,7 @@
 struct shape {
     uint32_t channels, base, stereo, total, frame;
     uint32_t minimum, maximum; /* of the resolution */
+    uint32_t mode;             /* 0 the Rust's, 1 held */
     uint32_t start;  /* N */
     uint32_t groups; /* G */
     uint8_t kinds[16];
@@ -23,7 +24,7 @@ uint32_t longest_fields(const struct shape *l);
 int32_t code_range(uint32_t resolution);
 
 enum verdict { LEGAL, CORNER, ILLEGAL };
-/* CORNER: legal but for codes one past the range at resolutions 2, 4 and 5, which the stage may deliver. */
+/* CORNER: legal but for codes one past the range at resolutions 2, 4 and 5, which the stage may deliver in the Rust's mode. */
 enum verdict record_verdict(const struct shape *l, uint32_t level, uint32_t boundary, const uint8_t *factors,
                             const uint8_t *side, const int32_t *codes);
 /* The check by division. */

@@ -81,8 +81,8 @@ extern "C" {
    hca_list_lookup                                                                                                              4
    hca_list_summary                                                                                                             3 */
 
-/* layout: five to seven numbers in this order. A sixth or seventh that is missing has its default. Numbers after the seventh are
-   not looked at, but a later version may: pass no more than seven. */
+/* layout: five to eight numbers in this order. A sixth, seventh or eighth that is missing has its default. Numbers after the
+   eighth are not looked at, but a later version may: pass no more than eight. */
 enum hca_layout {
     HCA_CHANNELS = 0,       /* C: 1 to 16 */
     HCA_BASE = 1,           /* bands that every channel codes; may be 0 */
@@ -91,8 +91,18 @@ enum hca_layout {
     HCA_FRAME_SIZE = 4,     /* F, bytes of a frame with its check: 8 to 65,535 */
     HCA_MINIMUM = 5,        /* the lowest resolution of a band that is not silent: 1 to the maximum; where missing 1 */
     HCA_MAXIMUM = 6,        /* the highest one: the minimum to 15; where missing 15 */
+    HCA_MODE = 7,           /* what becomes of a code past its range: see enum hca_mode; where missing 0 */
     HCA_LAYOUT_COUNT = 5,   /* how many numbers a layout must have */
-    HCA_LAYOUT_FULL_COUNT = 7   /* how many it has with both limits of the resolution */
+    HCA_LAYOUT_FULL_COUNT = 8   /* how many it has with both limits of the resolution and the mode */
+};
+
+/* The modes of a layout. The mode is in no frame and in no file header; only the calls that make frames from spectra look at
+   it. The others take a layout with either mode, and do the same. */
+enum hca_mode {
+    HCA_MODE_RUST = 0,      /* as the published encoder: at the upper clip and resolution 2, 4 or 5 a code can be one past its
+                               range; such a code gets no bits */
+    HCA_MODE_HELD = 1       /* below resolution 8 a code is held within plus or minus the resolution before it is counted, kept
+                               and written: hca_read_frame hands back the record of every frame that is delivered */
 };
 
 /* kinds: one byte a channel, in any arrangement. Bytes after the first C are not looked at. */
@@ -191,8 +201,8 @@ enum hca_summary {
    numbers. */
 enum hca_refusal {
     HCA_OK = 0,             /* delivered */
-    HCA_BAD_LAYOUT = 1,     /* layout outside its limits, a wrong pair of resolutions among them, under five numbers, or a kind
-                               missing or above 2; beside: 0 */
+    HCA_BAD_LAYOUT = 1,     /* layout outside its limits, a wrong pair of resolutions or a mode above 1 among them, under five
+                               numbers, or a kind missing or above 2; beside: 0 */
     HCA_SHORT_BUFFER = 2,   /* a buffer has too few elements for the layout; beside: 0 */
     HCA_BAD_INTENSITY = 3,  /* a secondary's intensity is above 15; beside: index of the first in intensities */
     HCA_BAD_SPECTRUM = 4,   /* a spectrum value is NaN or infinite, in any band; beside: index of the first in spectra */
@@ -229,7 +239,8 @@ static inline const char *hca_refusal_text(uint32_t refusal)
     case HCA_OK: return "delivered";
     case HCA_BAD_LAYOUT:
         return "the layout is outside its limits: five numbers, of them 1 to 16 channels, a total of 1 to 128 bands, base + stereo at "
-               "most total, a frame size of 8 to 65,535; and for each channel a kind of 0 to 2";
+               "most total, a frame size of 8 to 65,535, further resolutions within 1 to 15, the lowest first, and a mode of 0 or 1; and for "
+               "each channel a kind of 0 to 2";
     case HCA_SHORT_BUFFER:
         return "a lent buffer is too short: look at each length, also at those of record, stream, tally, note and answer; "
                "the table of lengths in hca_frame.h has what each call needs";
@@ -261,10 +272,11 @@ static inline const char *hca_refusal_text(uint32_t refusal)
 }
 
 /* The frame stage: encodes one frame. Refuses with 1, 2, 3, 4, 5 or 7.
-   hca_read_frame hands back the stage's record, but where a code is one past its range: at the upper clip and resolution
-   2, 4 or 5 a code can be 3, 5 or 6, which gets no bits, as in the published encoder. */
+   hca_read_frame hands back the stage's record: with HCA_MODE_HELD always, with HCA_MODE_RUST but where a code is one past
+   its range. There a code can be 3, 5 or 6 at the upper clip and resolution 2, 4 or 5, which gets no bits, as in the published
+   encoder. */
 uint32_t hca_encode_frame(
-    const uint32_t *layout, size_t layout_len,          /* read: 5 to 7 numbers, see enum hca_layout */
+    const uint32_t *layout, size_t layout_len,          /* read: 5 to 8 numbers, see enum hca_layout */
     const uint8_t *kinds, size_t kinds_len,             /* read: C bytes, see enum hca_kind */
     const float *spectra, size_t spectra_len,           /* read: C x 1,024 by channel, subframe, band; all finite */
     const uint8_t *intensities, size_t intensities_len, /* read: C x 8 by channel, subframe; 0 to 15 for a secondary,
@@ -286,7 +298,7 @@ uint32_t hca_encode_frame(
    write over them; 17 whatever the layout. After 1 to 4 and 17 every buffer but answer is as it was. After 5 and 7 the
    five written buffers are zero over the elements that the layout asks for, and spectra and intensities stay as mixed. */
 uint32_t hca_encode_stereo_frame(
-    const uint32_t *layout, size_t layout_len,          /* read: 5 to 7 numbers, see enum hca_layout */
+    const uint32_t *layout, size_t layout_len,          /* read: 5 to 8 numbers, see enum hca_layout */
     const uint8_t *kinds, size_t kinds_len,             /* read: C bytes, see enum hca_kind */
     float *spectra, size_t spectra_len,                 /* read and written: C x 1,024 by channel, subframe, band; all
                                                            finite, magnitudes up to 65,536; left as mixed */
@@ -309,7 +321,7 @@ uint32_t hca_encode_stereo_frame(
    last frame tried: after 3 and 4 as after frame k - 1, after 5 and 7 zero. With count 0 nothing changes and the call
    delivers; 1, 18 and 2 are judged first, and the work buffers still need one frame's length. */
 uint32_t hca_encode_line(
-    const uint32_t *layout, size_t layout_len,          /* read: 5 to 7 numbers, see enum hca_layout */
+    const uint32_t *layout, size_t layout_len,          /* read: 5 to 8 numbers, see enum hca_layout */
     const uint8_t *kinds, size_t kinds_len,             /* read: C bytes, see enum hca_kind */
     size_t count,                                       /* frames: 0 to 65,535 */
     const float *spectra, size_t spectra_len,           /* read: count x C x 1,024 by frame, channel, subframe, band */
@@ -329,7 +341,7 @@ uint32_t hca_encode_line(
    resolution; everything that a frame does not carry (past the coded bands, past the groups, codes at resolution 0) is
    0. At level 0 the boundary changes no resolution, but it is a field of its own: another boundary, another frame. */
 uint32_t hca_write_record(
-    const uint32_t *layout, size_t layout_len,          /* read: 5 to 7 numbers */
+    const uint32_t *layout, size_t layout_len,          /* read: 5 to 8 numbers */
     const uint8_t *kinds, size_t kinds_len,             /* read: C bytes */
     const uint32_t *record, size_t record_len,          /* read: 2 numbers: level, boundary */
     const uint8_t *factors, size_t factors_len,         /* read: C x 128 by channel, band */
@@ -340,10 +352,10 @@ uint32_t hca_write_record(
 
 /* The strict reader: accepts exactly the frames that hca_write_record writes, and hands their record back.
    Frames are plain here: an encrypted one has to be decrypted, and its check mended, first. A frame is read with the minimum
-   and the maximum that it was made with: with others it is refused, or means something else.
+   and the maximum that it was made with: with others it is refused, or means something else. The mode makes no difference.
    Refuses with 1, 2, 8, 9 or 11 to 14. */
 uint32_t hca_read_frame(
-    const uint32_t *layout, size_t layout_len,          /* read: 5 to 7 numbers */
+    const uint32_t *layout, size_t layout_len,          /* read: 5 to 8 numbers */
     const uint8_t *kinds, size_t kinds_len,             /* read: C bytes */
     const uint8_t *frame, size_t frame_len,             /* read: F bytes */
     uint8_t *factors, size_t factors_len,               /* written: C x 128 by channel, band */
@@ -353,13 +365,13 @@ uint32_t hca_read_frame(
 
 /* The file header: the 96 bytes in front of a file's frames, version 0x0200, unencrypted. Refuses with 1, 2 or 16; there is no
    answer, since nothing is delivered beside the bytes and 0 stands beside each refusal.
-   The layout's minimum and maximum stand at 30 and 31.
+   The layout's minimum and maximum stand at 30 and 31; its mode is not written.
    Loop points are samples of the input; the header has them moved by the encoder's delay of 128. A start after the end, or a
    loop past the frames, is written as it is given.
    A header carries no kinds: decoders derive them from the channels, their configuration and the stereo bands, so frames of
    other kinds decode to something else. */
 uint32_t hca_write_header(
-    const uint32_t *layout, size_t layout_len,          /* read: 5 to 7 numbers; at most 8 channels */
+    const uint32_t *layout, size_t layout_len,          /* read: 5 to 8 numbers; at most 8 channels */
     const uint8_t *kinds, size_t kinds_len,             /* read: C bytes; judged as in every call, and not written */
     const uint64_t *stream, size_t stream_len,          /* read: 3 numbers, see enum hca_stream */
     const uint64_t *points, size_t points_len,          /* read: none (no loop), or 2 numbers: the loop's start and end, each up

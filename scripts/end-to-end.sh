@@ -56,4 +56,6 @@ if [ $# -eq 2 ]; then
 else
     for rate in 32000 48000 64000 128000; do there_and_back sample/line.wav "$rate"; done
     for rate in 72000 96000 128000 192000; do there_and_back sample/pair.wav "$rate"; done
+    echo "== a square tone of 1003 Hz at 32000 bit/s, in both modes"
+    "$tool" modes 1003 32000
 fi

@@ -18,7 +18,7 @@ bool layout_fits(const u32 *layout, std::size_t layout_len, const u8 *kinds, std
     for (u32 c = 0; c < layout[0]; c++)
         if (kinds[c] > 2) return false;
     u32 least = layout_len > 5 ? layout[5] : 1, most = layout_len > 6 ? layout[6] : 15;
-    if (least < 1 || most < least || most > 15) return false;
+    if (least < 1 || most < least || most > 15 || (layout_len > 7 && layout[7] > 1)) return false;
     return layout[3] >= 1 && layout[3] <= 128 && u64(layout[1]) + layout[2] <= layout[3] && layout[4] >= 8 && layout[4] <= 65535;
 }
 

@@ -68,7 +68,7 @@ float magnitude(float f) { return of_bits(bits_of(f) & 0x7FFFFFFF); }
 
 // ------------------------------------------------------------------ layout
 struct Layout {
-    u32 channels, base, stereo, total, frame, minimum, maximum;
+    u32 channels, base, stereo, total, frame, minimum, maximum, mode;
     u8 kind[16];
     u32 start() const { return base + stereo; }
     bool secondary(u32 c) const { return kind[c] == 2; }
@@ -90,6 +90,8 @@ bool layout_of(Layout &l, const u32 *n, std::size_t n_len, const u8 *kinds, std:
     if (l.frame < 8 || l.frame > 65535) return false;
     l.minimum = n_len > 5 ? n[5] : 1, l.maximum = n_len > 6 ? n[6] : 15;
     if (l.minimum == 0 || l.minimum > l.maximum || l.maximum > 15) return false;
+    l.mode = n_len > 7 ? n[7] : 0;
+    if (l.mode > 1) return false;
     if (kinds_len < l.channels) return false;
     for (u32 c = 0; c < l.channels; c++) {
         if (kinds[c] > 2) return false;
@@ -159,12 +161,17 @@ i32 raw_code(float scaled, u32 res) {
     return i32(sum) - i32(step + 0.5f);
 }
 
-u32 estimated_bits(float scaled, u32 res) {
+// Below resolution 8 held mode takes the nearest code that has bits.
+i32 small_code(const Layout &l, float scaled, u32 res) {
+    i32 code = raw_code(scaled, res), most = i32(res);
+    if (l.mode == 1 && code > most) return most;
+    if (l.mode == 1 && code < -most) return -most;
+    return code < -8 ? -8 : code > 7 ? 7 : code;
+}
+
+u32 estimated_bits(const Layout &l, float scaled, u32 res) {
     if (res >= 8) return MAX_BITS[res] - 1 + (magnitude(scaled) >= of_bits(DEAD[res]) ? 1 : 0);
-    i32 at = 8 + raw_code(scaled, res);
-    if (at < 0) at = 0;
-    if (at > 15) at = 15;
-    return CODE_BITS[res][at];
+    return CODE_BITS[res][8 + small_code(l, scaled, res)];
 }
 
 // ------------------------------------------------------------------ fields out
@@ -435,7 +442,7 @@ u32 estimate(const Work &w, u32 level, u32 boundary) {
         n += cost + (l.secondary(c) ? 32 : 6 * l.groups());
         for (u32 b = 0; b < l.coded(c); b++) {
             u32 res = resolution(l, w.factors[c][b], level, boundary, b);
-            for (u32 f = 0; f < 8; f++) n += estimated_bits(w.scaled[c][b][f], res);
+            for (u32 f = 0; f < 8; f++) n += estimated_bits(l, w.scaled[c][b][f], res);
         }
     }
     return n;
@@ -479,10 +486,10 @@ void find_codes(Work &w, u32 level, u32 boundary) {
     for (u32 c = 0; c < w.l.channels; c++)
         for (u32 b = 0; b < w.l.coded(c); b++) {
             u32 res = resolution(w.l, w.factors[c][b], level, boundary, b);
-            i32 least = res < 8 ? -8 : -largest_code(res), most = res < 8 ? 7 : largest_code(res);
+            i32 most = largest_code(res);
             for (u32 f = 0; f < 8 && res > 0; f++) {
-                i32 v = raw_code(w.scaled[c][b][f], res);
-                w.codes[c][f][b] = v < least ? least : v > most ? most : v;
+                i32 v = res < 8 ? small_code(w.l, w.scaled[c][b][f], res) : raw_code(w.scaled[c][b][f], res);
+                w.codes[c][f][b] = res < 8 ? v : v < -most ? -most : v > most ? most : v;
             }
         }
 }

@@ -22,18 +22,40 @@ impl Kind {
     }
 }
 
+/// What becomes of a code past its range. No frame and no file header carries it.
+#[derive(Clone, Copy, Debug, Default, PartialEq, Eq, Hash)]
+pub enum Mode {
+    /// As the published encoder: at the upper clip and resolution 2, 4 or 5 a code can be
+    /// one past its range, and gets no bits; such a frame is read back as another record.
+    #[default]
+    Rust,
+    /// Below resolution 8 a code is held within plus or minus the resolution: every frame
+    /// that is delivered is read back as the record that it was made of.
+    Held,
+}
+
+impl Mode {
+    fn number(self) -> u32 {
+        match self {
+            Mode::Rust => 0,
+            Mode::Held => 1,
+        }
+    }
+}
+
 /// A layout within the limits: 1 to 16 channels, 1 to 128 bands of which base
 /// and stereo are at most all, a frame of 8 to 65,535 bytes, and resolutions from
-/// a minimum to a maximum within 1 to 15.
+/// a minimum to a maximum within 1 to 15; and a mode.
 #[derive(Clone, Debug, PartialEq, Eq)]
 pub struct Layout {
     kinds: Vec<Kind>,
     kind_bytes: Vec<u8>,
-    numbers: [u32; 7],
+    numbers: [u32; 8],
 }
 
 impl Layout {
-    /// Starts a layout with no channel, no band and no frame, and resolutions 1 to 15.
+    /// Starts a layout with no channel, no band and no frame, resolutions 1 to 15, and
+    /// [`Mode::Rust`].
     pub fn builder() -> LayoutBuilder {
         LayoutBuilder::default()
     }
@@ -78,6 +100,14 @@ impl Layout {
         self.numbers[6] as usize
     }
 
+    /// What becomes of a code past its range.
+    pub fn mode(&self) -> Mode {
+        match self.numbers[7] {
+            0 => Mode::Rust,
+            _ => Mode::Held,
+        }
+    }
+
     /// The band where high-frequency reconstruction starts.
     pub fn start(&self) -> usize {
         self.base_bands() + self.stereo_bands()
@@ -105,7 +135,7 @@ impl Layout {
     }
 
     /// The numbers of the C interface: channels, base, stereo, total, frame size, minimum,
-    /// maximum. A later version may have more.
+    /// maximum, mode. A later version may have more.
     pub fn numbers(&self) -> &[u32] {
         &self.numbers
     }
@@ -126,11 +156,12 @@ pub struct LayoutBuilder {
     frame: u32,
     minimum: u32,
     maximum: u32,
+    mode: Mode,
 }
 
 impl Default for LayoutBuilder {
     fn default() -> Self {
-        LayoutBuilder { kinds: Vec::new(), base: 0, stereo: 0, total: 0, frame: 0, minimum: 1, maximum: 15 }
+        LayoutBuilder { kinds: Vec::new(), base: 0, stereo: 0, total: 0, frame: 0, minimum: 1, maximum: 15, mode: Mode::Rust }
     }
 }
 
@@ -166,6 +197,13 @@ impl LayoutBuilder {
         self
     }
 
+    /// What becomes of a code past its range; [`Mode::Rust`] where this is not called. A
+    /// frame may be read with either.
+    pub fn mode(mut self, mode: Mode) -> Self {
+        self.mode = mode;
+        self
+    }
+
     /// The layout, or the first limit that it breaks.
     pub fn build(self) -> Result<Layout, LayoutError> {
         if self.kinds.is_empty() || self.kinds.len() > 16 {
@@ -183,7 +221,8 @@ impl LayoutBuilder {
         if self.minimum < 1 || self.maximum < self.minimum || self.maximum > 15 {
             return Err(LayoutError::Resolutions { minimum: self.minimum, maximum: self.maximum });
         }
-        let numbers = [self.kinds.len() as u32, self.base, self.stereo, self.total, self.frame, self.minimum, self.maximum];
+        let channels = self.kinds.len() as u32;
+        let numbers = [channels, self.base, self.stereo, self.total, self.frame, self.minimum, self.maximum, self.mode.number()];
         let kind_bytes = self.kinds.iter().map(|k| k.byte()).collect();
         Ok(Layout { kinds: self.kinds, kind_bytes, numbers })
     }

@@ -70,7 +70,7 @@ mod refusal;
 mod wav;
 
 pub use file_header::{write_header, Stream, HEADER_SIZE};
-pub use layout::{Kind, Layout, LayoutBuilder, LayoutError};
+pub use layout::{Kind, Layout, LayoutBuilder, LayoutError, Mode};
 pub use line::{LineRefusal, Tally};
 pub use list::{list_entry, list_summary, read_list, write_list, Summary};
 pub use refusal::{Refusal, RefusalKind};

@@ -1,8 +1,9 @@
 //! The C interface as it is: every slice goes over as pointer and length, the
 //! library itself judges layouts and lengths, and refuses what it cannot use.
 //!
-//! `layout` is channels, base, stereo, total, frame size, and the lowest and the
-//! highest resolution, 1 and 15 where they are missing; `kinds` has one byte a
+//! `layout` is channels, base, stereo, total, frame size, the lowest and the
+//! highest resolution, 1 and 15 where they are missing, and the mode (0 the
+//! Rust's, 1 held), 0 where it is missing; `kinds` has one byte a
 //! channel (0 discrete, 1 primary, 2 secondary). Each call returns the refusal
 //! number, 0 where it delivered; `answer` takes the delivered numbers, or at
 //! `[0]` the number beside a refusal.

@@ -1,7 +1,7 @@
 //! Layouts, the frame stage, the record writer, the strict reader, refusals.
 use hca_frame::{
-    checksum, read_frame, read_frame_into, write_record, write_record_into, Delivered, Encoder, Kind, Layout, LayoutError,
-    Record, Refusal, RefusalKind,
+    checksum, raw, read_frame, read_frame_into, write_header, write_record, write_record_into, Delivered, Encoder, Kind, Layout,
+    LayoutError, Mode, Record, Refusal, RefusalKind, Stream,
 };
 
 fn mono(bands: u32, total: u32, frame: u32) -> Layout {
@@ -36,7 +36,7 @@ fn resolutions_have_their_defaults() {
     assert_eq!(b().resolutions(1, 15).build().unwrap(), l);
     let l = b().resolutions(4, 10).build().unwrap();
     assert_eq!((l.minimum_resolution(), l.maximum_resolution()), (4, 10));
-    assert_eq!(l.numbers(), &[1, 2, 0, 2, 17, 4, 10]);
+    assert_eq!(l.numbers(), &[1, 2, 0, 2, 17, 4, 10, 0]);
 }
 
 #[test]
@@ -56,7 +56,7 @@ fn coded_counts() {
         .unwrap();
     assert_eq!([l.coded_count(0), l.coded_count(1), l.coded_count(2)], [30, 10, 30]);
     assert_eq!(l.kind_bytes(), [1, 2, 0]);
-    assert_eq!(l.numbers(), &[3, 10, 20, 40, 300, 1, 15]);
+    assert_eq!(l.numbers(), &[3, 10, 20, 40, 300, 1, 15, 0]);
 }
 
 #[test]
@@ -332,7 +332,7 @@ fn one_frame_under_three_pairs() {
     let (record, bits) = read(1, 8).unwrap();
     assert_eq!((record.level, record.boundary, &record.codes[..2], bits), (173, 1, &[14, 7][..], 108));
     assert_eq!(write_record(&two_bands(1, 8), &record).unwrap(), (COARSE.to_vec(), 108));
-    assert_eq!(read(9, 9), Err(Refusal { number: 13, place: 119 }));
+    assert_eq!(read(9, 9), Err(Refusal::new(13, 119)));
 }
 
 #[test]
@@ -348,7 +348,7 @@ fn two_loud_bands_by_their_limits() {
     let (done, encoder) = encode(1, 8).unwrap();
     assert_eq!((done, encoder.frame()), (Delivered::from([0, 0, 0, 108]), &FINE[..]));
     assert_eq!(encoder.codes()[..2], [14, 14]);
-    assert_eq!(encode(9, 15).map(|_| ()), Err(Refusal { number: 5, place: 0 }));
+    assert_eq!(encode(9, 15).map(|_| ()), Err(Refusal::new(5, 0)));
 }
 
 #[test]
@@ -358,19 +358,19 @@ fn a_code_is_held_by_the_maximum() {
     (record.factors[0], record.codes[128]) = (1, 63);
     assert!(write_record(&layout, &record).is_ok());
     record.codes[128] = 64;
-    assert_eq!(write_record(&layout, &record), Err(Refusal { number: 15, place: 0 }));
+    assert_eq!(write_record(&layout, &record), Err(Refusal::new(15, 0)));
 }
 
 #[test]
 fn a_header_has_the_pair_at_30_and_31() {
-    let stream = Stream { rate: 48_000, frames: 47, padding: 512, loop_points: None };
+    let stream = Stream::new(48_000, 47, 512);
     let bytes = |minimum, maximum| write_header(&two_bands(minimum, maximum), &stream).unwrap()[30..32].to_vec();
     assert_eq!((bytes(1, 15), bytes(4, 10), bytes(9, 9)), (vec![1, 15], vec![4, 10], vec![9, 9]));
 }
 
-/// The raw calls: what is missing has its default, from the eighth number on nothing is looked at, and a wrong pair is refusal 1.
+/// The raw calls: what is missing has its default, from the ninth number on nothing is looked at, a wrong pair or mode is refusal 1.
 #[test]
-fn layouts_of_five_to_nine_numbers() {
+fn layouts_of_five_to_ten_numbers() {
     let read = |behind: &[u32]| {
         let (mut factors, mut side, mut codes, mut answer) = ([9; 128], [9; 8], [9; 1024], [9; 4]);
         let layout = [&[1, 2, 0, 2, 17], behind].concat();
@@ -379,11 +379,64 @@ fn layouts_of_five_to_nine_numbers() {
     };
     let five = read(&[]);
     assert_eq!((five.0, five.4), (0, [173, 1, 116, 9]));
-    for behind in [&[1][..], &[1, 15], &[1, 15, 0], &[1, 15, u32::MAX, 3]] {
+    for behind in [&[1][..], &[1, 15], &[1, 15, 0], &[1, 15, 1], &[1, 15, 0, u32::MAX], &[1, 15, 1, u32::MAX, 3]] {
         assert_eq!(read(behind), five);
     }
     assert_eq!(read(&[1, 8]).4, [173, 1, 108, 9]);
     for wrong in [[0, 15], [1, 16], [9, 8], [16, 16], [16, 15], [0, 0], [257, 271], [1, u32::MAX], [1 << 31, 15]] {
         assert_eq!(read(&wrong), (1, [9; 128], [9; 8], [9; 1024], [0, 9, 9, 9]));
     }
+    for wrong in [[1, 15, 2], [1, 15, 256], [1, 15, 1 << 31], [1, 15, u32::MAX], [9, 8, 2]] {
+        assert_eq!(read(&wrong), (1, [9; 128], [9; 8], [9; 1024], [0, 9, 9, 9]));
+    }
+}
+
+#[test]
+fn the_mode_has_its_default() {
+    let b = || Layout::builder().channel(Kind::Discrete).bands(1, 0, 1).frame_size(10);
+    let rust = b().build().unwrap();
+    assert_eq!((rust.mode(), Mode::default()), (Mode::Rust, Mode::Rust));
+    assert_eq!(b().mode(Mode::Rust).build().unwrap(), rust);
+    let held = b().mode(Mode::Held).build().unwrap();
+    assert_eq!((held.mode(), held.numbers()), (Mode::Held, &[1, 1, 0, 1, 10, 1, 15, 1][..]));
+    assert_ne!(held, rust);
+}
+
+/// 1000.0 and -6.0 in turn: the upper clip at resolution 2, in ten bytes.
+#[test]
+fn one_input_in_both_modes() {
+    let mut spectra = [0.0; 1024];
+    (0..8).for_each(|s| spectra[128 * s] = if s % 2 == 0 { 1000.0 } else { -6.0 });
+    let layout = |mode| Layout::builder().channel(Kind::Discrete).bands(1, 0, 1).frame_size(10).mode(mode).build().unwrap();
+    let made = |mode| {
+        let mut encoder = Encoder::new(layout(mode));
+        let done = encoder.encode_frame(&spectra, &[0; 8]).unwrap();
+        let codes: Vec<i32> = (0..8).map(|s| encoder.codes()[128 * s]).collect();
+        (done, codes, encoder.frame().to_vec())
+    };
+    let read = |mode, frame: &[u8]| {
+        let (record, bits) = read_frame(&layout(mode), frame).unwrap();
+        assert_eq!(write_record(&layout(mode), &record).unwrap(), (frame.to_vec(), bits));
+        ((0..8).map(|s| record.codes[128 * s]).collect::<Vec<i32>>(), bits)
+    };
+    let (done, codes, frame) = made(Mode::Rust);
+    assert_eq!((done, codes), (Delivered::from([209, 0, 0, 49]), [3, -1].repeat(4)));
+    assert_eq!(frame, [0xFF, 0xFF, 0x68, 0x80, 0xDF, 0xD5, 0, 0, 0xFC, 0x9F]);
+    for mode in [Mode::Rust, Mode::Held] {
+        assert_eq!(read(mode, &frame), (vec![-1, -1, -1, -1, 0, 0, 0, 0], 57));
+    }
+    let (done, codes, frame) = made(Mode::Held);
+    assert_eq!((done, codes), (Delivered::from([209, 0, 0, 61]), [2, -1].repeat(4)));
+    assert_eq!(frame, [0xFF, 0xFF, 0x68, 0x80, 0xDF, 0xEB, 0x5A, 0xD0, 0xA1, 0x62]);
+    for mode in [Mode::Rust, Mode::Held] {
+        assert_eq!(read(mode, &frame), ([2, -1].repeat(4), 61));
+    }
+}
+
+#[test]
+fn a_header_has_no_mode() {
+    let stream = Stream::new(48_000, 47, 512);
+    let b = || Layout::builder().channel(Kind::Discrete).bands(2, 0, 2).frame_size(17);
+    let bytes = |mode| write_header(&b().mode(mode).build().unwrap(), &stream).unwrap();
+    assert_eq!(bytes(Mode::Rust), bytes(Mode::Held));
 }

@@ -1,5 +1,5 @@
 //! Calls of the header writer.
-use crate::limits::behind;
+use crate::limits::{behind, behind_held};
 use crate::rng::Rng;
 use crate::stage;
 use published::header::HeaderCall;
@@ -54,6 +54,11 @@ pub fn call(seed: u64, index: u64) -> HeaderCall {
 /// The same under a pair of limits.
 pub fn limited(seed: u64, index: u64) -> HeaderCall {
     made(Rng::of_case(seed ^ 0x4EAD_E500, index).under(behind(seed, index)), index)
+}
+
+/// The same in held mode.
+pub fn held(seed: u64, index: u64) -> HeaderCall {
+    made(Rng::of_case(seed ^ 0x4EAD_E500, index).under(behind_held(seed, index)), index)
 }
 
 fn made(mut r: Rng, index: u64) -> HeaderCall {

@@ -1,6 +1,6 @@
 //! Calls of a whole line.
 use crate::bands::Class;
-use crate::limits::behind;
+use crate::limits::{behind, behind_held};
 use crate::rng::Rng;
 use crate::stage::{any_frame, channels, fill, fitting, layout, outside_case, plain, set_frame, shorter, worked};
 use published::driver::StageCall;
@@ -38,6 +38,11 @@ pub fn call(seed: u64, index: u64) -> LineCall {
 /// The same under a pair of limits.
 pub fn limited(seed: u64, index: u64) -> LineCall {
     made(Rng::of_case(seed ^ 0x0A5_11AE, index).under(behind(seed, index)), index)
+}
+
+/// The same in held mode.
+pub fn held(seed: u64, index: u64) -> LineCall {
+    made(Rng::of_case(seed ^ 0x0A5_11AE, index).under(behind_held(seed, index)), index)
 }
 
 fn made(mut r: Rng, index: u64) -> LineCall {

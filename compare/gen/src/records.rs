@@ -1,5 +1,5 @@
 //! Calls of the strict reader, the record writer and the checksum.
-use crate::limits::behind;
+use crate::limits::{behind, behind_held};
 use crate::rng::Rng;
 use crate::stage;
 use published::driver::StageCall;
@@ -64,6 +64,11 @@ pub fn calls(seed: u64, index: u64) -> Vec<Call> {
 /// The same under a pair of limits: records are legal under it, and frames composed by it.
 pub fn limited(seed: u64, index: u64) -> Vec<Call> {
     made(Rng::of_case(seed ^ 0x5EC0_0D5A, index).under(behind(seed, index)), index)
+}
+
+/// The same in held mode.
+pub fn held(seed: u64, index: u64) -> Vec<Call> {
+    made(Rng::of_case(seed ^ 0x5EC0_0D5A, index).under(behind_held(seed, index)), index)
 }
 
 fn made(mut r: Rng, index: u64) -> Vec<Call> {

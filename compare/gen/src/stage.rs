@@ -1,6 +1,6 @@
 //! Calls of the frame stage.
 use crate::bands::{band, Class, ALL};
-use crate::limits::behind;
+use crate::limits::{behind, behind_held};
 use crate::rng::{ulps, Rng};
 use published::driver::{head_steps, setup, StageCall};
 use published::hca::encoder::{hfr_source_average, quantizer_scaling, QUANTIZER_DEAD_ZONE};
@@ -42,6 +42,23 @@ pub fn call(seed: u64, index: u64) -> StageCall {
 /// The same under a pair of limits.
 pub fn limited(seed: u64, index: u64) -> StageCall {
     made(Rng::of_case(seed, index).under(behind(seed, index)), index)
+}
+
+/// The same in held mode; each third case is rich in values at and next to the upper clip.
+pub fn held(seed: u64, index: u64) -> StageCall {
+    let mut r = Rng::of_case(seed ^ 0xA9A9_0002, index).under(behind_held(seed, index));
+    if !is_clipped(index) {
+        return made(r, index);
+    }
+    let mut call = clipped_case(&mut r);
+    call.pattern = r.word() as u32;
+    r.complete(&mut call.layout);
+    call
+}
+
+/// Whether a case of held mode is one of the clipped third.
+pub fn is_clipped(index: u64) -> bool {
+    index % 3 == 0
 }
 
 pub(crate) fn made(mut r: Rng, index: u64) -> StageCall {
@@ -184,6 +201,18 @@ fn spectra_case(r: &mut Rng, main: Option<Class>) -> StageCall {
     let strays = if main.is_none() { r.pick(&[0.0, 0.05, 0.5]) } else { r.pick(&[0.0, 0.0, 0.05]) };
     fill(r, &mut call, main, strays);
     let frame = any_frame(r, &call);
+    set_frame(&mut call, frame);
+    call
+}
+
+/// Bands at the clip, loud beyond it or noise, in a frame that some level fits: where it is a coarse one, codes pass their range.
+fn clipped_case(r: &mut Rng) -> StageCall {
+    let n = channels(r).min(4);
+    let mut call = layout(r, n);
+    let strays = r.pick(&[0.0, 0.1, 0.5]);
+    fill(r, &mut call, Some(Class::Clip), strays);
+    let level = r.range(0, 254);
+    let frame = if r.chance(0.7) { fitting(r, &call, level) } else { any_frame(r, &call) };
     set_frame(&mut call, frame);
     call
 }

@@ -1,6 +1,6 @@
 //! Calls of the stereo stage.
 use crate::bands::Class;
-use crate::limits::behind;
+use crate::limits::{behind, behind_held};
 use crate::rng::{ulps, Rng};
 use crate::speech::call_of;
 use crate::stage::{
@@ -44,6 +44,11 @@ pub fn call(seed: u64, index: u64) -> StageCall {
 /// The same under a pair of limits.
 pub fn limited(seed: u64, index: u64) -> StageCall {
     made(Rng::of_case(seed ^ 0x57E2_E00A, index).under(behind(seed, index)), index)
+}
+
+/// The same in held mode.
+pub fn held(seed: u64, index: u64) -> StageCall {
+    made(Rng::of_case(seed ^ 0x57E2_E00A, index).under(behind_held(seed, index)), index)
 }
 
 fn made(mut r: Rng, index: u64) -> StageCall {

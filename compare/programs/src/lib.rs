@@ -2,6 +2,7 @@
 pub mod front;
 pub mod header;
 pub mod list;
+pub mod modes;
 pub mod pairs;
 pub mod wav;
 
@@ -21,9 +22,11 @@ pub struct Options {
     pub model: bool,
     /// the cases under pairs of limits of the resolution
     pub pairs: bool,
+    /// the cases in held mode, under pairs too
+    pub held: bool,
 }
 
-/// The programs that can try other limits of the resolution.
+/// The programs that can try other limits of the resolution, and held mode.
 const WITH_PAIRS: [&str; 6] =
     ["compare-stage", "compare-stereo", "compare-line", "compare-header", "compare-records", "compare-convert"];
 
@@ -31,7 +34,7 @@ impl Options {
     /// From the command line; `whole` and `small` are the numbers of cases.
     pub fn parse(program: &str, whole: u64, small: u64) -> Self {
         let threads = std::thread::available_parallelism().map_or(2, |n| n.get());
-        let mut o = Options { seed: 1, cases: whole, threads, only: None, trace: false, model: false, pairs: false };
+        let mut o = Options { seed: 1, cases: whole, threads, only: None, trace: false, model: false, pairs: false, held: false };
         let mut args = std::env::args().skip(1);
         while let Some(a) = args.next() {
             let mut number = || {
@@ -46,6 +49,7 @@ impl Options {
                 "--trace" => o.trace = true,
                 "--model" => o.model = true,
                 "--pairs" if WITH_PAIRS.contains(&program) => o.pairs = true,
+                "--held" if WITH_PAIRS.contains(&program) => o.held = true,
                 _ => usage(program, &format!("unknown option {a}")),
             }
         }
@@ -54,7 +58,7 @@ impl Options {
 }
 
 fn usage(program: &str, what: &str) -> ! {
-    let pairs = if WITH_PAIRS.contains(&program) { " [--pairs]" } else { "" };
+    let pairs = if WITH_PAIRS.contains(&program) { " [--pairs | --held]" } else { "" };
     eprintln!(
         "{what}\nusage: {program} [--cases N] [--seed S] [--small] [--threads T] [--only INDEX] [--trace] [--model]{pairs}"
     );
@@ -122,7 +126,13 @@ pub fn run(o: &Options, repro: &str, case: impl Fn(u64) -> Outcome + Sync) -> bo
     match difference {
         None => true,
         Some((k, text)) => {
-            let pairs = if o.pairs { " --pairs" } else { "" };
+            let pairs = if o.pairs {
+                " --pairs"
+            } else if o.held {
+                " --held"
+            } else {
+                ""
+            };
             println!("\nFIRST DIFFERENCE, {text}\nto repeat: {repro}{pairs} --seed {} --only {k}", o.seed);
             false
         }

@@ -1,7 +1,7 @@
 //! Which pairs of limits a run has met.
 use crate::Options;
 use gen::limits::{pair, place, PAIRS};
-use published::limits::{pair_fits, pair_of};
+use published::limits::{mode_fits, pair_fits, pair_of};
 use std::sync::Mutex;
 
 /// Of each right pair the calls that were delivered under it, and the calls with a wrong one.
@@ -9,7 +9,7 @@ use std::sync::Mutex;
 pub struct Met(Mutex<(Vec<u64>, u64)>);
 
 impl Met {
-    /// One more call; says what is wrong with its number by the pair alone.
+    /// One more call; says what is wrong with its number by the pair and the mode alone.
     pub fn note(&self, layout: &[u32], number: u32) -> Option<String> {
         let mut met = self.0.lock().unwrap();
         met.0.resize(PAIRS as usize, 0);
@@ -19,6 +19,9 @@ impl Met {
         if !pair_fits(layout) {
             met.1 += 1;
             return (number != 1).then(|| format!("  a wrong pair: expected refusal 1, got {number}\n"));
+        }
+        if !mode_fits(layout) {
+            return (number != 1).then(|| format!("  a wrong mode: expected refusal 1, got {number}\n"));
         }
         if number == 0 {
             met.0[place(pair_of(layout))] += 1;

@@ -1,10 +1,10 @@
 //! A call of the stage and what it is lent, and refusals 1 to 4 of document 01, which the Rust does not have.
-use crate::limits::pair_fits;
+use crate::limits::{mode_fits, pair_fits};
 
 /// A call of the stage: every slice with a length of its own.
 #[derive(Clone, Debug)]
 pub struct StageCall {
-    /// channels, base, stereo, total, frame size, minimum, maximum
+    /// channels, base, stereo, total, frame size, minimum, maximum, mode
     pub layout: Vec<u32>,
     pub kinds: Vec<u8>,
     pub spectra: Vec<f32>,
@@ -107,6 +107,7 @@ pub fn layout_fits(l: &[u32], kinds: &[u8]) -> bool {
         && u64::from(l[1]) + u64::from(l[2]) <= u64::from(l[3])
         && (8..=65_535).contains(&l[4])
         && pair_fits(l)
+        && mode_fits(l)
         && kinds.len() >= l[0] as usize
         && kinds[..l[0] as usize].iter().all(|&k| k <= 2)
 }

@@ -6,7 +6,7 @@ use crate::limits::header_of;
 /// A call of the header writer: every slice with a length of its own.
 #[derive(Clone, Debug)]
 pub struct HeaderCall {
-    /// channels, base, stereo, total, frame size, minimum, maximum
+    /// channels, base, stereo, total, frame size, minimum, maximum, mode
     pub layout: Vec<u32>,
     pub kinds: Vec<u8>,
     /// rate, count, padding

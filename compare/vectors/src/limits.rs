@@ -7,7 +7,7 @@ use published::driver::StageCall;
 use published::header::HeaderCall;
 use published::line::LineCall;
 
-fn limited(layout: &[u32], numbers: &[u32]) -> Vec<u32> {
+pub fn limited(layout: &[u32], numbers: &[u32]) -> Vec<u32> {
     [layout, numbers].concat()
 }
 
@@ -63,7 +63,7 @@ fn several(numbers: &[u32]) -> LineCall {
 }
 
 /// One of each call under these numbers.
-fn each(f: &mut File, name: &str, numbers: &[u32]) {
+pub fn each(f: &mut File, name: &str, numbers: &[u32]) {
     f.add_stage(name, &loud(numbers));
     f.add_read(name, &read(numbers));
     f.add_write(name, &write(15, numbers));
@@ -83,7 +83,7 @@ pub fn file() -> File {
         ("6 and 8", &[6, 8]),
         ("9 and 9", &[9, 9]),
         ("six numbers, the minimum 9", &[9]),
-        ("4 and 10, and one that is not looked at", &[4, 10, 77]),
+        ("4 and 10, and one that is not looked at", &[4, 10, 0, 77]),
     ] {
         each(&mut f, name, numbers);
     }

@@ -4,6 +4,7 @@ mod header;
 mod limits;
 mod line;
 mod list;
+mod modes;
 mod stereo;
 mod wav;
 
@@ -297,6 +298,7 @@ fn main() {
         ("stereo", stereo::file()),
         ("line", line::file()),
         ("limits", limits::file()),
+        ("modes", modes::file()),
     ];
     for (name, file) in files {
         let bytes = file.finish();

@@ -5,8 +5,9 @@ use Prim.Native.Nat.{ℕ, _+_, _*_, _<_}
 use lib.Ieee.{Float, nan, ofBits}
 use lib.ListN.{getD}
 use Rattle.buffers.specs.Walk.{build}
-use Rattle.rules.specs.Tables.{deadZoneTable, maxBitTable}
+use Rattle.rules.specs.Tables.{deadZoneTable}
 use Rattle.rules.specs.Code.{magnitudeBits}
+use Rattle.rules.specs.declared.Mode.{Mode}
 use Rattle.quantizer.specs.Marks.{highAt}
 use Rattle.quantizer.proofs.Entries.{build-agrees}
 use Rattle.within.specs.Zones.{lowPattern, highPattern, zoneLow, zoneHigh, zoneDrop}
@@ -25,15 +26,15 @@ module _ (t : List Float) (is : IsMarks t) (k : ℕ) (h : k < 8) where
   unfolding build markColumns zoneLow zoneHigh lowPattern highPattern deadZoneTable ofBits
   dead-column = rw (is .table) (build-agrees (λ i. getD markColumns (i + 16) nan) (λ i. getD deadZoneTable (i + 8) nan) 8 refl k h)
 
-module _ (t : List ℕ) (is : IsSizes t) (k : ℕ) (h : k < 8) where
+module _ (mode : Mode) (t : List ℕ) (is : IsSizes mode t) (k : ℕ) (h : k < 8) where
   pub most-column : getD t k 0 ≡ 8 * highAt k
-  unfolding build sizeColumns highAt zoneDrop magnitudeBits maxBitTable
-  most-column = rw (is .table) (build-agrees (λ i. getD sizeColumns i 0) (λ i. 8 * highAt i) 8 refl k h)
+  unfolding build sizeColumns
+  most-column = rw (is .table) (build-agrees (λ i. getD (sizeColumns mode) i 0) (λ i. 8 * highAt i) 8 refl k h)
 
-  pub drop-column : getD t (k + 8) 0 ≡ zoneDrop k
-  unfolding build sizeColumns highAt zoneDrop magnitudeBits maxBitTable
-  drop-column = rw (is .table) (build-agrees (λ i. getD sizeColumns (i + 8) 0) zoneDrop 8 refl k h)
+  pub drop-column : getD t (k + 8) 0 ≡ zoneDrop mode k
+  unfolding build sizeColumns
+  drop-column = rw (is .table) (build-agrees (λ i. getD (sizeColumns mode) (i + 8) 0) (zoneDrop mode) 8 refl k h)
 
   pub wide-column : getD t (k + 16) 0 ≡ 8 * magnitudeBits (k + 8)
-  unfolding build sizeColumns highAt zoneDrop magnitudeBits maxBitTable
-  wide-column = rw (is .table) (build-agrees (λ i. getD sizeColumns (i + 16) 0) (λ i. 8 * magnitudeBits (i + 8)) 8 refl k h)
+  unfolding build sizeColumns
+  wide-column = rw (is .table) (build-agrees (λ i. getD (sizeColumns mode) (i + 16) 0) (λ i. 8 * magnitudeBits (i + 8)) 8 refl k h)

@@ -16,6 +16,7 @@ use Rattle.rules.specs.Tables.{deadZoneTable}
 use Rattle.rules.specs.Scaling.{clip}
 use Rattle.rules.specs.Code.{magnitudeBits}
 use Rattle.rules.specs.Estimate.{valueBits}
+use Rattle.rules.specs.declared.Mode.{Mode}
 use Rattle.quantizer.specs.Marks.{highAt}
 use Rattle.within.specs.Within.{Within, withinB}
 use Rattle.within.specs.Zones.{zoneLow, zoneHigh, zoneDrop, reachedF}
@@ -28,21 +29,21 @@ dropped : (b : Bool) (d : ℕ) → cond b d 0 ≡ d * cond b 1 0
 dropped true d = sym (mul-one d)
 dropped false d = sym (mul-zero d)
 
-module _ (k : ℕ) (h : k < 8) where
+module _ (m : Mode) (k : ℕ) (h : k < 8) where
   one-value : (x : Float) → T (fits binary32 x) → Within x
-      → highAt k + reachedF (zoneHigh k) x ≡ valueBits k x + (reachedF (zoneLow k) x + zoneDrop k * reachedF clip x)
-  one-value x f w = zone-counted k h x f w ∙ ap (λ n. valueBits k x + (reachedF (zoneLow k) x + n)) (dropped (le clip x) (zoneDrop k))
+      → highAt k + reachedF (zoneHigh k) x ≡ valueBits m k x + (reachedF (zoneLow k) x + zoneDrop m k * reachedF clip x)
+  one-value x f w = zone-counted m k h x f w ∙ ap (λ n. valueBits m k x + (reachedF (zoneLow k) x + n)) (dropped (le clip x) (zoneDrop m k))
 
 -- ---- eight
 four-parts : (d a b c e : ℕ) → d * (a + b + c + e) ≡ d * a + d * b + d * c + d * e
 four-parts d a b c e = mul-add d (a + b + c) e ∙ ap (λ n. n + d * e) (mul-add d (a + b) c ∙ ap (λ n. n + d * c) (mul-add d a b))
 
-module _ (k : ℕ) (h : k < 8) (e : Eight) (w : EachWithin e) (f : EachSingle e) where
-  pub eight-zones : 8 * highAt k + eightReached (zoneHigh k) e ≡ eightBits k e + (eightReached (zoneLow k) e + zoneDrop k * eightReached clip e)
+module _ (m : Mode) (k : ℕ) (h : k < 8) (e : Eight) (w : EachWithin e) (f : EachSingle e) where
+  pub eight-zones : 8 * highAt k + eightReached (zoneHigh k) e ≡ eightBits m k e + (eightReached (zoneLow k) e + zoneDrop m k * eightReached clip e)
   unfolding eightReached eightBits
   eight-zones =
       let R : Float → ℕ = reachedF clip in
-      let d = zoneDrop k in
+      let d = zoneDrop m k in
       let p = mul-add d (R (e .v0) + R (e .v1) + R (e .v2) + R (e .v3)) (R (e .v4) + R (e .v5) + R (e .v6) + R (e .v7)) in
       let q = four-parts d (R (e .v0)) (R (e .v1)) (R (e .v2)) (R (e .v3)) in
       let s = four-parts d (R (e .v4)) (R (e .v5)) (R (e .v6)) (R (e .v7)) in
@@ -51,14 +52,14 @@ module _ (k : ℕ) (h : k < 8) (e : Eight) (w : EachWithin e) (f : EachSingle e)
         p,
         q,
         s,
-        one-value k h (e .v0) (f .f0) (w .w0),
-        one-value k h (e .v1) (f .f1) (w .w1),
-        one-value k h (e .v2) (f .f2) (w .w2),
-        one-value k h (e .v3) (f .f3) (w .w3),
-        one-value k h (e .v4) (f .f4) (w .w4),
-        one-value k h (e .v5) (f .f5) (w .w5),
-        one-value k h (e .v6) (f .f6) (w .w6),
-        one-value k h (e .v7) (f .f7) (w .w7),
+        one-value m k h (e .v0) (f .f0) (w .w0),
+        one-value m k h (e .v1) (f .f1) (w .w1),
+        one-value m k h (e .v2) (f .f2) (w .w2),
+        one-value m k h (e .v3) (f .f3) (w .w3),
+        one-value m k h (e .v4) (f .f4) (w .w4),
+        one-value m k h (e .v5) (f .f5) (w .w5),
+        one-value m k h (e .v6) (f .f6) (w .w6),
+        one-value m k h (e .v7) (f .f7) (w .w7),
       )
 
 -- ---- the numbers are small
@@ -67,12 +68,12 @@ unfolding every highAt
 most-le k h = leb-true _ _ (every-at (λ i. leb (highAt i) 4) 8 k refl h)
 
 -- ---- from resolution 8 up
-module _ (r : ℕ) (h : 8 ≤ r) where
-  wide-value : (x : Float) → magnitudeBits r + reachedF (getD deadZoneTable r nan) (absF x) ≡ valueBits r x
+module _ (m : Mode) (r : ℕ) (h : 8 ≤ r) where
+  wide-value : (x : Float) → magnitudeBits r + reachedF (getD deadZoneTable r nan) (absF x) ≡ valueBits m r x
   unfolding valueBits
   wide-value x = rw (le-ltb r 8 h)
 
-  pub eight-wide : (e : Eight) → 8 * magnitudeBits r + eightReached (getD deadZoneTable r nan) (sizesOf e) ≡ eightBits r e
+  pub eight-wide : (e : Eight) → 8 * magnitudeBits r + eightReached (getD deadZoneTable r nan) (sizesOf e) ≡ eightBits m r e
   unfolding eightReached eightBits sizesOf
   eight-wide e =
       omega (

@@ -11,6 +11,7 @@ use Rattle.buffers.specs.Walk.{build, blocks}
 use Rattle.floats.specs.Single.{absF}
 use Rattle.rules.specs.Layout.{codedCountAt, spectrumLength, part}
 use Rattle.rules.specs.Estimate.{valueBits, bandBits}
+use Rattle.rules.specs.declared.Mode.{Mode}
 use Rattle.rules.specs.declared.Layout.{Layout}
 use Rattle.within.specs.Within.{Within, withinB}
 use Rattle.within.specs.Zones.{reachedF}
@@ -79,35 +80,35 @@ unfoldable pub eightReached : (mark : Float) (e : Eight) → ℕ
 eightReached mark e = fourReached mark (e .v0) (e .v1) (e .v2) (e .v3) + fourReached mark (e .v4) (e .v5) (e .v6) (e .v7)
 
 -- the bits of four values, and of eight
-abbrev pub fourBits : (resolution : ℕ) (a b c d : Float) → ℕ
-fourBits resolution a b c d = valueBits resolution a + valueBits resolution b + valueBits resolution c + valueBits resolution d
+abbrev pub fourBits : (mode : Mode) (resolution : ℕ) (a b c d : Float) → ℕ
+fourBits mode resolution a b c d = valueBits mode resolution a + valueBits mode resolution b + valueBits mode resolution c + valueBits mode resolution d
 
-unfoldable pub eightBits : (resolution : ℕ) (e : Eight) → ℕ
-eightBits resolution e = fourBits resolution (e .v0) (e .v1) (e .v2) (e .v3) + fourBits resolution (e .v4) (e .v5) (e .v6) (e .v7)
+unfoldable pub eightBits : (mode : Mode) (resolution : ℕ) (e : Eight) → ℕ
+eightBits mode resolution e = fourBits mode resolution (e .v0) (e .v1) (e .v2) (e .v3) + fourBits mode resolution (e .v4) (e .v5) (e .v6) (e .v7)
 
 -- an entry: the count of k and, eight bits higher, that of k + 8
-unfoldable pub entryOf : (e : Eight) (k : ℕ) → ℤ
-entryOf e k = pos (eightBits k e + 256 * eightBits (k + 8) e)
+unfoldable pub entryOf : (mode : Mode) (e : Eight) (k : ℕ) → ℤ
+entryOf mode e k = pos (eightBits mode k e + 256 * eightBits mode (k + 8) e)
 
-abbrev pub countEntry : (scaled : List Float) (band k : ℕ) → ℤ
-countEntry scaled band k = pos (bandBits scaled band k + 256 * bandBits scaled band (k + 8))
+abbrev pub countEntry : (mode : Mode) (scaled : List Float) (band k : ℕ) → ℤ
+countEntry mode scaled band k = pos (bandBits mode scaled band k + 256 * bandBits mode scaled band (k + 8))
 
 -- a resolution's count, of an entry
 unfoldable pub countIn : (entry : ℤ) (resolution : ℕ) → ℕ
 countIn entry resolution = cond (ltb resolution 8) (natAbs entry % 256) (natAbs entry / 256 % 256)
 
 -- a channel's entries: those of its coded bands, and what stood past them
-unfoldable pub channelCounts : (scaled : List Float) (coded : ℕ) (before : List ℤ) → List ℤ
-channelCounts scaled coded before = blocks (λ b. build (entryOf (eightOf scaled b)) 8) coded ++ drop (coded * 8) before
+unfoldable pub channelCounts : (mode : Mode) (scaled : List Float) (coded : ℕ) (before : List ℤ) → List ℤ
+channelCounts mode scaled coded before = blocks (λ b. build (entryOf mode (eightOf scaled b)) 8) coded ++ drop (coded * 8) before
 
 -- what a channel's entries say of a band, and of its coded bands
-abbrev pub BandCounted : (scaled : List Float) (counts : List ℤ) (band : ℕ) → Type 0
-BandCounted scaled counts band = (k : ℕ) → k < 8 → getD counts (band * 8 + k) (pos 0) ≡ countEntry scaled band k
+abbrev pub BandCounted : (mode : Mode) (scaled : List Float) (counts : List ℤ) (band : ℕ) → Type 0
+BandCounted mode scaled counts band = (k : ℕ) → k < 8 → getD counts (band * 8 + k) (pos 0) ≡ countEntry mode scaled band k
 
-abbrev pub ChannelCounted : (scaled : List Float) (coded : ℕ) (counts : List ℤ) → Type 0
-ChannelCounted scaled coded counts = (b : ℕ) → b < coded → BandCounted scaled counts b
+abbrev pub ChannelCounted : (mode : Mode) (scaled : List Float) (coded : ℕ) (counts : List ℤ) → Type 0
+ChannelCounted mode scaled coded counts = (b : ℕ) → b < coded → BandCounted mode scaled counts b
 
 -- and those of a frame of every channel's
 pub record Counted (l : Layout) (scaled : List Float) (counts : List ℤ) : Type 0 where
   pub long : length counts ≡ spectrumLength l
-  pub at : (c : ℕ) → c < l .channels → ChannelCounted (part 1024 scaled c) (codedCountAt l c) (part 1024 counts c)
+  pub at : (c : ℕ) → c < l .channels → ChannelCounted (l .mode) (part 1024 scaled c) (codedCountAt l c) (part 1024 counts c)

@@ -12,6 +12,7 @@ ghost use Rattle.quantizer.specs.Marks.{highAt};
 ghost use Rattle.within.specs.Within.{Within, withinB};
 ghost use Rattle.within.specs.Zones.{zoneLow, zoneHigh, zoneDrop, reachedF};
 ghost use Rattle.band_counts.specs.Counts.{fourWithin, eightWithin, EachWithin, EachSingle, eightOf, sizesOf, fourReached, eightReached, eightBits};
+use rules::Mode;
 
 pub struct Eight {
     pub v0: f32,
@@ -111,6 +112,7 @@ pub(crate) fn clip_count(e: Eight) -> u32
 
 // Below resolution 8, with its zone, eight times its most and what the clip drops.
 pub(crate) fn small_count(
+    mode: Mode,
     e: Eight,
     clips: u32,
     k: usize,
@@ -120,17 +122,17 @@ pub(crate) fn small_count(
     drop: u32,
 ) -> u32
     requires { ⌜ EachWithin e × EachSingle e × (clips ≡ eightReached clip e) ⌝ }
-    requires { ⌜ (k < 8) × (low ≡ zoneLow k) × (high ≡ zoneHigh k) × (most ≡ 8 * highAt k) × (drop ≡ zoneDrop k) ⌝ }
-    ensures { λ n. ⌜ (n ≡ eightBits k e) × (n ≤ 96) ⌝ }
+    requires { ⌜ (k < 8) × (low ≡ zoneLow k) × (high ≡ zoneHigh k) × (most ≡ 8 * highAt k) × (drop ≡ zoneDrop mode k) ⌝ }
+    ensures { λ n. ⌜ (n ≡ eightBits mode k e) × (n ≤ 96) ⌝ }
 {
     let more = most + eight_reached(high, e);
     more - (eight_reached(low, e) + drop * clips)
 }
 
 // From resolution 8 up, with the values' magnitudes, its dead zone and eight times its magnitude's bits.
-pub(crate) fn wide_count(e: Eight, m: Eight, r: usize, dead: f32, most: u32) -> u32
+pub(crate) fn wide_count(mode: Mode, e: Eight, m: Eight, r: usize, dead: f32, most: u32) -> u32
     requires { ⌜ (m ≡ sizesOf e) × (8 ≤ r) × (r ≤ 15) × (dead ≡ getD deadZoneTable r nan) × (most ≡ 8 * magnitudeBits r) ⌝ }
-    ensures { λ n. ⌜ (n ≡ eightBits r e) × (n ≤ 96) ⌝ }
+    ensures { λ n. ⌜ (n ≡ eightBits mode r e) × (n ≤ 96) ⌝ }
 {
     most + eight_reached(dead, m)
 }

@@ -21,6 +21,7 @@ use self::tables::mark_table;
 use self::tables::size_table;
 use layouts::coded_count;
 use rules::Layout;
+use rules::Mode;
 
 mod eight;
 mod marked;
@@ -35,54 +36,72 @@ pub fn taken(entry: i32, r: usize) -> usize
 }
 
 // One entry, of eight values, their magnitudes, and how many of them are at the clip.
-fn entry(e: Eight, m: Eight, clips: u32, k: usize, marks: &[f32; 24], sizes: &[u32; 24]) -> i32
+fn entry(
+    mode: Mode,
+    e: Eight,
+    m: Eight,
+    clips: u32,
+    k: usize,
+    marks: &[f32; 24],
+    sizes: &[u32; 24],
+) -> i32
     requires { ⌜ EachWithin e × EachSingle e × (m ≡ sizesOf e) × (clips ≡ eightReached clip e) ⌝ }
-    requires { ⌜ (k < 8) × IsMarks (now marks) × IsSizes (now sizes) ⌝ }
-    ensures { λ z. ⌜ z ≡ entryOf e k ⌝ }
+    requires { ⌜ (k < 8) × IsMarks (now marks) × IsSizes mode (now sizes) ⌝ }
+    ensures { λ z. ⌜ z ≡ entryOf mode e k ⌝ }
 {
-    let small = small_count(e, clips, k, marks[k], marks[k + 8], sizes[k], sizes[k + 8]);
-    let wide = wide_count(e, m, k + 8, marks[k + 16], sizes[k + 16]);
+    let small = small_count(
+        mode,
+        e,
+        clips,
+        k,
+        marks[k],
+        marks[k + 8],
+        sizes[k],
+        sizes[k + 8],
+    );
+    let wide = wide_count(mode, e, m, k + 8, marks[k + 16], sizes[k + 16]);
     (small + 256 * wide) as i32
 }
 
 // The entries of a band within the clip: the loop goes over resolutions, and four of them are counted side by side.
-fn zone_counts(e: Eight, marks: &[f32; 24], sizes: &[u32; 24], counts: &mut [i32])
+fn zone_counts(mode: Mode, e: Eight, marks: &[f32; 24], sizes: &[u32; 24], counts: &mut [i32])
     requires { ⌜ EachWithin e ⌝ }
-    requires { ⌜ IsMarks (now marks) × IsSizes (now sizes) × (length (now counts) ≡ 8) ⌝ }
-    ensures { λ _. ⌜ now (counts .exit) ≡ build (entryOf e) 8 ⌝ }
+    requires { ⌜ IsMarks (now marks) × IsSizes mode (now sizes) × (length (now counts) ≡ 8) ⌝ }
+    ensures { λ _. ⌜ now (counts .exit) ≡ build (entryOf mode e) 8 ⌝ }
 {
     let m = sizes_of(e);
     let clips = clip_count(e);
     let mut k = 0;
     while k < 8 {
-        counts[k] = entry(e, m, clips, k, marks, sizes);
+        counts[k] = entry(mode, e, m, clips, k, marks, sizes);
         k += 1;
     }
 }
 
 // A band's eight entries. What the stage counts is within the clip.
-fn band_counts(e: Eight, marks: &[f32; 24], sizes: &[u32; 24], counts: &mut [i32])
-    requires { ⌜ IsMarks (now marks) × IsSizes (now sizes) × (length (now counts) ≡ 8) ⌝ }
-    ensures { λ _. ⌜ now (counts .exit) ≡ build (entryOf e) 8 ⌝ }
+fn band_counts(mode: Mode, e: Eight, marks: &[f32; 24], sizes: &[u32; 24], counts: &mut [i32])
+    requires { ⌜ IsMarks (now marks) × IsSizes mode (now sizes) × (length (now counts) ≡ 8) ⌝ }
+    ensures { λ _. ⌜ now (counts .exit) ≡ build (entryOf mode e) 8 ⌝ }
 {
     if all_within(e) {
-        zone_counts(e, marks, sizes, counts);
+        zone_counts(mode, e, marks, sizes, counts);
         return;
     }
-    marked_counts(e, counts);
+    marked_counts(mode, e, counts);
 }
 
 // Of a channel's coded bands.
-pub fn channel_counts(scaled: &[f32], coded: usize, counts: &mut [i32])
+pub fn channel_counts(mode: Mode, scaled: &[f32], coded: usize, counts: &mut [i32])
     requires { ⌜ (length (now scaled) ≡ 1024) × (coded ≤ 128) × (length (now counts) ≡ 1024) ⌝ }
-    ensures { λ _. ⌜ now (counts .exit) ≡ channelCounts (now (scaled .entry)) coded (now (counts .entry)) ⌝ }
+    ensures { λ _. ⌜ now (counts .exit) ≡ channelCounts mode (now (scaled .entry)) coded (now (counts .entry)) ⌝ }
 {
     let marks = mark_table();
-    let sizes = size_table();
+    let sizes = size_table(mode);
     let mut b = 0;
     while b < coded {
         let at = b * 8;
         band_counts(
+            mode,
             read_eight(scaled, b),
             &marks,
             &sizes,
@@ -99,11 +118,12 @@ pub fn frame_counts(layout: Layout, scaled: &[f32], counts: &mut [i32])
     ensures { λ _. ⌜ Counted layout (now (scaled .entry)) (now (counts .exit)) ⌝ }
 {
     let channels = layout.channels;
+    let mode = layout.mode;
     let mut c = 0;
     while c < channels {
         let a = c * 1024;
         let coded = coded_count(layout, c);
-        channel_counts(&scaled[a..a + 1024], coded, &mut counts[a..a + 1024]);
+        channel_counts(mode, &scaled[a..a + 1024], coded, &mut counts[a..a + 1024]);
         c += 1;
     }
 }

@@ -1,5 +1,6 @@
 // Columns of eight, by resolution, taken once a channel and lent.
 ghost use Rattle.band_counts.specs.Tables.{IsMarks, IsSizes};
+use rules::Mode;
 
 // Low and high of 0 to 7, and the dead zones of 8 to 15.
 const MARKS: [f32; 24] = [
@@ -29,7 +30,7 @@ const MARKS: [f32; 24] = [
     2.4420026e-4,
 ];
 
-// Most and drop of 0 to 7, and most of 8 to 15, each most of eight values.
+// Most and drop of 0 to 7, and most of 8 to 15, each most of eight values; in the Rust's mode, and in held mode, where nothing is dropped.
 const SIZES: [u32; 24] = [
     0,
     16,
@@ -57,14 +58,44 @@ const SIZES: [u32; 24] = [
     88,
 ];
 
+const HELD_SIZES: [u32; 24] = [
+    0,
+    16,
+    24,
+    24,
+    32,
+    32,
+    32,
+    32,
+    0,
+    0,
+    0,
+    0,
+    0,
+    0,
+    0,
+    0,
+    32,
+    40,
+    48,
+    56,
+    64,
+    72,
+    80,
+    88,
+];
+
 pub(crate) fn mark_table() -> [f32; 24]
     ensures { λ t. ⌜ IsMarks t ⌝ }
 {
     MARKS
 }
 
-pub(crate) fn size_table() -> [u32; 24]
-    ensures { λ t. ⌜ IsSizes t ⌝ }
+pub(crate) fn size_table(mode: Mode) -> [u32; 24]
+    ensures { λ t. ⌜ IsSizes mode t ⌝ }
 {
-    SIZES
+    match mode {
+        Mode::Rust => SIZES,
+        Mode::Held => HELD_SIZES,
+    }
 }

@@ -10,11 +10,12 @@ use Rattle.buffers.proofs.Build.{length-build}
 use Rattle.buffers.proofs.Blocks.{length-blocks}
 use Rattle.rules.specs.Layout.{part}
 use Rattle.rules.specs.Code.{subframeCodes, channelCodes}
+use Rattle.rules.specs.declared.Mode.{Mode}
 
-pub codes-size : (rs : List ℕ) (sc : List Float) → length (channelCodes rs sc) ≡ 1024
+pub codes-size : (m : Mode) (rs : List ℕ) (sc : List Float) → length (channelCodes m rs sc) ≡ 1024
 unfolding channelCodes subframeCodes
-codes-size rs sc = length-blocks (subframeCodes rs sc) 128 8 (λ s _. length-build _ 128) 8 (omega arith)
+codes-size m rs sc = length-blocks (subframeCodes m rs sc) 128 8 (λ s _. length-build _ 128) 8 (omega arith)
 
 -- channel c's, in a frame
-abbrev pub codesAt : (resolutions : List ℕ) (scaled : List Float) (channel : ℕ) → List ℤ
-codesAt rs scaled c = channelCodes (part 128 rs c) (part 1024 scaled c)
+abbrev pub codesAt : (mode : Mode) (resolutions : List ℕ) (scaled : List Float) (channel : ℕ) → List ℤ
+codesAt mode resolutions scaled channel = channelCodes mode (part 128 resolutions channel) (part 1024 scaled channel)

@@ -4,43 +4,48 @@ ghost use Prim.Native.Nat.{_≤_, _<_};
 ghost use lib.ListN.{length};
 ghost use Rattle.buffers.specs.Walk.{AtMost};
 ghost use Rattle.rules.specs.Layout.{LegalLayout, spectrumLength, factorLength};
-ghost use Rattle.rules.specs.Code.{recordedCode, channelCodes, allCodes};
-ghost use Rattle.codes.specs.Bands.{bandLaid};
+ghost use Rattle.rules.specs.Code.{channelCodes, allCodes};
+ghost use Rattle.quantizer.specs.Ends.{endsAt, Narrow};
+ghost use Rattle.codes.specs.Bands.{codeIn, bandLaid};
+use quantizer::Ends;
+use quantizer::ends_of;
 use rules::Layout;
+use rules::Mode;
 
 // A band of resolution 0 has code 0, and no float is touched for it.
-fn recorded_code(resolution: u8, scaled: f32) -> i32
-    requires { ⌜ resolution ≤ 15 ⌝ }
-    ensures { λ r. ⌜ r ≡ recordedCode resolution scaled ⌝ }
+fn recorded_code(resolution: u8, ends: Ends, scaled: f32) -> i32
+    requires { ⌜ (resolution ≤ 15) × Narrow ends ⌝ }
+    ensures { λ r. ⌜ r ≡ codeIn ends resolution scaled ⌝ }
 {
     if resolution == 0 {
         return 0;
     }
-    quantizer::code(scaled, resolution)
+    quantizer::code(scaled, resolution, ends)
 }
 
-// A band's eight codes, of a channel's 1,024: by subframe and band, while the scaled values stand by band and subframe. Its resolution is looked at
-// once, not in every subframe.
-fn band_codes(resolution: u8, scaled: &[f32], band: usize, codes: &mut [i32])
+// A band's eight codes, of a channel's 1,024: by subframe and band, while the scaled values stand by band and subframe. Its resolution and
+// the mode are looked at once, not in every subframe.
+fn band_codes(mode: Mode, resolution: u8, scaled: &[f32], band: usize, codes: &mut [i32])
     requires { ⌜ (resolution ≤ 15) × (band < 128) ⌝ }
     requires { ⌜ (length (now scaled) ≡ 1024) × (length (now codes) ≡ 1024) ⌝ }
-    ensures { λ _. ⌜ now (codes .exit) ≡ bandLaid resolution (now (scaled .entry)) band 8 (now (codes .entry)) ⌝ }
+    ensures { λ _. ⌜ now (codes .exit) ≡ bandLaid (endsAt mode resolution) resolution (now (scaled .entry)) band 8 (now (codes .entry)) ⌝ }
 {
+    let ends = ends_of(mode, resolution);
     let mut s = 0;
     while s < 8 {
-        codes[s * 128 + band] = recorded_code(resolution, scaled[band * 8 + s]);
+        codes[s * 128 + band] = recorded_code(resolution, ends, scaled[band * 8 + s]);
         s += 1;
     }
 }
 
-fn channel_codes(resolutions: &[u8], scaled: &[f32], codes: &mut [i32])
+fn channel_codes(mode: Mode, resolutions: &[u8], scaled: &[f32], codes: &mut [i32])
     requires { ⌜ AtMost 15 (now resolutions) ⌝ }
     requires { ⌜ (length (now resolutions) ≡ 128) × (length (now scaled) ≡ 1024) × (length (now codes) ≡ 1024) ⌝ }
-    ensures { λ _. ⌜ now (codes .exit) ≡ channelCodes (now (resolutions .entry)) (now (scaled .entry)) ⌝ }
+    ensures { λ _. ⌜ now (codes .exit) ≡ channelCodes mode (now (resolutions .entry)) (now (scaled .entry)) ⌝ }
 {
     let mut b = 0;
     while b < 128 {
-        band_codes(resolutions[b], scaled, b, codes);
+        band_codes(mode, resolutions[b], scaled, b, codes);
         b += 1;
     }
 }
@@ -54,11 +59,13 @@ pub fn quantize_spectra(layout: Layout, resolutions: &[u8], scaled: &[f32], code
     ensures { λ _. ⌜ now (codes .exit) ≡ allCodes layout (now (resolutions .entry)) (now (scaled .entry)) ⌝ }
 {
     let channels = layout.channels;
+    let mode = layout.mode;
     let mut c = 0;
     while c < channels {
         let a = c * 1024;
         let f = c * 128;
         channel_codes(
+            mode,
             &resolutions[f..f + 128],
             &scaled[a..a + 1024],
             &mut codes[a..a + 1024],

@@ -16,7 +16,8 @@ module _ (l : Layout) (sc : List Float) (fs : List ℕ) (level : ℕ) where
   unfolding channelBits
   no-band = sum-none _
 
-  pub one-band-more : (b : ℕ) → channelBits l sc fs (b + 1) level 0 ≡ channelBits l sc fs b level 0 + bandBits sc b (resolution l level (getD fs b 0))
+  pub one-band-more : (b : ℕ)
+      → channelBits l sc fs (b + 1) level 0 ≡ channelBits l sc fs b level 0 + bandBits (l .mode) sc b (resolution l level (getD fs b 0))
   unfolding channelBits resolutionAt noiseAt
   one-band-more b = sum-more _ b ∙ rw (le-ltb b 0 zero-le)
 

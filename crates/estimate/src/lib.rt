@@ -28,9 +28,9 @@ pub fn band_bits(
     factor: u8,
     noise: usize,
 ) -> usize
-    requires { ⌜ IsStretched layout (now curve) × BandCounted (now scaled) (now counts) band ⌝ }
+    requires { ⌜ IsStretched layout (now curve) × BandCounted (layout .mode) (now scaled) (now counts) band ⌝ }
     requires { ⌜ (length (now counts) ≡ 1024) × (band < 128) × (factor ≤ 63) × (noise ≤ 254) ⌝ }
-    ensures { λ r. ⌜ (r ≡ bandBits (now (scaled .entry)) band (resolution layout noise factor)) × (r ≤ 96) ⌝ }
+    ensures { λ r. ⌜ (r ≡ bandBits (layout .mode) (now (scaled .entry)) band (resolution layout noise factor)) × (r ≤ 96) ⌝ }
 {
     let r = read_curve(layout, curve, factor, noise) as usize;
     taken(counts[band * 8 + r % 8], r)
@@ -47,7 +47,7 @@ pub fn channel_bits(
     to: usize,
     noise: usize,
 ) -> usize
-    requires { ⌜ IsStretched layout (now curve) × ChannelCounted (now scaled) to (now counts) × AtMost 63 (now factors) ⌝ }
+    requires { ⌜ IsStretched layout (now curve) × ChannelCounted (layout .mode) (now scaled) to (now counts) × AtMost 63 (now factors) ⌝ }
     requires { ⌜ (length (now counts) ≡ 1024) × (length (now factors) ≡ 128) × (from ≤ to) × (to ≤ 128) × (noise ≤ 254) ⌝ }
     ensures { λ r. ⌜ (channelBits layout (now (scaled .entry)) (now (factors .entry)) from noise 0 + r
         ≡ channelBits layout (now (scaled .entry)) (now (factors .entry)) to noise 0) × (r + 96 * from ≤ 96 * to) ⌝ }

@@ -1,10 +1,13 @@
--- Demand 3 said of `hca_write_record` and `hca_read_frame`, by the numbers and slices that a C program lends and finds. Assumes nothing.
+-- Demand 3 said of `hca_write_record` and `hca_read_frame`, and of `hca_encode_frame` in held mode, by the numbers and slices that a C program lends and finds.
+-- Assumes nothing.
 use mathlib.Core.Path.{_≡_, refl, _∙_, ap}
 use mathlib.Core.List.{List, [], _∷_}
 use mathlib.Core.Bool.{true, not}
+use mathlib.Core.Logic.{inl, inr}
 use Prim.Native.Nat.{ℕ, _≤_, _<_}
 use native.Mathlib.Omega.{arith}
 use borrow.Author.Tests.{ltb-false, le-ltb, not-false}
+use types.Run.{OneOf}
 use lib.Dec.{ltb}
 use lib.IntN.{ℤ}
 use lib.ListN.{length, getD, take}
@@ -17,13 +20,19 @@ use Rattle.rules.specs.Reading.{Scanned, accepted, faulty, strict}
 use Rattle.rules.specs.Lent.{overwrite}
 use Rattle.rules.specs.Writer.{WriterLent, WriterLeft, writerLent, writerHasRoom, lentRecord, writeRecord}
 use Rattle.rules.specs.Reader.{ReaderLent, ReaderLeft, readerHasRoom, scannedLeft, readFrame}
+use Rattle.rules.specs.Stage.{StageLent, encodeFrame}
+use Rattle.rules.specs.declared.Mode.the-variants.{Held}
 use Rattle.rules.specs.declared.Layout.{Layout}
+use Rattle.rules.proofs.Answers.{Numbered, stageNumbers}
 use Rattle.rules_demands.proofs.Deliveries.{writes, writes-this}
 use Rattle.rules_demands.proofs.Calls.{read-after-write, write-after-read}
+use Rattle.rules_demands.proofs.StageAnswers.{StageBounded, answers-bounded, beside-bounded, stage-bounds, stage-numbers}
+use Rattle.rules_demands.proofs.StageCalls.{held-read}
 use Rattle.rules_demands.proofs.WriterExactly.{write-number}
 use Rattle.rules_demands.proofs.ReaderExactly.{read-number}
-use Rattle.hca_layout.specs.Layouts.{layoutOf, isLayout}
+use Rattle.hca_layout.specs.Layouts.{modeOf, layoutOf, isLayout}
 use Rattle.hca_answers.specs.Outcomes.{resultOf, numbersOf, answerAfter}
+use Rattle.hca_encode.specs.EncodeFrame.{CStageLeft, cStageFrom, cEncodeFrame}
 use Rattle.hca_records.specs.WriteRecord.{CWriterLeft, cWriterLeft, cWriterFrom, cWriteRecord}
 use Rattle.hca_records.specs.ReadFrame.{CReaderLeft, cReaderLeft, cReaderFrom, cReadFrame}
 
@@ -175,3 +184,80 @@ module _ (numbers kinds : List ℕ) where
         rw (n, record-is head factors side codes frame stored-in (k .named-is) h two, w)
         (ap (λ xs. cWriterLeft 0 xs (overwrite (take (frameSize its) (u .frame)) frame))
         (stored (delivered (x .level ∷ x .boundary ∷ x .bits ∷ [])) stored-in _ _ _ refl h))
+
+  -- ---- a call of the stage that returned 0
+
+  module _ (t : StageLent) (answer : List ℕ) where
+    -- a delivery tells four numbers
+    record Four (o : Outcome) : Type 0 where
+      level : ℕ
+      boundary : ℕ
+      pairs : ℕ
+      bits : ℕ
+      is : o ≡ delivered (level ∷ boundary ∷ pairs ∷ bits ∷ [])
+
+    numbered-above : (n : ℕ) → OneOf stageNumbers n → 0 < n
+    numbered-above n (inl e) = omega arith
+    numbered-above n (inr (inl e)) = omega arith
+    numbered-above n (inr (inr (inl e))) = omega arith
+    numbered-above n (inr (inr (inr (inl e)))) = omega arith
+    numbered-above n (inr (inr (inr (inr (inl e))))) = omega arith
+    numbered-above n (inr (inr (inr (inr (inr e))))) = omega arith
+
+    four : (o : Outcome) → StageBounded o → Numbered stageNumbers o → resultOf o ≡ 0 → Four o
+    unfolding resultOf
+    four o (answers-bounded level boundary pairs bits a b c d) n e = record { level = level; boundary = boundary; pairs = pairs; bits = bits; is = refl }
+    four o (beside-bounded number beside h) n e = absurd (omega (arith, numbered-above number (n number beside refl)))
+
+    record Encodes : Type 0 where
+      named-is : isLayout numbers kinds ≡ true
+      long : 4 ≤ length answer
+      stores : Four (encodeFrame its t .outcome)
+
+    encodes : cEncodeFrame numbers kinds t answer .result ≡ 0 → Encodes
+    unfolding cEncodeFrame cStageFrom resultOf
+    encodes =
+        let P : CStageLeft → Type 0 = λ x. x .result ≡ 0 → Encodes in
+        cond-both P (not (isLayout numbers kinds)) (λ _ e. absurd (omega arith))
+        (λ a. cond-both P (ltb (length answer) 4) (λ _ e. absurd (omega arith))
+        (λ b e. record {
+          named-is = not-false _ a;
+          long = ltb-false _ _ b;
+          stores =
+              four (encodeFrame its t .outcome) (stage-bounds its t) (stage-numbers its t) e;
+        }))
+
+    encoded-is : isLayout numbers kinds ≡ true → 4 ≤ length answer → cEncodeFrame numbers kinds t answer ≡ cStageFrom (encodeFrame its t) answer
+    unfolding cEncodeFrame
+    encoded-is a b = rw (a, le-ltb _ _ b)
+
+    stored-four : (o : Outcome) (a b c d : ℕ) → o ≡ delivered (a ∷ b ∷ c ∷ d ∷ []) → 4 ≤ length answer → answerAfter o answer
+        ≡ overwrite (a ∷ b ∷ c ∷ d ∷ []) answer
+    unfolding answerAfter numbersOf
+    stored-four o a b c d e h = rw (e, le-ltb (length answer) 4 h)
+
+    held-named : getD numbers 7 0 ≡ 1 → its .mode ≡ Held
+    unfolding layoutOf modeOf
+    held-named e = rw e
+
+    -- ENCODED WITH MODE 1, THEN READ with the same layout's numbers, into any buffers with room: the same level, boundary and bits, and the same buffers over
+    -- their stated lengths. No premise but that the call delivered.
+    pub c-held-read : getD numbers 7 0 ≡ 1 → cEncodeFrame numbers kinds t answer .result ≡ 0
+        → (u : ReaderLent) (stored-in : List ℕ) → readerHasRoom its u ≡ true → 4 ≤ length stored-in
+        → take (frameSize its) (u .frame) ≡ take (frameSize its) (cEncodeFrame numbers kinds t answer .frame)
+        → let x : CStageLeft = cEncodeFrame numbers kinds t answer in
+        cReadFrame numbers kinds u stored-in
+        ≡ cReaderLeft 0 (overwrite (getD (x .answer) 0 0 ∷ getD (x .answer) 1 0 ∷ getD (x .answer) 3 0 ∷ []) stored-in)
+        (overwrite (take (factorLength its) (x .factors)) (u .factors)) (overwrite (take (sideLength its) (x .side)) (u .side))
+        (overwrite (take (spectrumLength its) (x .codes)) (u .codes))
+    unfolding cReadFrame cReaderFrom cStageFrom resultOf
+    c-held-read mode ok u stored-in m h q =
+        let k = encodes ok in
+        let x = k .stores in
+        let r = encoded-is (k .named-is) (k .long) in
+        let s = encodeFrame its t in
+        let v = held-read its t (x .level) (x .boundary) (x .pairs) (x .bits) (x .is) (held-named mode) u m
+        (q ∙ ap (λ (y : CStageLeft). take (frameSize its) (y .frame)) r) in
+        rw (r, stored-four (s .outcome) (x .level) (x .boundary) (x .pairs) (x .bits) (x .is) (k .long), k .named-is, le-ltb _ _ h, v)
+        (ap (λ xs. cReaderLeft 0 xs (overwrite (take (factorLength its) (s .factors)) (u .factors)) (overwrite (take (sideLength its) (s .side)) (u .side))
+        (overwrite (take (spectrumLength its) (s .codes)) (u .codes))) (stored (delivered (x .level ∷ x .boundary ∷ x .bits ∷ [])) stored-in _ _ _ refl h))

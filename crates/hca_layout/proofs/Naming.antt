@@ -1,7 +1,7 @@
 -- When two slices name a layout. Assumes nothing.
-use mathlib.Core.Path.{_≡_, refl}
+use mathlib.Core.Path.{_≡_, refl, sym}
 use mathlib.Core.List.{List, [], _∷_}
-use mathlib.Core.Bool.{true, false}
+use mathlib.Core.Bool.{true, false, _&&_}
 use Prim.Native.Nat.{ℕ, zero, suc, _≤_, _<_}
 use native.Mathlib.Nat.{not-suc-le-zero, le-of-suc-le-suc}
 use borrow.Author.Tests.{le-leb, lt-leb, leb-true}
@@ -42,11 +42,18 @@ module _ (numbers kinds : List ℕ) where
             (rw (f, e) at q),
       )
 
-      pub named-legal : n ≤ m → legalLayout (layoutOf numbers kinds) ≡ isLayout numbers kinds
-      unfolding isLayout
-      named-legal q = rw (
-        le-leb 5 _ h,
-        le-leb (getD numbers 0 0) (length kinds) (rw e at k),
-        le-leb (getD numbers 0 0)
-            (first (badKind kinds) (getD numbers 0 0)) (rw (f, e) at q),
-      )
+      module _ (q : n ≤ m) (d : ℕ) (v : d ≡ getD numbers 7 0) where
+        named-kinds : (leb (getD numbers 7 0) 1 && legalLayout (layoutOf numbers kinds)) ≡ isLayout numbers kinds
+        unfolding isLayout
+        named-kinds =
+            rw (
+              le-leb 5 _ h,
+              le-leb (getD numbers 0 0) (length kinds) (rw e at k),
+              le-leb (getD numbers 0 0) (first (badKind kinds) (getD numbers 0 0)) (rw (f, e) at q),
+            )
+
+        pub named-no-mode : 1 < d → false ≡ isLayout numbers kinds
+        named-no-mode g = sym (rw (lt-leb (getD numbers 7 0) 1 (rw v at g)) at (sym named-kinds))
+
+        pub named-legal : d ≤ 1 → legalLayout (layoutOf numbers kinds) ≡ isLayout numbers kinds
+        named-legal g = sym (rw (le-leb (getD numbers 7 0) 1 (rw v at g)) at (sym named-kinds))

@@ -1,12 +1,13 @@
-// A layout from two slices: its five to seven numbers, and a kind for each channel.
+// A layout from two slices: its five to eight numbers, and a kind for each channel.
 ghost use mathlib.Core.Path.{_≡_};
 ghost use Prim.Native.Nat.{_≤_};
 ghost use lib.ListN.{length, getD};
 ghost use Rattle.buffers.specs.Walk.{first, build};
-ghost use Rattle.hca_layout.specs.Layouts.{channelOf, channelAt, layoutOf, badKind, isLayout};
+ghost use Rattle.hca_layout.specs.Layouts.{channelOf, channelAt, modeOf, layoutOf, badKind, isLayout};
 use rules::Channel;
 use rules::ChannelType;
 use rules::Layout;
+use rules::Mode;
 
 fn channel_of(k: u8) -> Channel
     ensures { λ r. ⌜ r ≡ channelOf k ⌝ }
@@ -83,7 +84,16 @@ fn number_or(layout: &[u32], i: usize, default: u32) -> usize
     wide(default)
 }
 
-// Five numbers, a kind of 0 to 2 for each channel, and a layout within its limits?
+fn mode_of(n: usize) -> Mode
+    ensures { λ r. ⌜ r ≡ modeOf n ⌝ }
+{
+    if n == 1 {
+        return Mode::Held;
+    }
+    Mode::Rust
+}
+
+// Five numbers, a kind of 0 to 2 for each channel, a mode of 0 or 1, and a layout within its limits?
 pub fn is_layout(layout: &[u32], kinds: &[u8]) -> bool
     ensures { λ r. ⌜ r ≡ isLayout (now (layout .entry)) (now (kinds .entry)) ⌝ }
 {
@@ -95,6 +105,9 @@ pub fn is_layout(layout: &[u32], kinds: &[u8]) -> bool
         return false;
     }
     if first_bad_kind(kinds, channels) < channels {
+        return false;
+    }
+    if 1 < number_or(layout, 7, 0) {
         return false;
     }
     let l = layout_of(layout, kinds);
@@ -112,6 +125,7 @@ pub fn layout_of(layout: &[u32], kinds: &[u8]) -> Layout
     let frame_size = wide(layout[4]);
     let minimum = number_or(layout, 5, 1);
     let maximum = number_or(layout, 6, 15);
+    let mode = mode_of(number_or(layout, 7, 0));
     let kinds = channels_of(kinds);
     Layout {
         channels,
@@ -122,5 +136,6 @@ pub fn layout_of(layout: &[u32], kinds: &[u8]) -> Layout
         frame_size,
         minimum,
         maximum,
+        mode,
     }
 }

@@ -11,6 +11,7 @@ use Rattle.rules.specs.Layout.{legalLayout, roomOf, part}
 use Rattle.rules.specs.Refusals.{Outcome, delivered, refused, stageOutcome}
 use Rattle.rules.specs.Stage.{StageLeft, stageLent, stageRoomOf}
 use Rattle.rules.specs.declared.ChannelType.the-variants.{Discrete}
+use Rattle.rules.specs.declared.Mode.the-variants.{Rust}
 use Rattle.rules.specs.declared.Layout.{Layout}
 use Rattle.rules.specs.declared.StageAnswer.the-variants as stage
 use Rattle.rules.specs.declared.StageRoom.{StageRoom}
@@ -45,6 +46,7 @@ two channels = record {
   «frame_size» = 10;
   minimum = 1;
   maximum = 15;
+  mode = Rust;
 }
 
 abbrev lengths : (spectra intensities scaled factors side codes frames : ℕ) → StageRoom

@@ -3,6 +3,7 @@
 use mathlib.Core.Path.{_≡_, refl, sym, _∙_, ap, ap₂, subst}
 use mathlib.Core.List.{List, [], _∷_, _++_, append-nil}
 use mathlib.Core.Logic.{_⊎_, inl, inr}
+use mathlib.Core.Bool.{true}
 use mathlib.Core.Option.{Option, none, some}
 use Prim.Native.Nat.{ℕ, zero, suc, _+_, _*_, _≤_, _<_}
 use native.Mathlib.Numerals.{add-one}
@@ -11,19 +12,23 @@ use native.Mathlib.Omega.{arith}
 use types.Run.{OneOf}
 use lib.IntN.{ℤ}
 use lib.Ieee.{Float}
-use lib.ListN.{length, take, drop, drop-of-length-le, length-replicate}
-use lib.Seq.{drop-at}
+use lib.ListN.{length, getD, take, drop, drop-of-length-le, length-replicate}
+use lib.Seq.{drop-at, take-all}
 use Rattle.buffers.specs.Walk.{blocks}
 use Rattle.buffers.proofs.Blocks.{blocks-at, blocks-rest, length-blocks}
 use Rattle.rules.specs.Layout.{frameSize, spectrumLength, factorLength, sideLength, part}
 use Rattle.rules.specs.Lent.{overwrite, noFloats, noCodes, noFactors, noSide, noFrame}
 use Rattle.rules.specs.Refusals.{Outcome, delivered, refused, stageOutcome}
 use Rattle.rules.specs.Stage.{StageLent, StageLeft, stageLent, encodeFrame}
+use Rattle.rules.specs.Reader.{ReaderLent, readerHasRoom, readFrame}
+use Rattle.rules.specs.declared.Mode.the-variants.{Held}
 use Rattle.rules.specs.declared.Layout.{Layout}
 use Rattle.rules.proofs.Answers.{never}
 use Rattle.rules.proofs.Cuts.{length-part}
 use Rattle.rules.proofs.Layouts.{legal-true}
 use Rattle.rules.proofs.Refused.{refused-leaves}
+use Rattle.rules_demands.proofs.Calls.{handed}
+use Rattle.rules_demands.proofs.StageCalls.{held-read}
 use Rattle.rules_demands.proofs.Outcomes.{stage-numbers-differ}
 use Rattle.rules_line.specs.Line.{lineOutcome, lineIndex, LineLent, LineLeft, lineRoom, lineGate, frameLent, stageAt, lineTurn, lineKept, turnLent, lineAfter}
 use Rattle.rules_line.specs.Line.{lineBehindGate, encodeLine}
@@ -151,6 +156,31 @@ module _ (l : Layout) (count : ℕ) (t : LineLent) (a : Admits l count t) where
       } in
       let s = with-work l t count granted (frameWith l t k sc co fa si) k (g .below) refl refl refl r in
       (s .outcome ∙ g .outcome ∙ ap delivered (sym (g .answers)), s .frame ∙ sym (g .bytes))
+
+  -- ---- in held mode a delivered frame is read back
+
+  four : (ns : List ℕ) → length ns ≡ 4 → ns ≡ getD ns 0 0 ∷ getD ns 1 0 ∷ getD ns 2 0 ∷ getD ns 3 0 ∷ []
+  four (x ∷ y ∷ z ∷ w ∷ []) e = refl
+  four [] e = absurd (omega arith)
+  four (x ∷ []) e = absurd (omega arith)
+  four (x ∷ y ∷ []) e = absurd (omega arith)
+  four (x ∷ y ∷ z ∷ []) e = absurd (omega arith)
+  four (x ∷ y ∷ z ∷ w ∷ v ∷ ns) e = absurd (omega arith)
+
+  -- The strict reader, lent a delivered frame's bytes, hands back what the single call on that frame leaves, with the frame's level, boundary and bits.
+  pub line-held-read : l .mode ≡ Held → (k : ℕ) → k < framesDone l count t
+      → (u : ReaderLent) → readerHasRoom l u ≡ true → take (frameSize l) (u .frame) ≡ part (frameSize l) (encodeLine l count t .frames) k
+      → let said : List ℕ = part 4 (encodeLine l count t .answers) k in
+      readFrame l u ≡ handed l u (getD said 0 0 ∷ getD said 1 0 ∷ getD said 3 0 ∷ []) (single l t k .factors) (single l t k .side) (single l t k .codes)
+  line-held-read mode k h u room q =
+      let said : List ℕ = part 4 (encodeLine l count t .answers) k in
+      let g = given (encodeLine l count t) standing k h in
+      let w = granted .room in
+      let (o, f) = line-frame k h (t .scaled) (t .codes) (t .factors) (t .side)
+      (record { scaled = w .scaled; codes = w .codes; factors = w .factors; side = w .side }) in
+      let n : length said ≡ 4 = ap length (g .answers) ∙ answers-long l t count granted k (g .outcome) in
+      held-read l (frameLent l k (allLent t)) (getD said 0 0) (getD said 1 0) (getD said 2 0) (getD said 3 0) (o ∙ ap delivered (four said n)) mode u room
+      (q ∙ sym f ∙ sym (take-all (frameSize l) (single l t k .frame) (omega (arith, bytes-long l t count granted k (g .below)))))
 
   -- ---- the tally
 

@@ -13,12 +13,13 @@ use Rattle.rules.specs.Frame.{frameOf}
 use Rattle.rules.specs.Refusals.{delivered}
 use Rattle.rules.specs.Stage.{StageLent, encodeFrame}
 use Rattle.rules.specs.Reader.{ReaderLent, ReaderLeft, readerHasRoom, readFrame}
+use Rattle.rules.specs.declared.Mode.the-variants.{Held}
 use Rattle.rules.specs.declared.Layout.{Layout}
 use Rattle.rules_demands.proofs.Stores.{record-front}
 use Rattle.rules_demands.proofs.Demand3.{Framed, frame-bytes, strict-sound}
 use Rattle.rules_demands.proofs.Deliveries.{Reads, reads, front-length, reads-record}
 use Rattle.rules_demands.proofs.Calls.{FrameOf}
-use Rattle.rules_demands.proofs.StageCalls.{recordIn, stage-head, stage-packed, stage-read}
+use Rattle.rules_demands.proofs.StageCalls.{recordIn, stage-head, stage-packed, stage-read, held-codes}
 use Rattle.rules_files.specs.List.{entryNumbers, entryAt, writeList, listEntry}
 use Rattle.rules_files.proofs.ListCalls.{list-back}
 use Rattle.list_demands.specs.OwnRecords.{OwnRecord}
@@ -100,3 +101,8 @@ module _ (l : Layout) (t : StageLent) (level boundary pairs bits : ℕ) (e : enc
     pub list-agrees-in-range : CodesInRange l level boundary (encodeFrame l t .factors) (encodeFrame l t .codes) → readerHasRoom l u ≡ true
         → (readFrame l u .outcome ≡ delivered (level ∷ boundary ∷ bits ∷ [])) × (listEntry written k ≡ delivered (level ∷ boundary ∷ pairs ∷ bits ∷ []))
     list-agrees-in-range range room = (ap (λ (x : ReaderLeft). x .outcome) (stage-read l t level boundary pairs bits e range u room q), said)
+
+    -- In held mode with no premise on the codes.
+    pub list-agrees-held : l .mode ≡ Held → readerHasRoom l u ≡ true
+        → (readFrame l u .outcome ≡ delivered (level ∷ boundary ∷ bits ∷ [])) × (listEntry written k ≡ delivered (level ∷ boundary ∷ pairs ∷ bits ∷ []))
+    list-agrees-held mode = list-agrees-in-range (held-codes l t level boundary pairs bits e mode)

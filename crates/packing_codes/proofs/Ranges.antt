@@ -19,10 +19,12 @@ use Rattle.buffers.proofs.Tests.{and-fst, and-snd, cond-both}
 use Rattle.rules.specs.Signed.{heldZ}
 use Rattle.rules.specs.Layout.{codedCountAt, sideCountAt, sideWidth, kindAt, part}
 use Rattle.rules.specs.Resolution.{allResolutions}
-use Rattle.rules.specs.Code.{codeLimit, rawCode, codeOf, recordedCode, codeAt, subframeCodes, channelCodes, allCodes}
+use Rattle.rules.specs.Code.{codeLimit, rawCode, limitedCode, codeOf, recordedCode, codeAt, subframeCodes, channelCodes, allCodes}
 use Rattle.rules.specs.Record.{codeRange, legalHead, legalRow, legalSubframe, legalCodes, legalChannel, legalChannels, legalRecord, legalBand}
+use Rattle.rules.specs.declared.Mode.{Mode}
 use Rattle.rules.specs.declared.Layout.{Layout}
 use Rattle.rules.proofs.Bands.{resolutions-part, blank-band}
+use Rattle.rules.proofs.Modes.{held-within}
 use Rattle.rules.proofs.Cuts.{block-part, by-order}
 use Rattle.packing_codes.specs.Columns.{Small, Ranged, Blank, AllRanged}
 
@@ -33,31 +35,17 @@ unfolding heldZ
 held-small (pos k) = cond-both Small (ltb 7 k) (λ _. omega arith) (λ e. ltb-false 7 k e)
 held-small (negsuc k) = cond-both Small (ltb 7 k) (λ _. omega arith) (λ e. ltb-false 7 k e)
 
-held-large : (n : ℕ) (z : ℤ) → natAbs (heldZ (negℤ (pos n)) (pos n) z) ≤ n
-unfolding heldZ
-held-large n z = cond-both (λ y. natAbs y ≤ n) (ltZ z (negℤ (pos n))) (λ _. low n)
-    (λ a. cond-both (λ y. natAbs y ≤ n) (ltZ (pos n) z) (λ _. omega arith) (λ b. inside n z a b))
-  where
-    low : (n : ℕ) → natAbs (negℤ (pos n)) ≤ n
-    low zero = omega arith
-    low (suc n) = omega arith
-
-    inside : (n : ℕ) (z : ℤ) → ltZ z (negℤ (pos n)) ≡ false → ltZ (pos n) z ≡ false → natAbs z ≤ n
-    inside n (pos k) a b = ltb-false n k b
-    inside zero (negsuc k) a b = absurd (let h : _≡_ {A = ℕ} 0 1 = cc in omega arith)
-    inside (suc n) (negsuc k) a b = omega (arith, ltb-false n k a)
-
-ranged-code : (r : ℕ) (x : Float) → Ranged r (codeOf r x)
+ranged-code : (m : Mode) (r : ℕ) (x : Float) → Ranged r (codeOf m r x)
 unfolding codeOf
-ranged-code r x = record {
-  small = λ l. rw (lt-ltb r 8 l) (held-small (rawCode r x));
-  large = λ l. rw (le-ltb r 8 l) (held-large (codeLimit r) (rawCode r x));
+ranged-code m r x = record {
+  small = λ l. rw (lt-ltb r 8 l) (held-small (limitedCode m r (rawCode r x)));
+  large = λ l. rw (le-ltb r 8 l) (held-within (codeLimit r) (rawCode r x));
 }
 
-pub ranged-recorded : (r : ℕ) (x : Float) → Ranged r (recordedCode r x)
+pub ranged-recorded : (m : Mode) (r : ℕ) (x : Float) → Ranged r (recordedCode m r x)
 unfolding recordedCode
-ranged-recorded zero x = record { small = λ _. omega arith; large = λ l. absurd (omega arith) }
-ranged-recorded (suc r) x = rw (ne-eqb (suc r) 0 (λ e. omega arith)) (ranged-code (suc r) x)
+ranged-recorded m zero x = record { small = λ _. omega arith; large = λ l. absurd (omega arith) }
+ranged-recorded m (suc r) x = rw (ne-eqb (suc r) 0 (λ e. omega arith)) (ranged-code m (suc r) x)
 
 small-of : (z : ℤ) → natAbs z ≤ 7 → Small z
 small-of (pos k) h = h
@@ -74,22 +62,21 @@ ranged-legal r z h = record {
 
 module _ (l : Layout) (rs : List ℕ) (scaled : List Float) where
   abbrev codesOf : ℕ → List ℤ
-  codesOf c = channelCodes (part 128 rs c) (part 1024 scaled c)
+  codesOf c = channelCodes (l .mode) (part 128 rs c) (part 1024 scaled c)
 
   codes-size : (c : ℕ) → c < l .channels → length (codesOf c) ≡ 1024
   unfolding channelCodes subframeCodes
-  codes-size c _ = length-blocks (subframeCodes (part 128 rs c) (part 1024 scaled c)) 128 8 (λ s _. length-build _ 128) 8 (omega arith)
+  codes-size c _ = length-blocks (subframeCodes (l .mode) (part 128 rs c) (part 1024 scaled c)) 128 8 (λ s _. length-build _ 128) 8 (omega arith)
 
   pub made-ranged : AllRanged l rs (allCodes l rs scaled)
   unfolding allCodes channelCodes subframeCodes codeAt
   made-ranged c s b hc hs hb =
       rw (
         block-part codesOf 1024 (l .channels) c codes-size hc,
-        block-part (subframeCodes (part 128 rs c) (part 1024 scaled c)) 128 8 s
-            (λ j _. length-build _ 128) hs,
-        build-at (codeAt (part 128 rs c) (part 1024 scaled c) s) 128 b (pos 0) hb,
+        block-part (subframeCodes (l .mode) (part 128 rs c) (part 1024 scaled c)) 128 8 s (λ j _. length-build _ 128) hs,
+        build-at (codeAt (l .mode) (part 128 rs c) (part 1024 scaled c) s) 128 b (pos 0) hb,
       )
-      (ranged-recorded (getD (part 128 rs c) b 0) _)
+      (ranged-recorded (l .mode) (getD (part 128 rs c) b 0) _)
 
 module _ (l : Layout) (level boundary : ℕ) (F : List ℕ) where
   pub made-blank : Blank l (allResolutions l level boundary F)

@@ -1,3 +1,4 @@
 pub mod Signs
 pub mod Entries
+pub mod EndLaws
 pub mod Reaching

@@ -1,4 +1,5 @@
--- A value reaches a whole number where its whole part does; and what a code below resolution 8 takes, by the whole part. Assumes nothing.
+-- A value reaches a whole number where its whole part does; and what a code below resolution 8 takes, by the whole part, in both modes. Assumes
+-- nothing.
 use mathlib.Core.Path.{_≡_, refl, sym, ap, _∙_}
 use mathlib.Core.Bool.{Bool, true, false, cond, _&&_, _||_}
 use mathlib.Core.List.{[], _∷_}
@@ -6,7 +7,7 @@ use Prim.Native.Nat.{ℕ, zero, suc, _+_, _-_, _*_, _/_, _^_, _≤_, _<_, min}
 use native.Mathlib.Nat.{le-div-iff-mul-le, div-lt-iff-lt-mul, mul-le-mul, mul-one}
 use native.Mathlib.Numerals.{add-one}
 use native.Mathlib.Omega.{arith}
-use borrow.Author.Tests.{ltb-true, ltb-false, leb-true, leb-false, eqb-true, eqb-false, lt-ltb, le-leb, lt-leb, ne-eqb}
+use borrow.Author.Tests.{ltb-true, ltb-false, leb-true, leb-false, eqb-true, eqb-false, lt-ltb, le-ltb, le-leb, lt-leb, ne-eqb}
 use lib.Dec.{eqb, leb, ltb}
 use lib.IntN.{ℤ, pos, negsuc, negℤ, _-ℤ_}
 use lib.Ieee.{Float, nan, inf, fin, binary32, up, down, le, lt, eq, ofInt, toSigned, add, mul}
@@ -18,9 +19,12 @@ use Rattle.rules.specs.Tables.{spectrumBits}
 use Rattle.floats.specs.Single.{oneF}
 use Rattle.rules.specs.Code.{stepShift, codePlace, rawCode}
 use Rattle.rules.specs.Estimate.{valueBits}
-use Rattle.quantizer.specs.Marks.{wholeF, nearAt, farAt, pastAt, highAt, dropAt, marksAt}
+use Rattle.rules.specs.Signed.{heldZ}
+use Rattle.rules.specs.declared.Mode.{Mode}
+use Rattle.rules.specs.declared.Mode.the-variants.{Rust, Held}
+use Rattle.quantizer.specs.Marks.{wholeF, nearAt, farAt, pastAt, highAt, limitedBits, lowAt, dropAt, marksAt}
 use Rattle.quantizer.specs.declared.counts.Marks.{Marks}
-use Rattle.quantizer.proofs.Signs.{place-pos, place-neg}
+use Rattle.quantizer.proofs.Signs.{place-pos, place-neg, held-below, held-above}
 use Rattle.quantizer.proofs.Entries.{build-agrees, shift-low}
 
 -- a whole number, 0 where it is negative
@@ -90,9 +94,9 @@ reaches-whole k y h l =
     ∙ ap (λ (n : ℕ). leb n (wholeN (toSigned 31 y))) e
 
 -- ---- by the whole part
--- what the table has for a whole part
-bitsAt : ℕ → ℕ → ℕ
-bitsAt r w = getD (getD spectrumBits r []) (min (7 - r + w) 15) 0
+-- what the table has for a whole part, in a mode
+bitsAt : Mode → ℕ → ℕ → ℕ
+bitsAt m r w = limitedBits m r (pos w -ℤ pos (suc r))
 
 low-silent : (r p : ℕ) → r < 8 → p ≤ 7 - r → getD (getD spectrumBits r []) p 0 ≡ 0
 unfolding build spectrumBits
@@ -103,28 +107,45 @@ low-silent r p h l =
     ≡ 0 = build-agrees (λ (n : ℕ). cond (leb n (7 - r)) (getD (getD spectrumBits r []) n 0) 0) (λ (n : ℕ). 0) 8 z p (omega arith) in
     rw (le-leb p (7 - r) l) at y
 
-bits-whole : (r : ℕ) (z : ℤ) → r < 8 → getD (getD spectrumBits r []) (codePlace (z -ℤ stepShift r)) 0 ≡ bitsAt r (wholeN z)
+-- 0 less r + 1 is one below the range
+held-start : (r : ℕ) → heldZ (negℤ (pos r)) (pos r) (pos 0 -ℤ pos (suc r)) ≡ negℤ (pos r)
+held-start r = rw (lt-ltb 0 (suc r) (omega arith)) (held-below r (suc r - 1) (omega arith))
+
+-- a negative whole number is as 0: in the Rust's mode both take no bits, in held mode both are held to one code
+bits-below : (m : Mode) (r n : ℕ) → r < 8 → limitedBits m r (negsuc n -ℤ pos (suc r)) ≡ bitsAt m r 0
 unfolding bitsAt
-bits-whole r z h = ap (λ (s : ℤ). getD (getD spectrumBits r []) (codePlace (z -ℤ s)) 0) (sym (shift-low r h) ∙ ap pos (add-one r)) ∙ go z
+bits-below Rust r n h =
+    low-silent r _ h (place-neg r n h) ∙ sym (ap (λ p. getD (getD spectrumBits r []) p 0) (place-pos r 0 h) ∙ low-silent r (min (7 - r + 0) 15) h (omega arith))
+bits-below Held r n h =
+    ap (λ z. getD (getD spectrumBits r []) (codePlace z) 0) (held-below r (suc (n + r)) (omega arith) ∙ sym (held-start r))
+
+bits-whole : (m : Mode) (r : ℕ) (z : ℤ) → r < 8 → limitedBits m r (z -ℤ stepShift r) ≡ bitsAt m r (wholeN z)
+unfolding bitsAt
+bits-whole m r z h = ap (λ (s : ℤ). limitedBits m r (z -ℤ s)) (sym (shift-low r h) ∙ ap pos (add-one r)) ∙ go z
   where
-    go : (z : ℤ) → getD (getD spectrumBits r []) (codePlace (z -ℤ pos (suc r))) 0 ≡ getD (getD spectrumBits r []) (min (7 - r + wholeN z) 15) 0
-    go (pos w) = ap (λ (p : ℕ). getD (getD spectrumBits r []) p 0) (place-pos r w h)
-    go (negsuc n) =
-        let k : min (7 - r + 0) 15 ≤ 7 - r = omega arith in
-        low-silent r _ h (place-neg r n h) ∙ sym (low-silent r (min (7 - r + 0) 15) h k)
+    go : (z : ℤ) → limitedBits m r (z -ℤ pos (suc r)) ≡ limitedBits m r (pos (wholeN z) -ℤ pos (suc r))
+    go (pos w) = refl
+    go (negsuc n) = unfold bitsAt in bits-below m r n h
 
 -- both ways of counting, at a whole part: what is added, and what is taken off with what is left
-bitsAdded : ℕ → ℕ → ℕ
-bitsAdded r w = cond (leb 1 w) (highAt r) 0 + cond (leb (farAt r) w) 1 0
+bitsAdded : Mode → ℕ → ℕ → ℕ
+bitsAdded m r w = lowAt m r + cond (leb 1 w) (highAt r - lowAt m r) 0 + cond (leb (farAt r) w) 1 0
 
-bitsTakenOff : ℕ → ℕ → ℕ
-bitsTakenOff r w = bitsAt r w + (cond (leb (nearAt r) w) 1 0 + cond (leb (pastAt r) w) (dropAt r) 0)
+bitsTakenOff : Mode → ℕ → ℕ → ℕ
+bitsTakenOff m r w = bitsAt m r w + (cond (leb (nearAt r) w) 1 0 + cond (leb (pastAt r) w) (dropAt m r) 0)
 
-small-parts : (r w : ℕ) → r < 8 → w ≤ 16 → bitsAdded r w ≡ bitsTakenOff r w
-unfolding build bitsAdded bitsTakenOff bitsAt nearAt farAt pastAt highAt dropAt spectrumBits
-small-parts r w h l =
-    build-agrees (bitsAdded r) (bitsTakenOff r) 17 (build-agrees (λ (i : ℕ). build (bitsAdded i) 17) (λ (i : ℕ). build (bitsTakenOff i) 17) 8 refl r h) w
-    (omega arith)
+abbrev AllParts : Mode → Type 0
+AllParts m = build (λ (i : ℕ). build (bitsAdded m i) 17) 8 ≡ build (λ (i : ℕ). build (bitsTakenOff m i) 17) 8
+
+all-parts : (m : Mode) → AllParts m
+unfolding build bitsAdded bitsTakenOff bitsAt nearAt farAt pastAt highAt lowAt dropAt spectrumBits codePlace heldZ
+all-parts Rust = refl
+all-parts Held = refl
+
+small-parts : (m : Mode) (r w : ℕ) → r < 8 → w ≤ 16 → bitsAdded m r w ≡ bitsTakenOff m r w
+small-parts m r w h l =
+    build-agrees (bitsAdded m r) (bitsTakenOff m r) 17
+    (build-agrees (λ (i : ℕ). build (bitsAdded m i) 17) (λ (i : ℕ). build (bitsTakenOff m i) 17) 8 (all-parts m) r h) w (omega arith)
 
 -- the marks are from 1 to 16, so that no larger whole part differs from 16
 marks-in : (r : ℕ) → r < 8 → (1 ≤ nearAt r) × (nearAt r ≤ 16) × (1 ≤ farAt r) × (farAt r ≤ 16) × (1 ≤ pastAt r) × (pastAt r ≤ 16)
@@ -145,43 +166,62 @@ capped k w h = go (leb k w) refl
     go true e = let z : k ≤ w = leb-true k w e in sym (le-leb k (min w 16) (omega arith))
     go false e = let z : w < k = leb-false k w e in sym (lt-leb k (min w 16) (omega arith))
 
-same-parts : (r w : ℕ) → r < 8 → bitsAdded r w ≡ bitsTakenOff r w
-unfolding bitsAdded bitsTakenOff bitsAt
-same-parts r w h =
-    let m = marks-in r h in
-    let l : min w 16 ≤ 16 = omega arith in
-    let p : min (7 - r + w) 15 ≡ min (7 - r + min w 16) 15 = omega arith in
-    rw (capped 1 w (omega arith), capped (farAt r) w (omega arith), capped (nearAt r) w (omega arith), capped (pastAt r) w (omega arith), p)
-    (small-parts r (min w 16) h l)
+-- from 16 on a code is past every row and every range
+bits-far : (m : Mode) (r w : ℕ) → r < 8 → 16 ≤ w → bitsAt m r w ≡ bitsAt m r 16
+unfolding bitsAt
+bits-far Rust r w h l =
+    let p : min (7 - r + w) 15 ≡ min (7 - r + 16) 15 = omega arith in
+    ap (λ p. getD (getD spectrumBits r []) p 0) (place-pos r w h ∙ p ∙ sym (place-pos r 16 h))
+bits-far Held r w h l =
+    rw (le-ltb w (suc r) (omega arith), le-ltb 16 (suc r) (omega arith), held-above r (w - suc r) (omega arith), held-above r (16 - suc r) (omega arith))
 
--- a value at resolution r below 8: what reaching 1 and far adds, near and past take off again
-counted : (r : ℕ) (y : Float) → r < 8
-    → cond (le (wholeF 1) y) (highAt r) 0 + cond (le (wholeF (farAt r)) y) 1 0
-    ≡ getD (getD spectrumBits r []) (codePlace (toSigned 31 y -ℤ stepShift r)) 0
-    + (cond (le (wholeF (nearAt r)) y) 1 0 + cond (le (wholeF (pastAt r)) y) (dropAt r) 0)
+bits-capped : (m : Mode) (r w : ℕ) → r < 8 → bitsAt m r w ≡ bitsAt m r (min w 16)
+bits-capped m r w h = go (leb 16 w) refl
+  where
+    go : (t : Bool) → leb 16 w ≡ t → bitsAt m r w ≡ bitsAt m r (min w 16)
+    go true e = let z : 16 ≤ w = leb-true 16 w e in let q : min w 16 ≡ 16 = omega arith in bits-far m r w h z ∙ sym (ap (bitsAt m r) q)
+    go false e = let z : w < 16 = leb-false 16 w e in let q : min w 16 ≡ w = omega arith in sym (ap (bitsAt m r) q)
+
+same-parts : (m : Mode) (r w : ℕ) → r < 8 → bitsAdded m r w ≡ bitsTakenOff m r w
 unfolding bitsAdded bitsTakenOff
-counted r y h =
-    let m = marks-in r h in
+same-parts m r w h =
+    let k = marks-in r h in
+    let l : min w 16 ≤ 16 = omega arith in
+    rw (capped 1 w (omega arith), capped (farAt r) w (omega arith), capped (nearAt r) w (omega arith), capped (pastAt r) w (omega arith), bits-capped m r w h)
+    (small-parts m r (min w 16) h l)
+
+-- a value at resolution r below 8: what low is and reaching 1 and far adds, near and past take off again
+counted : (m : Mode) (r : ℕ) (y : Float) → r < 8
+    → lowAt m r + cond (le (wholeF 1) y) (highAt r - lowAt m r) 0 + cond (le (wholeF (farAt r)) y) 1 0
+    ≡ limitedBits m r (toSigned 31 y -ℤ stepShift r) + (cond (le (wholeF (nearAt r)) y) 1 0 + cond (le (wholeF (pastAt r)) y) (dropAt m r) 0)
+unfolding bitsAdded bitsTakenOff
+counted m r y h =
+    let k = marks-in r h in
     rw (
       reaches-whole 1 y (omega arith) (omega arith),
       reaches-whole (farAt r) y (omega arith) (omega arith),
-      reaches-whole (nearAt r) y (omega arith)
-          (omega arith),
+      reaches-whole (nearAt r) y (omega arith) (omega arith),
       reaches-whole (pastAt r) y (omega arith) (omega arith),
-      bits-whole r (toSigned 31 y) h,
+      bits-whole m r (toSigned 31 y) h,
     )
-    (same-parts r (wholeN (toSigned 31 y)) h)
+    (same-parts m r (wholeN (toSigned 31 y)) h)
 
 -- the same by a resolution's marks
 abbrev pub markSum : Float → Marks → Float
 markSum x m = add binary32 (mul binary32 x (m .step)) (add binary32 (m .step) oneF)
 
-pub value-counted : (r : ℕ) (x : Float) (m : Marks) → r < 8 → m ≡ marksAt r
-    → cond (le oneF (markSum x m)) (m .high) 0 + cond (le (m .far) (markSum x m)) 1 0
-    ≡ valueBits r x + (cond (le (m .near) (markSum x m)) 1 0 + cond (le (m .past) (markSum x m)) (m .drop) 0)
+pub value-counted : (mode : Mode) (r : ℕ) (x : Float) (m : Marks) → r < 8 → m ≡ marksAt mode r
+    → m .low + cond (le oneF (markSum x m)) (m .high) 0 + cond (le (m .far) (markSum x m)) 1 0
+    ≡ valueBits mode r x + (cond (le (m .near) (markSum x m)) 1 0 + cond (le (m .past) (markSum x m)) (m .drop) 0)
 unfolding marksAt valueBits rawCode ofInt
-value-counted r x m h e = rw (e, lt-ltb r 8 h) (counted r (markSum x (marksAt r)) h)
+value-counted mode r x m h e = rw (e, lt-ltb r 8 h) (counted mode r (markSum x (marksAt mode r)) h)
 
-pub high-le : (r : ℕ) (m : Marks) → r < 8 → m ≡ marksAt r → m .high ≤ 4
+-- low and high are together the row's high, at most 4
+pub low-high : (mode : Mode) (r : ℕ) → r < 8 → lowAt mode r + (highAt r - lowAt mode r) ≡ highAt r
+unfolding build highAt lowAt spectrumBits codePlace heldZ
+low-high Rust r h = build-agrees (λ i. lowAt Rust i + (highAt i - lowAt Rust i)) highAt 8 refl r h
+low-high Held r h = build-agrees (λ i. lowAt Held i + (highAt i - lowAt Held i)) highAt 8 refl r h
+
+pub high-le : (mode : Mode) (r : ℕ) (m : Marks) → r < 8 → m ≡ marksAt mode r → m .low + m .high ≤ 4
 unfolding marksAt every highAt
-high-le r m h e = rw e (leb-true _ _ (every-at (λ (i : ℕ). leb (highAt i) 4) 8 r refl h))
+high-le mode r m h e = rw (e, low-high mode r h) (leb-true _ _ (every-at (λ (i : ℕ). leb (highAt i) 4) 8 r refl h))

@@ -1,12 +1,12 @@
 -- Signed numbers: the size of a sum and of a difference, what is held to a range, and a code's place. Assumes nothing.
-use mathlib.Core.Path.{_≡_, refl, subst, _∙_}
+use mathlib.Core.Path.{_≡_, refl, subst, ap, _∙_}
 use mathlib.Core.Bool.{Bool, true, false, cond}
-use Prim.Native.Nat.{ℕ, suc, _+_, _-_, _≤_, _<_, min, zero-le}
+use Prim.Native.Nat.{ℕ, zero, suc, _+_, _-_, _≤_, _<_, min, zero-le}
 use native.Mathlib.Nat.{le-refl}
 use native.Mathlib.Omega.{arith}
 use borrow.Author.Tests.{lt-ltb, le-ltb, ltb-true, ltb-false}
 use lib.Dec.{T, ltb}
-use lib.IntN.{ℤ, pos, negsuc, _+ℤ_, _-ℤ_, natAbs}
+use lib.IntN.{ℤ, pos, negsuc, negℤ, _+ℤ_, _-ℤ_, natAbs}
 use lib.Signed.{mag, ltZ}
 use Rattle.rules.specs.Signed.{heldZ}
 use Rattle.rules.specs.Code.{codePlace}
@@ -23,6 +23,30 @@ held-mag lo hi z n l h = go lo hi z (ltZ z lo) (ltZ hi z) refl refl l h
     go lo (negsuc b) (pos k) false false e f l h = absurd (subst T f tt)
     go (pos a) hi (negsuc k) false false e f l h = absurd (subst T e tt)
     go (negsuc a) hi (negsuc k) false false e f l h = omega (arith, ltb-false a k e)
+
+-- held to plus or minus n: what lies at an end or past it is that end
+pub held-below : (n k : ℕ) → n ≤ k → heldZ (negℤ (pos n)) (pos n) (negsuc k) ≡ negℤ (pos n)
+unfolding heldZ
+held-below zero k h = refl
+held-below (suc n) k h = rw (lt-ltb n k h)
+
+pub held-above : (n k : ℕ) → n ≤ k → heldZ (negℤ (pos n)) (pos n) (pos k) ≡ pos n
+unfolding heldZ
+held-above n k h = start n ∙ go (ltb n k) refl
+  where
+    start : (n : ℕ) → cond (ltZ (pos k) (negℤ (pos n))) (negℤ (pos n)) (cond (ltb n k) (pos n) (pos k)) ≡ cond (ltb n k) (pos n) (pos k)
+    start zero = rw (le-ltb k 0 zero-le)
+    start (suc n) = refl
+
+    go : (t : Bool) → ltb n k ≡ t → cond t (pos n) (pos k) ≡ pos n
+    go true e = refl
+    go false e = let l : k ≤ n = ltb-false n k e in ap pos (omega arith)
+
+-- within -8..7 nothing is held
+pub held-few : (z : ℤ) → natAbs z ≤ 7 → heldZ (negsuc 7) (pos 7) z ≡ z
+unfolding heldZ
+held-few (pos k) h = rw (le-ltb 7 k h)
+held-few (negsuc k) h = rw (le-ltb 7 k (omega arith))
 
 -- held to 0..top
 module _ (top n : ℕ) where

@@ -1,2 +1,3 @@
 pub mod SixteenInOne
 pub mod Marks
+pub mod Ends

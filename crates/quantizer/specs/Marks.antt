@@ -1,10 +1,12 @@
 -- Document 01, **Estimate** below resolution 8: where the count of QUANTIZE_SPECTRUM_BITS changes, as whole numbers of scaled x step + (step + 1).
 use mathlib.Core.List.{[], _∷_}
-use Prim.Native.Nat.{ℕ}
-use lib.IntN.{pos}
+use Prim.Native.Nat.{ℕ, suc, _-_}
+use lib.IntN.{ℤ, pos, negsuc}
 use lib.Ieee.{Float, binary32, ofInt}
 use lib.ListN.{getD}
-use Rattle.rules.specs.Code.{stepOf}
+use Rattle.rules.specs.Tables.{spectrumBits}
+use Rattle.rules.specs.Code.{stepOf, limitedCode, codePlace}
+use Rattle.rules.specs.declared.Mode.{Mode}
 use Rattle.quantizer.specs.declared.counts.Marks.{Marks}
 
 -- a whole number as a single
@@ -23,12 +25,21 @@ pastAt resolution = getD (1 ∷ 4 ∷ 6 ∷ 8 ∷ 10 ∷ 12 ∷ 14 ∷ 16 ∷ []
 unfoldable pub highAt : (resolution : ℕ) → ℕ
 highAt resolution = getD (0 ∷ 2 ∷ 3 ∷ 3 ∷ 4 ∷ 4 ∷ 4 ∷ 4 ∷ []) resolution 0
 
-unfoldable pub dropAt : (resolution : ℕ) → ℕ
-dropAt resolution = getD (0 ∷ 2 ∷ 3 ∷ 3 ∷ 4 ∷ 4 ∷ 4 ∷ 0 ∷ []) resolution 0
+-- a code's bits, limited as the mode says
+abbrev pub limitedBits : (mode : Mode) (resolution : ℕ) (z : ℤ) → ℕ
+limitedBits mode resolution z = getD (getD spectrumBits resolution []) (codePlace (limitedCode mode resolution z)) 0
 
-abbrev pub marksOf : (step near far past : Float) (high drop : ℕ) → Marks
-marksOf step near far past high drop = record { step = step; near = near; far = far; past = past; high = high; drop = drop }
+-- of the code one below its range; and what those of the code one past it lack
+unfoldable pub lowAt : (mode : Mode) (resolution : ℕ) → ℕ
+lowAt mode resolution = limitedBits mode resolution (negsuc resolution)
 
-unfoldable pub marksAt : (resolution : ℕ) → Marks
-marksAt resolution = marksOf (stepOf resolution) (wholeF (nearAt resolution)) (wholeF (farAt resolution)) (wholeF (pastAt resolution)) (highAt resolution)
-    (dropAt resolution)
+unfoldable pub dropAt : (mode : Mode) (resolution : ℕ) → ℕ
+dropAt mode resolution = highAt resolution - limitedBits mode resolution (pos (suc resolution))
+
+abbrev pub marksOf : (step near far past : Float) (low high drop : ℕ) → Marks
+marksOf step near far past low high drop = record { step = step; near = near; far = far; past = past; low = low; high = high; drop = drop }
+
+unfoldable pub marksAt : (mode : Mode) (resolution : ℕ) → Marks
+marksAt mode resolution =
+    marksOf (stepOf resolution) (wholeF (nearAt resolution)) (wholeF (farAt resolution)) (wholeF (pastAt resolution))
+    (lowAt mode resolution) (highAt resolution - lowAt mode resolution) (dropAt mode resolution)

@@ -8,37 +8,41 @@ ghost use lib.ListN.{getD};
 ghost use Rattle.rules.specs.Tables.{deadZoneTable};
 ghost use Rattle.rules.specs.Code.{magnitudeBits};
 ghost use Rattle.rules.specs.Estimate.{valueBits};
+ghost use Rattle.rules.specs.declared.Mode.the-variants.{Rust};
 ghost use Rattle.quantizer.specs.Marks.{marksOf, marksAt};
 use floats::magnitude;
+use rules::Mode;
 
-// Below resolution 8: the step, and the whole numbers at which the length of a code changes. From 1 on it is `high`, from
+// Below resolution 8: the step, and the whole numbers at which the length of a code changes. It is `low`, from 1 on `high` more, from
 // near to far one less, and from past on `drop` less.
 pub struct Marks {
     pub step: f32,
     pub near: f32,
     pub far: f32,
     pub past: f32,
+    pub low: u32,
     pub high: u32,
     pub drop: u32,
 }
 
 fn marked(step: f32, near: f32, far: f32, past: f32, high: u32, drop: u32) -> Marks
-    ensures { λ m. ⌜ m ≡ marksOf step near far past high drop ⌝ }
+    ensures { λ m. ⌜ m ≡ marksOf step near far past 0 high drop ⌝ }
 {
     Marks {
         step,
         near,
         far,
         past,
+        low: 0,
         high,
         drop,
     }
 }
 
-// At resolution 7 the table's row goes on to its end.
-pub fn marks_of(r: u8) -> Marks
+// In the Rust's mode. At resolution 7 the table's row goes on to its end.
+fn rust_marks(r: u8) -> Marks
     requires { ⌜ r < 8 ⌝ }
-    ensures { λ m. ⌜ m ≡ marksAt r ⌝ }
+    ensures { λ m. ⌜ m ≡ marksAt Rust r ⌝ }
 {
     match r {
         0 => marked(0.5, 1.0, 1.0, 1.0, 0, 0),
@@ -52,6 +56,26 @@ pub fn marks_of(r: u8) -> Marks
     }
 }
 
+// In held mode a code past its range has the length of the range's end.
+pub fn marks_of(mode: Mode, r: u8) -> Marks
+    requires { ⌜ r < 8 ⌝ }
+    ensures { λ m. ⌜ m ≡ marksAt mode r ⌝ }
+{
+    let m = rust_marks(r);
+    match mode {
+        Mode::Rust => m,
+        Mode::Held => Marks {
+            step: m.step,
+            near: m.near,
+            far: m.far,
+            past: m.past,
+            low: m.high,
+            high: 0,
+            drop: 0,
+        },
+    }
+}
+
 // n where the value reaches the mark, else 0.
 fn reached(mark: f32, value: f32, n: u32) -> u32
     ensures { λ r. ⌜ (r ≡ cond (le mark value) n 0) × (r ≤ n) ⌝ }
@@ -60,21 +84,21 @@ fn reached(mark: f32, value: f32, n: u32) -> u32
 }
 
 // Below resolution 8, with its marks.
-pub fn small_bits(scaled: f32, r: u8, m: Marks) -> u32
-    requires { ⌜ (r < 8) × (m ≡ marksAt r) ⌝ }
-    ensures { λ n. ⌜ (n ≡ valueBits r scaled) × (n ≤ 12) ⌝ }
+pub fn small_bits(mode: Mode, scaled: f32, r: u8, m: Marks) -> u32
+    requires { ⌜ (r < 8) × (m ≡ marksAt mode r) ⌝ }
+    ensures { λ n. ⌜ (n ≡ valueBits mode r scaled) × (n ≤ 12) ⌝ }
 {
     let step = m.step;
     let up = step + 1.0;
     let y = scaled * step + up;
-    let most = reached(1.0, y, m.high) + reached(m.far, y, 1);
+    let most = m.low + reached(1.0, y, m.high) + reached(m.far, y, 1);
     most - (reached(m.near, y, 1) + reached(m.past, y, m.drop))
 }
 
 // From resolution 8 up, with its magnitude's bits and its dead zone.
-pub fn wide_bits(scaled: f32, r: u8, bits: u32, dead: f32) -> u32
+pub fn wide_bits(mode: Mode, scaled: f32, r: u8, bits: u32, dead: f32) -> u32
     requires { ⌜ (8 ≤ r) × (r ≤ 15) × (bits ≡ magnitudeBits r) × (dead ≡ getD deadZoneTable r nan) ⌝ }
-    ensures { λ n. ⌜ (n ≡ valueBits r scaled) × (n ≤ 12) ⌝ }
+    ensures { λ n. ⌜ (n ≡ valueBits mode r scaled) × (n ≤ 12) ⌝ }
 {
     bits + reached(dead, magnitude(scaled), 1)
 }

@@ -1,12 +1,15 @@
 // Document 01, **Code** and **Estimate**, one value at a time: what estimate, quantiser, packer and reader share.
 ghost use mathlib.Core.Path.{_≡_};
 ghost use Prim.Native.Nat.{_≤_};
+ghost use lib.IntN.{pos, negℤ, natAbs};
 ghost use Rattle.rules.specs.Signed.{heldZ};
-ghost use Rattle.rules.specs.Code.{rawCode, codeOf};
+ghost use Rattle.rules.specs.Code.{rawCode};
+ghost use Rattle.quantizer.specs.Ends.{endsOf, endsAt, Narrow};
 use self::tables::limit_of;
 use self::tables::shift_of;
 use self::tables::step_of;
 use floats::truncate;
+use rules::Mode;
 
 pub mod counts;
 pub mod tables;
@@ -35,14 +38,39 @@ fn raw_code(scaled: f32, r: u8) -> i64
     whole - shift_of(r)
 }
 
-pub fn code(scaled: f32, r: u8) -> i32
-    requires { ⌜ r ≤ 15 ⌝ }
-    ensures { λ z. ⌜ z ≡ codeOf r scaled ⌝ }
+// What a code is held within.
+pub struct Ends {
+    pub low: i64,
+    pub high: i64,
+}
+
+fn around(limit: i64) -> Ends
+    requires { ⌜ (limit ≡ pos (natAbs limit)) × (natAbs limit ≤ 2047) ⌝ }
+    ensures { λ e. ⌜ e ≡ endsOf (negℤ limit) limit ⌝ }
 {
-    let raw = raw_code(scaled, r);
-    if r < 8 {
-        return held(raw, -8, 7) as i32;
+    Ends {
+        low: -limit,
+        high: limit,
     }
-    let limit = limit_of(r);
-    held(raw, -limit, limit) as i32
+}
+
+// Taken once a band: here alone a code depends on the mode.
+pub fn ends_of(mode: Mode, r: u8) -> Ends
+    requires { ⌜ r ≤ 15 ⌝ }
+    ensures { λ e. ⌜ e ≡ endsAt mode r ⌝ }
+{
+    if 8 <= r {
+        return around(limit_of(r));
+    }
+    match mode {
+        Mode::Rust => Ends { low: -8, high: 7 },
+        Mode::Held => around(r as i64),
+    }
+}
+
+pub fn code(scaled: f32, r: u8, ends: Ends) -> i32
+    requires { ⌜ (r ≤ 15) × Narrow ends ⌝ }
+    ensures { λ z. ⌜ z ≡ heldZ (ends .low) (ends .high) (rawCode r scaled) ⌝ }
+{
+    held(raw_code(scaled, r), ends.low, ends.high) as i32
 }

@@ -7,6 +7,7 @@ use replay_vectors::sums::sum_u8;
 use rules::Channel;
 use rules::ChannelType;
 use rules::Layout;
+use rules::Mode;
 use rules_line::LineAnswer;
 use rules_line::LineEnd;
 use rules_line::Tally;
@@ -62,6 +63,7 @@ fn voice() -> Layout {
         frame_size: 170,
         minimum: 1,
         maximum: 15,
+        mode: Mode::Rust,
     }
 }
 

@@ -24,6 +24,7 @@ use Rattle.rules.specs.Fields.{deltaSymbol, deltaBits, smallBits, codeBi
 use Rattle.rules.specs.Frame.{filledFields, frameOf}
 use Rattle.rules.specs.Reading.{readCode, readRecord, readFields, accepted, faulty, scan, strict}
 use Rattle.rules.specs.declared.ChannelType.the-variants.{Discrete, StereoPrimary, StereoSecondary}
+use Rattle.rules.specs.declared.Mode.the-variants.{Rust}
 use Rattle.rules.specs.declared.Layout.{Layout}
 
 -- n Discrete channels with b coded bands and no others, F = 8
@@ -37,6 +38,7 @@ flat n b = record {
   «frame_size» = 8;
   minimum = 1;
   maximum = 15;
+  mode = Rust;
 }
 
 -- n silent channels of one band, with this head
@@ -71,6 +73,7 @@ pair = record {
   «frame_size» = 48;
   minimum = 1;
   maximum = 15;
+  mode = Rust;
 }
 
 abbrev loud : Rec

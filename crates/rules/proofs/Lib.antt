@@ -6,6 +6,7 @@ pub mod Signs
 pub mod Levels
 pub mod Boundaries
 pub mod Limits
+pub mod Modes
 pub mod Bands
 pub mod Legality
 pub mod Made

@@ -1,7 +1,8 @@
 -- Document 01's 'Table to be proved': its ten rows in one table of questions with their results, under one theorem by computation; and the
--- small tables that code may use in the place of a float operation. Request A8's rows, under other pairs of resolutions. Assumes nothing.
+-- small tables that code may use in the place of a float operation. Request A8's rows, under other pairs of resolutions; request A9's, in both modes.
+-- Assumes nothing.
 use mathlib.Core.Path.{_≡_, refl, sym, ap, _∙_}
-use mathlib.Core.List.{List, [], _∷_, map}
+use mathlib.Core.List.{List, [], _∷_, _++_, map}
 use Prim.Native.Nat.{ℕ, _<_}
 use lib.IntN.{ℤ, pos}
 use lib.ListN.{length, getD, replicate, List·getD-map}
@@ -19,9 +20,11 @@ use Rattle.rules.specs.Code.{stepOf, stepShift, rawCode, magnitudeBits, 
 use Rattle.rules.specs.Estimate.{valueBits}
 use Rattle.rules.specs.Fields.{smallBits, codeBits}
 use Rattle.rules.specs.declared.ChannelType.the-variants.{Discrete}
+use Rattle.rules.specs.declared.Mode.{Mode}
+use Rattle.rules.specs.declared.Mode.the-variants.{Rust, Held}
 use Rattle.rules.specs.declared.Layout.{Layout}
 
--- one Discrete channel of two bands, F = 17, with this pair
+-- one Discrete channel of two bands, F = 17, with this pair, in the Rust's mode
 abbrev pub paired : (minimum maximum : ℕ) → Layout
 paired minimum maximum = record {
   channels = 1;
@@ -32,6 +35,7 @@ paired minimum maximum = record {
   «frame_size» = 17;
   minimum = minimum;
   maximum = maximum;
+  mode = Rust;
 }
 
 pub data Question : Type 0 where
@@ -42,7 +46,7 @@ pub data Question : Type 0 where
   -- of factors
   widthOf : List ℕ → Question
   costOf : List ℕ → Question
-  -- of a pattern at a resolution
+  -- of a pattern at a resolution, in the Rust's mode
   code : ℕ → ℕ → Question
   estimate : ℕ → ℕ → Question
   writtenBits : ℕ → ℕ → Question
@@ -52,9 +56,9 @@ answer (factor p) = pos (factorOf (ofBits binary32 p))
 answer (resolutionOf f noise) = pos (resolution (paired 1 15) noise f)
 answer (widthOf fs) = pos (width fs)
 answer (costOf fs) = pos (widthCost fs)
-answer (code p r) = codeOf r (ofBits binary32 p)
-answer (estimate p r) = pos (valueBits r (ofBits binary32 p))
-answer (writtenBits p r) = pos (length (codeBits r (codeOf r (ofBits binary32 p))))
+answer (code p r) = codeOf Rust r (ofBits binary32 p)
+answer (estimate p r) = pos (valueBits Rust r (ofBits binary32 p))
+answer (writtenBits p r) = pos (length (codeBits r (codeOf Rust r (ofBits binary32 p))))
 
 -- the document's ten rows, in its order
 unfoldable pub questions : List (List Question)
@@ -117,6 +121,17 @@ corner-written = refl
 pub corner-estimated : corner answer (estimate 0x3F7FFFFE) ≡ pos 0 ∷ pos 0 ∷ pos 0 ∷ []
 unfolding answer valueBits rawCode stepOf stepShift stepTable heldZ codePlace spectrumBits ofBits add mul toSigned
 corner-estimated = refl
+
+-- Request A9, in a mode: the upper clip's code at a resolution, the bits that the estimate counts, and those that are written.
+abbrev clipRow : (mode : Mode) (resolution : ℕ) → List ℤ
+clipRow mode resolution =
+    let z = codeOf mode resolution (ofBits binary32 0x3F7FFFFE) in
+    z ∷ pos (valueBits mode resolution (ofBits binary32 0x3F7FFFFE)) ∷ pos (length (codeBits resolution z)) ∷ []
+
+pub held-rows : map (clipRow Rust) (2 ∷ 4 ∷ 5 ∷ []) ++ map (clipRow Held) (2 ∷ 4 ∷ 5 ∷ [])
+    ≡ map (map pos) ((3 ∷ 0 ∷ 0 ∷ []) ∷ (5 ∷ 0 ∷ 0 ∷ []) ∷ (6 ∷ 0 ∷ 0 ∷ []) ∷ (2 ∷ 3 ∷ 3 ∷ []) ∷ (4 ∷ 4 ∷ 4 ∷ []) ∷ (5 ∷ 4 ∷ 4 ∷ []) ∷ [])
+unfolding codeOf valueBits rawCode stepOf stepShift stepTable heldZ codeBits smallBits codePlace spectrumBits spectrumValue bits ofBits add mul toSigned
+held-rows = refl
 
 -- step + 0.5, and 2^(MAX_BIT_TABLE - 1) - 1, at each resolution
 unfoldable pub shifts : List ℕ

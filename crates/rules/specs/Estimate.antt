@@ -11,24 +11,25 @@ use Rattle.rules.specs.Tables.{spectrumBits, deadZoneTable}
 use Rattle.rules.specs.Layout.{codedCountAt, frameSize, sideCountAt, kindAt, sideWidth, part}
 use Rattle.rules.specs.Resolution.{resolutionAt}
 use Rattle.rules.specs.Width.{widthCost}
-use Rattle.rules.specs.Code.{rawCode, codePlace, magnitudeBits}
+use Rattle.rules.specs.Code.{rawCode, limitedCode, codePlace, magnitudeBits}
+use Rattle.rules.specs.declared.Mode.{Mode}
 use Rattle.rules.specs.declared.Layout.{Layout}
 
--- one value at resolution r: below 8 the count from the table at 8 + code, the code unclamped before the table's 0..15; from 8 up
--- MAX_BIT_TABLE - 1, plus 1 if the magnitude reaches the dead zone
-unfoldable pub valueBits : (resolution : ℕ) (x : Float) → ℕ
-valueBits resolution x =
+-- one value: below resolution 8 the count from the table at 8 + code, the code limited as the mode says and not clamped before the table's 0..15; from 8
+-- up MAX_BIT_TABLE - 1, plus 1 if the magnitude reaches the dead zone
+unfoldable pub valueBits : (mode : Mode) (resolution : ℕ) (x : Float) → ℕ
+valueBits mode resolution x =
     cond (ltb resolution 8)
-    (getD (getD spectrumBits resolution []) (codePlace (rawCode resolution x)) 0)
+    (getD (getD spectrumBits resolution []) (codePlace (limitedCode mode resolution (rawCode resolution x))) 0)
     (magnitudeBits resolution + cond (le (getD deadZoneTable resolution nan) (absF x)) 1 0)
 
 -- the eight values of band b of a channel
-unfoldable pub bandBits : (scaled : List Float) (band resolution : ℕ) → ℕ
-bandBits scaled band resolution = sumTo (λ s. valueBits resolution (getD scaled (band * 8 + s) nan)) 8
+unfoldable pub bandBits : (mode : Mode) (scaled : List Float) (band resolution : ℕ) → ℕ
+bandBits mode scaled band resolution = sumTo (λ s. valueBits mode resolution (getD scaled (band * 8 + s) nan)) 8
 
 -- its coded bands
 unfoldable pub channelBits : (l : Layout) (scaled : List Float) (factors : List ℕ) (coded level boundary : ℕ) → ℕ
-channelBits l scaled factors coded level boundary = sumTo (λ band. bandBits scaled band (resolutionAt l level boundary factors band)) coded
+channelBits l scaled factors coded level boundary = sumTo (λ band. bandBits (l .mode) scaled band (resolutionAt l level boundary factors band)) coded
 
 -- per channel its width cost, and 32 (secondary) or 6G
 unfoldable pub headerBits : (l : Layout) (factors : List ℕ) (channel : ℕ) → ℕ

@@ -10,7 +10,13 @@ pub struct Channel {
     pub kind: ChannelType,
 }
 
-// A stream's layout: how many channels of which kinds, the bands, the frame's size in bytes, the lowest and the highest resolution.
+// Whether a code may leave its range below resolution 8, as in the Rust, or is held within it.
+pub enum Mode {
+    Rust,
+    Held,
+}
+
+// A stream's layout: how many channels of which kinds, the bands, the frame's size in bytes, the lowest and the highest resolution, the mode.
 pub struct Layout {
     pub channels: usize,
     pub kinds: [Channel; 16],
@@ -20,6 +26,7 @@ pub struct Layout {
     pub frame_size: usize,
     pub minimum: usize,
     pub maximum: usize,
+    pub mode: Mode,
 }
 
 // The lengths of the lent buffers of a record and of its frame.

@@ -9,6 +9,7 @@ pub mod SignedSearch
 pub mod Stores
 pub mod LegalRecords
 pub mod MadeRecord
+pub mod HeldCodes
 -- demand 3 on bits and bytes
 pub mod Widths
 pub mod Factors

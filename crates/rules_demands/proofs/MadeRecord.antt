@@ -174,24 +174,24 @@ module _ (l : Layout) (spectra scaled : List Float) (is : List ℕ) where
 -- of any resolutions
 module _ (l : Layout) (rs : List ℕ) (scaled : List Float) where
   abbrev codesOf : ℕ → List ℤ
-  codesOf c = channelCodes (part 128 rs c) (part 1024 scaled c)
+  codesOf c = channelCodes (l .mode) (part 128 rs c) (part 1024 scaled c)
 
   codes-size : (c : ℕ) → c < l .channels → length (codesOf c) ≡ 1024
   unfolding channelCodes subframeCodes
-  codes-size c _ = length-blocks (subframeCodes (part 128 rs c) (part 1024 scaled c)) 128 8 (λ s _. length-build _ 128) 8 (omega arith)
+  codes-size c _ = length-blocks (subframeCodes (l .mode) (part 128 rs c) (part 1024 scaled c)) 128 8 (λ s _. length-build _ 128) 8 (omega arith)
 
   pub codes-long : length (allCodes l rs scaled) ≡ spectrumLength l
   unfolding allCodes
   codes-long = length-blocks codesOf 1024 (l .channels) codes-size (l .channels) (omega arith)
 
   pub code-at : (c s b : ℕ) → c < l .channels → s < 8 → b < 128
-      → getD (part 1024 (allCodes l rs scaled) c) (s * 128 + b) (pos 0) ≡ codeAt (part 128 rs c) (part 1024 scaled c) s b
+      → getD (part 1024 (allCodes l rs scaled) c) (s * 128 + b) (pos 0) ≡ codeAt (l .mode) (part 128 rs c) (part 1024 scaled c) s b
   unfolding allCodes channelCodes subframeCodes
   code-at c s b h g k =
       rw (block-part codesOf 1024 (l .channels) c codes-size h)
       (sym (row-code (codesOf c) s b k)
-      ∙ rw (block-part (subframeCodes (part 128 rs c) (part 1024 scaled c)) 128 8 s (λ j _. length-build _ 128) g)
-      (build-at (codeAt (part 128 rs c) (part 1024 scaled c) s) 128 b (pos 0) k))
+      ∙ rw (block-part (subframeCodes (l .mode) (part 128 rs c) (part 1024 scaled c)) 128 8 s (λ j _. length-build _ 128) g)
+      (build-at (codeAt (l .mode) (part 128 rs c) (part 1024 scaled c) s) 128 b (pos 0) k))
 
 -- past the coded count there is none
 codes-zero : (l : Layout) (level boundary : ℕ) (scaled : List Float) (F : List ℕ) (c s b : ℕ) → c < l .channels → s < 8 → codedCountAt l c ≤ b → b < 128

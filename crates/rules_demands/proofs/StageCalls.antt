@@ -19,12 +19,14 @@ use Rattle.rules.specs.Lent.{overwrite}
 use Rattle.rules.specs.Stage.{StageLent, StageLeft, stageOverwrite, stageRecord, delivery, encodeFrame}
 use Rattle.rules.specs.Writer.{WriterLent, WriterLeft, writerHasRoom, writeRecord}
 use Rattle.rules.specs.Reader.{ReaderLent, readerHasRoom, readFrame}
+use Rattle.rules.specs.declared.Mode.the-variants.{Held}
 use Rattle.rules.specs.declared.Layout.{Layout}
 use Rattle.rules.proofs.Layouts.{legal-sizes}
 use Rattle.rules.proofs.Cuts.{part-of-front}
 use Rattle.rules_demands.proofs.Demand3.{frame-length}
 use Rattle.rules_demands.proofs.Stores.{record-front, legal-front}
 use Rattle.rules_demands.proofs.MadeRecord.{front-small, made-factors, made-side, made-codes, made-silent, made-legal}
+use Rattle.rules_demands.proofs.HeldCodes.{made-in-range}
 use Rattle.rules_demands.proofs.Deliveries.{laid-front}
 use Rattle.rules_demands.proofs.Calls.{Holds, handed, FrameOf, packed-written, read-after-write}
 use Rattle.rules_demands.proofs.StageAnswers.{Passes, analysisBy, levelBy, boundaryBy, bitsBy, passes, boundary-small, ends-done, delivers}
@@ -41,6 +43,11 @@ codes-laid : (l : Layout) (level boundary : ℕ) (F x : List ℕ) (C y : List �
     → CodesInRange l level boundary (overwrite F x) (overwrite C y) → CodesInRange l level boundary F C
 codes-laid l level boundary F x C y f c h i j b p q g =
     rw (part-laid 128 (l .channels) i F x f p, part-laid 1024 (l .channels) i C y c p) at (h i j b p q g)
+
+laid-codes : (l : Layout) (level boundary : ℕ) (F x : List ℕ) (C y : List ℤ) → length F ≡ factorLength l → length C ≡ spectrumLength l
+    → CodesInRange l level boundary F C → CodesInRange l level boundary (overwrite F x) (overwrite C y)
+laid-codes l level boundary F x C y f c h i j b p q g =
+    rw (part-laid 128 (l .channels) i F x f p, part-laid 1024 (l .channels) i C y c p) (h i j b p q g)
 
 module _ (l : Layout) (level boundary : ℕ) (F S : List ℕ) (C : List ℤ) (x y : List ℕ) (z : List ℤ)
     (f : length F ≡ factorLength l) (s : length S ≡ sideLength l) (c : length C ≡ spectrumLength l) where
@@ -170,3 +177,26 @@ module _ (l : Layout) (t : StageLent) (level boundary pairs n : ℕ) (e : encode
         let f : take (frameSize l) (writeRecord l lent .frame) ≡ take (frameSize l) (encodeFrame l t .frame) =
         rw w (laid-front (frameSize l) (take (frameSize l) (encodeFrame l t .frame)) (encodeFrame l t .frame) (rw left-frame frame-size)) in
         read-after-write l lent u (level ∷ boundary ∷ n ∷ []) (ap (λ (x : WriterLeft). x .outcome) w) m (q ∙ sym f)
+
+  -- IN HELD MODE (request A9) each code is in its range, so the same holds with no other premise.
+  module _ (mode : l .mode ≡ Held) where
+    pub held-codes : CodesInRange l level boundary (encodeFrame l t .factors) (encodeFrame l t .codes)
+    unfolding delivery
+    held-codes = rw (done .left, done .levels, done .boundaries)
+        (laid-codes l _ _ _ _ _ _ factors-size codes-size (made-in-range l spectra intensities sizes mode))
+
+    pub held-legal : legalRecord l level boundary (encodeFrame l t .factors) (encodeFrame l t .side) (encodeFrame l t .codes) ≡ true
+    held-legal = stage-legal held-codes
+
+    pub held-written : (w : WriterLent) → writerHasRoom l w ≡ true
+        → Holds l w level boundary (encodeFrame l t .factors) (encodeFrame l t .side) (encodeFrame l t .codes)
+        → writeRecord l w ≡ record {
+          outcome = delivered (level ∷ boundary ∷ n ∷ []);
+          frame =
+              overwrite (take (frameSize l) (encodeFrame l t .frame)) (w .frame);
+        }
+    held-written = stage-written held-codes
+
+    pub held-read : (u : ReaderLent) → readerHasRoom l u ≡ true → take (frameSize l) (u .frame) ≡ take (frameSize l) (encodeFrame l t .frame)
+        → readFrame l u ≡ handed l u (level ∷ boundary ∷ n ∷ []) (encodeFrame l t .factors) (encodeFrame l t .side) (encodeFrame l t .codes)
+    held-read = stage-read held-codes

@@ -85,6 +85,7 @@ resized l size = record {
   «frame_size» = size;
   minimum = l .minimum;
   maximum = l .maximum;
+  mode = l .mode;
 }
 
 -- the same record, to be written to another buffer

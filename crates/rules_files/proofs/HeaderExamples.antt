@@ -11,6 +11,7 @@ use Rattle.numbers.specs.Numbers.{highFirst, ofHigh}
 use Rattle.rules.specs.Layout.{legalLayout, bandsPerGroup, groupCount, ceilDiv}
 use Rattle.rules.specs.Refusals.{delivered, refused}
 use Rattle.rules.specs.declared.ChannelType.the-variants.{Discrete}
+use Rattle.rules.specs.declared.Mode.the-variants.{Rust}
 use Rattle.rules.specs.declared.Layout.{Layout}
 use Rattle.rules_files.specs.declared.header.LoopPoints.{LoopPoints}
 use Rattle.rules_files.specs.declared.header.LoopPoints.the-variants.{Absent, Given}
@@ -32,6 +33,7 @@ voices channels = record {
   «frame_size» = 170;
   minimum = 1;
   maximum = 15;
+  mode = Rust;
 }
 
 -- 48,000 Hz, 47 frames, padding 512, a loop from 0 to 896: its end is an edge
@@ -74,6 +76,7 @@ mixedBands = record {
   «frame_size» = 0xA1B2;
   minimum = 1;
   maximum = 15;
+  mode = Rust;
 }
 
 abbrev pub fullStream : (points : LoopPoints) → Stream

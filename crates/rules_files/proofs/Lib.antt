@@ -4,6 +4,8 @@ pub mod HeaderFitting
 pub mod HeaderTheorems
 pub mod HeaderExamples
 pub mod HeaderFields
+-- A9: the mode is in no frame and in no file header
+pub mod ModeUnseen
 -- A7: entries and lists, worked examples, and the theorems of the list's calls
 pub mod Entries
 pub mod Lists

@@ -19,6 +19,7 @@ use Rattle.rules.specs.declared.ChannelType.{ChannelType}
 use Rattle.rules.specs.declared.ChannelType.the-variants.{Discrete, StereoPrimary, StereoSecondary}
 use Rattle.rules_stereo.specs.declared.StereoAnswer.{StereoAnswer}
 use Rattle.rules_stereo.specs.declared.StereoAnswer.the-variants.{TooLoud}
+use Rattle.rules.specs.declared.Mode.the-variants.{Rust}
 use Rattle.rules.specs.declared.Layout.{Layout}
 use Rattle.rules_stereo.specs.declared.Energies.{Energies}
 
@@ -49,6 +50,7 @@ three = record {
   «frame_size» = 8;
   minimum = 1;
   maximum = 15;
+  mode = Rust;
 }
 
 abbrev lent : Signal
@@ -97,6 +99,7 @@ shaped first second third stereo = record {
   «frame_size» = 8;
   minimum = 1;
   maximum = 15;
+  mode = Rust;
 }
 
 pub not-mixed :
@@ -162,7 +165,7 @@ silent-row = refl
 
 -- bands 1 to 3, of base 1, stereo 2 and total 4: subframe 3 has 0.5, 1, 0, 2, 4 on the left and 0, -5, 0, 0, 1 on the right
 abbrev four : Layout
-four = record { channels = 2; kinds = []; base = 1; stereo = 2; total = 4; «frame_size» = 8; minimum = 1; maximum = 15 }
+four = record { channels = 2; kinds = []; base = 1; stereo = 2; total = 4; «frame_size» = 8; minimum = 1; maximum = 15; mode = Rust }
 
 abbrev fourLent : List Float
 fourLent =

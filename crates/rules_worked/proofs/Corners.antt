@@ -29,6 +29,7 @@ use Rattle.rules.specs.Writer.{writerLent, writerLeft, writerHasRoom}
 use Rattle.rules.specs.Reader.{readerLent, readerLeft, readerHasRoom}
 use Rattle.rules.specs.declared.ChannelType.{ChannelType}
 use Rattle.rules.specs.declared.ChannelType.the-variants.{Discrete, StereoPrimary, StereoSecondary}
+use Rattle.rules.specs.declared.Mode.the-variants.{Rust}
 use Rattle.rules.specs.declared.Layout.{Layout}
 use Rattle.rules.proofs.Rows.{paired}
 use Rattle.rules.specs.declared.StageAnswer.{StageAnswer}
@@ -92,7 +93,7 @@ position-row = refl
 
 -- the codes of both clips at resolutions 0 to 15
 abbrev codesOf : (pattern : ℕ) → List ℤ
-codesOf p = map (λ r. recordedCode r (ofBits binary32 p)) (0 ∷ 1 ∷ 2 ∷ 3 ∷ 4 ∷ 5 ∷ 6 ∷ 7 ∷ 8 ∷ 9 ∷ 10 ∷ 11 ∷ 12 ∷ 13 ∷ 14 ∷ 15 ∷ [])
+codesOf p = map (λ r. recordedCode Rust r (ofBits binary32 p)) (0 ∷ 1 ∷ 2 ∷ 3 ∷ 4 ∷ 5 ∷ 6 ∷ 7 ∷ 8 ∷ 9 ∷ 10 ∷ 11 ∷ 12 ∷ 13 ∷ 14 ∷ 15 ∷ [])
 
 pub clip-codes :
     (codesOf 0x3F7FFFFE ≡ map pos (0 ∷ 1 ∷ 3 ∷ 3 ∷ 5 ∷ 6 ∷ 6 ∷ 7 ∷ 15 ∷ 31 ∷ 63 ∷ 127 ∷ 255 ∷ 511 ∷ 1023 ∷ 2047 ∷ []))
@@ -102,7 +103,18 @@ clip-codes = (refl, refl)
 
 -- one channel of a kind; bands
 abbrev kinded : ChannelType → Layout
-kinded k = record { channels = 1; kinds = replicate 16 (record { kind = k }); base = 1; stereo = 0; total = 1; «frame_size» = 9; minimum = 1; maximum = 15 }
+kinded k = record {
+  channels = 1;
+  kinds = replicate 16 (record { kind = k });
+  base = 1;
+  stereo = 0;
+  total = 1;
+  «frame_size» = 9;
+  minimum = 1;
+  maximum =
+      15;
+  mode = Rust;
+}
 
 abbrev bands : (base stereo : ℕ) → Layout
 bands base stereo = record {
@@ -114,12 +126,24 @@ bands base stereo = record {
   «frame_size» = 9;
   minimum = 1;
   maximum = 15;
+  mode = Rust;
 }
 
 -- ---- refusal 2: no buffer may be one shorter. One channel, nine bytes a frame
 
 abbrev mono : Layout
-mono = record { channels = 1; kinds = replicate 16 (record { kind = Discrete }); base = 1; stereo = 0; total = 1; «frame_size» = 9; minimum = 1; maximum = 15 }
+mono = record {
+  channels = 1;
+  kinds = replicate 16 (record { kind = Discrete });
+  base = 1;
+  stereo = 0;
+  total = 1;
+  «frame_size» = 9;
+  minimum = 1;
+  maximum =
+      15;
+  mode = Rust;
+}
 
 abbrev lentOf : (spectra intensities scaled codes factors side frame : ℕ) → StageLent
 lentOf spectra intensities scaled codes factors side frame =
@@ -159,6 +183,7 @@ layout channels base stereo total size =
       «frame_size» = size;
       minimum = 1;
       maximum = 15;
+      mode = Rust;
     })
 
 pub layout-row :
@@ -271,7 +296,7 @@ unfolding codeBits smallBits codePlace spectrumBits spectrumValue magnitudeBits 
 written-row = (refl, refl, refl, refl, refl, refl, refl)
 
 pub counted-row :
-    map (λ r. valueBits r (ofBits binary32 0x3F7FFFFE)) (0 ∷ 1 ∷ 3 ∷ 6 ∷ 7 ∷ 8 ∷ 15 ∷ []) ++ map (λ r. valueBits r zeroF) (0 ∷ 1 ∷ 7 ∷ 8 ∷ 15 ∷ [])
+    map (λ r. valueBits Rust r (ofBits binary32 0x3F7FFFFE)) (0 ∷ 1 ∷ 3 ∷ 6 ∷ 7 ∷ 8 ∷ 15 ∷ []) ++ map (λ r. valueBits Rust r zeroF) (0 ∷ 1 ∷ 7 ∷ 8 ∷ 15 ∷ [])
     ≡ 0 ∷ 2 ∷ 3 ∷ 4 ∷ 4 ∷ 5 ∷ 12 ∷ 0 ∷ 1 ∷ 3 ∷ 4 ∷ 11 ∷ []
 unfolding valueBits rawCode stepOf stepShift stepTable codePlace spectrumBits magnitudeBits maxBitTable deadZoneTable heldZ ofBits add mul toSigned le absF
 counted-row = refl
@@ -290,12 +315,12 @@ pub eight-scaled : map (toBits binary32) (scaledBand lastLoud (replicate 128 57)
 unfolding scaledBand scaledValue scaleOf scalingTable build heldF ofBits toBits mul div lt neg
 eight-scaled = refl
 
-pub eight-bits : bandBits (replicate 1024 zeroF) 3 8 ∷ bandBits (set (replicate 1024 zeroF) 31 oneF) 3 8 ∷ bandBits (set (replicate 1024 zeroF) 32 oneF) 3 8
-    ∷ [] ≡ 32 ∷ 33 ∷ 32 ∷ []
+pub eight-bits : bandBits Rust (replicate 1024 zeroF) 3 8 ∷ bandBits Rust (set (replicate 1024 zeroF) 31 oneF) 3 8 ∷ bandBits Rust
+    (set (replicate 1024 zeroF) 32 oneF) 3 8 ∷ [] ≡ 32 ∷ 33 ∷ 32 ∷ []
 unfolding bandBits sumTo valueBits magnitudeBits maxBitTable deadZoneTable ofBits le absF
 eight-bits = refl
 
-pub eight-codes : map (λ s. codeAt (replicate 128 15) (set (replicate 1024 zeroF) 31 (ofBits binary32 0x3F7FFFFE)) s 3) (0 ∷ 6 ∷ 7 ∷ [])
+pub eight-codes : map (λ s. codeAt Rust (replicate 128 15) (set (replicate 1024 zeroF) 31 (ofBits binary32 0x3F7FFFFE)) s 3) (0 ∷ 6 ∷ 7 ∷ [])
     ≡ pos 0 ∷ pos 0 ∷ pos 2047 ∷ []
 unfolding codeAt recordedCode codeOf rawCode stepOf stepShift stepTable codeLimit magnitudeBits maxBitTable heldZ ofBits add mul toSigned
 eight-codes = refl
@@ -304,7 +329,7 @@ eight-codes = refl
 
 -- bands a group and groups, of so many HFR bands
 abbrev grouped : (bands : ℕ) → Layout
-grouped bands = record { channels = 1; kinds = []; base = 0; stereo = 0; total = bands; «frame_size» = 9; minimum = 1; maximum = 15 }
+grouped bands = record { channels = 1; kinds = []; base = 0; stereo = 0; total = bands; «frame_size» = 9; minimum = 1; maximum = 15; mode = Rust }
 
 abbrev counts : List ℕ
 counts = 0 ∷ 1 ∷ 8 ∷ 9 ∷ 16 ∷ 17 ∷ 128 ∷ []
@@ -324,7 +349,7 @@ value-row = refl
 
 -- three coded bands of scaled values 1.0, 2.0 and 4.0, five HFR bands: the source goes down from band 2 and ends with band 0
 abbrev three : Layout
-three = record { channels = 1; kinds = []; base = 2; stereo = 1; total = 8; «frame_size» = 9; minimum = 1; maximum = 15 }
+three = record { channels = 1; kinds = []; base = 2; stereo = 1; total = 8; «frame_size» = 9; minimum = 1; maximum = 15; mode = Rust }
 
 abbrev steps : List Float
 steps = replicate 8 oneF ++ (replicate 8 (ofBits binary32 0x40000000) ++ replicate 1008 (ofBits binary32 0x40800000))
@@ -344,6 +369,7 @@ sided = record {
   «frame_size» = 9;
   minimum = 1;
   maximum = 15;
+  mode = Rust;
 }
 
 pub side-rows :
@@ -355,7 +381,7 @@ side-rows = refl
 
 -- N = 119, total 128: g = 2, and the fifth group has band 127 alone: it stops at band 128
 pub stops-at-128 : (xs : List Float)
-    → spectrumAverage (record { channels = 1; kinds = []; base = 119; stereo = 0; total = 128; «frame_size» = 9; minimum = 1; maximum = 15 }) xs 4
+    → spectrumAverage (record { channels = 1; kinds = []; base = 119; stereo = 0; total = 128; «frame_size» = 9; minimum = 1; maximum = 15; mode = Rust }) xs 4
     ≡ withEight xs 127 128 noAverage
 unfolding spectrumAverage groupAverage bandsTaken bandsPerGroup ceilDiv
 stops-at-128 xs = refl

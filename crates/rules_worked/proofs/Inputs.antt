@@ -33,6 +33,7 @@ use Rattle.rules_demands.proofs.FirstSubframe.{firstOnly}
 use Rattle.rules_worked.proofs.Runs.{halving, narrowing, removalStep, removing, allFinite, Example, Right}
 use Rattle.rules.specs.declared.ChannelType.{ChannelType}
 use Rattle.rules.specs.declared.ChannelType.the-variants.{Discrete, StereoSecondary}
+use Rattle.rules.specs.declared.Mode.the-variants.{Rust}
 use Rattle.rules.specs.declared.Layout.{Layout}
 
 -- channels of one kind, with so many bands and HFR bands; resolutions 1 to 15
@@ -46,6 +47,7 @@ uniform kind channels bands hfr size = record {
   «frame_size» = size;
   minimum = 1;
   maximum = 15;
+  mode = Rust;
 }
 
 -- zero spectra

@@ -34,7 +34,7 @@ even-turn f g n start fall rise x y u v e h p q = omega (arith, sum-more f n, su
 module _ (l : Layout) (sc : List Float) (fs : List ℕ) (coded level : ℕ) where
   -- band b's bits at a noise
   abbrev pub bitsAt : (noise b : ℕ) → ℕ
-  bitsAt noise b = bandBits sc b (resolution l noise (getD fs b 0))
+  bitsAt noise b = bandBits (l .mode) sc b (resolution l noise (getD fs b 0))
 
   -- from the boundary b to the next, band b goes from the level's noise to the finer one
   pub passes : (b : ℕ) → b < coded → channelBits l sc fs coded level (b + 1) + bitsAt level b ≡ channelBits l sc fs coded level b + bitsAt (level - 1) b
@@ -47,10 +47,10 @@ module _ (l : Layout) (sc : List Float) (fs : List ℕ) (coded level : ℕ) wher
       ∙ ap (λ k. sumTo here coded + k) (rw (lt-ltb b (b + 1) (omega arith)))
     where
       next : ℕ → ℕ
-      next i = bandBits sc i (resolutionAt l level (b + 1) fs i)
+      next i = bandBits (l .mode) sc i (resolutionAt l level (b + 1) fs i)
 
       here : ℕ → ℕ
-      here i = bandBits sc i (resolutionAt l level b fs i)
+      here i = bandBits (l .mode) sc i (resolutionAt l level b fs i)
 
   pub all-passed : (x y : ℕ) → coded ≤ x → coded ≤ y → channelBits l sc fs coded level x ≡ channelBits l sc fs coded level y
   unfolding channelBits resolutionAt noiseAt

@@ -35,7 +35,7 @@ fn channel_change(
     from: usize,
     to: usize,
 ) -> Change
-    requires { ⌜ IsStretched layout (now curve) × ChannelCounted (now scaled) coded (now counts) × AtMost 63 (now factors) ⌝ }
+    requires { ⌜ IsStretched layout (now curve) × ChannelCounted (layout .mode) (now scaled) coded (now counts) × AtMost 63 (now factors) ⌝ }
     requires { ⌜ (length (now counts) ≡ 1024) × (length (now factors) ≡ 128) × (coded ≤ 128) ⌝ }
     requires { ⌜ (0 < level) × (level ≤ 254) × (from ≤ to) × (to ≤ 128) ⌝ }
     ensures { λ r. ⌜ (channelBits layout (now (scaled .entry)) (now (factors .entry)) coded level to + r .fall

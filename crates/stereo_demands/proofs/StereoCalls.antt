@@ -10,10 +10,11 @@ use Rattle.rules.specs.Record.{recOf, CodesInRange}
 use Rattle.rules.specs.Refusals.{delivered, refused}
 use Rattle.rules.specs.Stage.{StageLent, encodeFrame}
 use Rattle.rules.specs.Reader.{ReaderLent, readerHasRoom, readFrame}
+use Rattle.rules.specs.declared.Mode.the-variants.{Held}
 use Rattle.rules.specs.declared.Layout.{Layout}
 use Rattle.rules.proofs.Answers.{never}
 use Rattle.rules_demands.proofs.Calls.{handed, FrameOf}
-use Rattle.rules_demands.proofs.StageCalls.{stage-packed, stage-read}
+use Rattle.rules_demands.proofs.StageCalls.{stage-packed, stage-read, held-codes}
 use Rattle.rules_stereo.specs.Stereo.{StereoLeft, withSignal, lentSignal, encodeStereoFrame}
 use Rattle.stereo_demands.proofs.StereoIsStage.{mixedLent, StereoGood, stereo-case, stereo-is-stage}
 
@@ -44,3 +45,14 @@ module _ (l : Layout) (t : StageLent) (level boundary pairs n : ℕ) (e : encode
 
   pub stereo-read : (u : ReaderLent) → ReadBack u (encodeStereoFrame l t)
   stereo-read u = subst (ReadBack u) (sym left) (λ range room q. stage-read l (mixedLent l t) level boundary pairs n staged range u room q)
+
+  -- In held mode it does so with no other premise.
+  module _ (mode : l .mode ≡ Held) where
+    pub stereo-held-codes : CodesInRange l level boundary (encodeStereoFrame l t .factors) (encodeStereoFrame l t .codes)
+    stereo-held-codes =
+        subst (λ (x : StereoLeft). CodesInRange l level boundary (x .factors) (x .codes)) (sym left)
+        (held-codes l (mixedLent l t) level boundary pairs n staged mode)
+
+    pub stereo-held-read : (u : ReaderLent) → readerHasRoom l u ≡ true → take (frameSize l) (u .frame) ≡ take (frameSize l) (encodeStereoFrame l t .frame)
+        → readFrame l u ≡ handed l u (level ∷ boundary ∷ n ∷ []) (encodeStereoFrame l t .factors) (encodeStereoFrame l t .side) (encodeStereoFrame l t .codes)
+    stereo-held-read u = stereo-read u stereo-held-codes

@@ -38,6 +38,7 @@ use Rattle.rules.specs.Refusals.{delivered}
 use Rattle.rules.specs.Stage.{StageLent, stageLent, stageRoom, stageHasRoom, badIntensity, badSpectrum, Analysis, analysis, stageRecord, afterLevel}
 use Rattle.rules.specs.Stage.{stageOverwrite, encodeFrame}
 use Rattle.rules.specs.declared.ChannelType.the-variants.{Discrete, StereoPrimary, StereoSecondary}
+use Rattle.rules.specs.declared.Mode.the-variants.{Rust}
 use Rattle.rules.specs.declared.Layout.{Layout}
 use Rattle.rules_demands.proofs.Exactly.{first-passed}
 use Rattle.rules_stereo.specs.Mixed.{ratioBounds, signal, loudness, energies, combinedOf, storedOf, boundOf, intensityOf, ratioOf, bandMixed, bandsMixed}
@@ -63,6 +64,7 @@ pair = record {
   «frame_size» = 26;
   minimum = 1;
   maximum = 15;
+  mode = Rust;
 }
 
 -- the first subframe has 1, 1, 2, 5 on the left and 0.5, 3, -1, 0.25 on the right

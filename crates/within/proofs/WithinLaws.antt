@@ -18,6 +18,7 @@ use Rattle.rules.specs.Tables.{stepTable, maxBitTable}
 use Rattle.rules.specs.Scaling.{clip}
 use Rattle.rules.specs.Signed.{heldZ}
 use Rattle.rules.specs.Code.{stepOf, stepShift, rawCode, codeOf, codeLimit, magnitudeBits}
+use Rattle.rules.specs.declared.Mode.the-variants.{Rust}
 use Rattle.quantizer.proofs.Entries.{shift-nat}
 use Rattle.floats.specs.Single.{Short}
 use Rattle.within.specs.Within.{Within}
@@ -215,7 +216,8 @@ either-range : (b : Bool) (L : ℕ) (z : ℤ) → heldZ (negℤ (pos (cond b 8 L
 either-range true L z e = e
 either-range false L z e = e
 
-pub never-held : (r : ℕ) → r ≤ 15 → (x : Float) → Within x → codeOf r x ≡ rawCode r x
+-- in the Rust's mode
+pub never-held : (r : ℕ) → r ≤ 15 → (x : Float) → Within x → codeOf Rust r x ≡ rawCode r x
 unfolding codeOf rawCode
 never-held r h x w =
     let E = ends-at r h in

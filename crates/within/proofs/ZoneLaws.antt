@@ -2,6 +2,7 @@
 -- neighbours of each such value are computed, all rows together. Assumes nothing.
 use mathlib.Core.Path.{_≡_, refl, sym, ap, _∙_, subst}
 use Prim.Native.Nat.{ℕ, zero, suc, _+_, _-_, _*_, _≤_, _<_}
+use native.Mathlib.Nat.{zero-mul, one-mul}
 use native.Mathlib.Omega.{arith}
 use mathlib.Core.Bool.{Bool, true, false, not, cond, _&&_}
 use borrow.Author.Tests.{leb-true, ltb-true, eqb-true, eqb-false}
@@ -19,10 +20,12 @@ use Rattle.rules.specs.Tables.{stepTable}
 use Rattle.rules.specs.Scaling.{clip}
 use Rattle.rules.specs.Code.{stepOf}
 use Rattle.rules.specs.Estimate.{valueBits}
-use Rattle.quantizer.specs.Marks.{wholeF, nearAt, farAt, pastAt, highAt, dropAt, marksAt}
-use Rattle.quantizer.proofs.Reaching.{value-counted}
+use Rattle.rules.specs.declared.Mode.{Mode}
+use Rattle.rules.proofs.Modes.{silent-bits}
+use Rattle.quantizer.specs.Marks.{wholeF, nearAt, farAt, pastAt, highAt, lowAt, dropAt, marksAt}
+use Rattle.quantizer.proofs.Reaching.{value-counted, low-high}
 use Rattle.within.specs.Within.{Within, withinB}
-use Rattle.within.specs.Zones.{lowPattern, highPattern, zoneLow, zoneHigh, zoneDrop, reachedF}
+use Rattle.within.specs.Zones.{lowPattern, highPattern, zoneLow, zoneHigh, clipPast, zoneDrop, reachedF}
 use Rattle.within.proofs.WithinLaws.{Y, argument-short, argument-positive, argument-grows}
 use Rattle.within.proofs.EdgeLaws.{Next, not-upper, not-upper-below}
 
@@ -146,18 +149,18 @@ lowTest r = nextB (neg (zoneLow r)) (neg (lowBefore r)) && edgeB r (wholeF (near
 abbrev highTest : ℕ → Bool
 highTest r = nextB (highBefore r) (zoneHigh r) && edgeB r (wholeF (farAt r)) (zoneHigh r) (highBefore r)
 
--- past: reached at the clip alone, or nowhere, or to no purpose
+-- past: reached at the clip alone, or nowhere
 abbrev clipBefore : Float
 clipBefore = ofBits binary32 0x3F7FFFFD
 
 abbrev pastTest : ℕ → Bool
 pastTest r =
-    cond (eqb (zoneDrop r) 0) (cond (eqb (dropAt r) 0) true (positive (wholeF (pastAt r)) && not (le (wholeF (pastAt r)) (Y r clip))))
-    (eqb (dropAt r) (zoneDrop r) && (nextB clipBefore clip && edgeB r (wholeF (pastAt r)) clip clipBefore))
+    cond (eqb (clipPast r) 0) (positive (wholeF (pastAt r)) && not (le (wholeF (pastAt r)) (Y r clip)))
+    (eqb (clipPast r) 1 && (nextB clipBefore clip && edgeB r (wholeF (pastAt r)) clip clipBefore))
 
 all-edges : every (λ i. lowTest (suc i) && (highTest (suc i) && pastTest (suc i))) 7 ≡ true
-unfolding every nextB withinB edgeB zoneLow zoneHigh zoneDrop lowPattern highPattern nearAt farAt pastAt dropAt stepOf stepTable ofBits toBits fits neg add mul
-    le ofInt
+unfolding every nextB withinB edgeB zoneLow zoneHigh clipPast lowPattern highPattern nearAt farAt pastAt stepOf stepTable ofBits toBits fits neg add mul le
+    ofInt
 all-edges = refl
 
 clip-within : Within clip
@@ -215,54 +218,54 @@ module _ (i : ℕ) (h : i < 7) where
         (not-upper clipBefore clip (are-next clipBefore clip (and-fst (nextB clipBefore clip) _ e))))
         x f w
 
-    nothing : (b : Bool) (n : ℕ) → n ≡ 0 → cond b n 0 ≡ 0
-    nothing true n e = e
-    nothing false n e = refl
+    -- what past drops, in a mode
+    module _ (m : Mode) where
+      drop-from : cond (le (wholeF (pastAt r)) (Y r x)) (dropAt m r) 0 ≡ cond (le clip x) (zoneDrop m r) 0
+      drop-from = go (eqb (clipPast r) 0) refl past-ok
+        where
+          nothing : (b : Bool) (n : ℕ) → n ≡ 0 → cond b n 0 ≡ 0
+          nothing true n e = e
+          nothing false n e = refl
 
-    drop-from : cond (le (wholeF (pastAt r)) (Y r x)) (dropAt r) 0 ≡ cond (le clip x) (zoneDrop r) 0
-    drop-from = go (eqb (zoneDrop r) 0) (eqb (dropAt r) 0) refl refl past-ok
-      where
-        go : (p q : Bool) → eqb (zoneDrop r) 0 ≡ p → eqb (dropAt r) 0 ≡ q
-            → cond p (cond q true (positive (wholeF (pastAt r)) && not (le (wholeF (pastAt r)) (Y r clip))))
-            (eqb (dropAt r) (zoneDrop r) && (nextB clipBefore clip && edgeB r (wholeF (pastAt r)) clip clipBefore)) ≡ true
-            → cond (le (wholeF (pastAt r)) (Y r x)) (dropAt r) 0 ≡ cond (le clip x) (zoneDrop r) 0
-        go true true e g t = nothing (le (wholeF (pastAt r)) (Y r x)) (dropAt r) (eqb-true _ _ g) ∙ sym (nothing (le clip x) (zoneDrop r) (eqb-true _ _ e))
-        go true false e g t = ap (λ b. cond b (dropAt r) 0) (never-past t) ∙ sym (nothing (le clip x) (zoneDrop r) (eqb-true _ _ e))
-        go false q e g t =
-            ap (λ n. cond (le (wholeF (pastAt r)) (Y r x)) n 0) (eqb-true (dropAt r) (zoneDrop r) (and-fst (eqb (dropAt r) (zoneDrop r)) _ t))
-            ∙ ap (λ b. cond b (zoneDrop r) 0) (past-from (and-snd (eqb (dropAt r) (zoneDrop r)) _ t))
+          none : clipPast r ≡ 0 → zoneDrop m r ≡ 0
+          none e = unfold zoneDrop in rw e (zero-mul (dropAt m r))
 
-    row-counted : highAt r + reachedF (zoneHigh r) x ≡ valueBits r x + (reachedF (zoneLow r) x + cond (le clip x) (zoneDrop r) 0)
-    unfolding marksAt ofInt
-    row-counted =
-        let one : le oneF (Y r x) ≡ true = is-true _ (argument-short r few x w .least) in
-        let e = value-counted r x (marksAt r) (omega arith) refl in
-        sym (ap (λ b. cond b (highAt r) 0 + reachedF (zoneHigh r) x) one)
-        ∙ sym (ap (λ b. cond (le oneF (Y r x)) (highAt r) 0 + cond b 1 0) far-from)
-        ∙ e
-        ∙ ap (λ b. valueBits r x + (cond b 1 0 + cond (le (wholeF (pastAt r)) (Y r x)) (dropAt r) 0)) near-from
-        ∙ ap (λ n. valueBits r x + (reachedF (zoneLow r) x + n)) drop-from
+          all : clipPast r ≡ 1 → dropAt m r ≡ zoneDrop m r
+          all e = unfold zoneDrop in rw e (sym (one-mul (dropAt m r)))
 
--- ---- resolution 0 takes no bit
-pub zone-silent : (x : Float) → valueBits 0 x ≡ 0
-unfolding marksAt highAt dropAt nearAt farAt pastAt ofInt
-zone-silent x = go (le oneF (Y 0 x)) (valueBits 0 x) (value-counted 0 x (marksAt 0) (omega arith) refl)
-  where
-    go : (b : Bool) (v : ℕ) → cond b 0 0 + cond b 1 0 ≡ v + (cond b 1 0 + cond b 0 0) → v ≡ 0
-    go true v e = omega arith
-    go false v e = omega arith
+          go : (p : Bool) → eqb (clipPast r) 0 ≡ p
+              → cond p (positive (wholeF (pastAt r)) && not (le (wholeF (pastAt r)) (Y r clip)))
+              (eqb (clipPast r) 1 && (nextB clipBefore clip && edgeB r (wholeF (pastAt r)) clip clipBefore)) ≡ true
+              → cond (le (wholeF (pastAt r)) (Y r x)) (dropAt m r) 0 ≡ cond (le clip x) (zoneDrop m r) 0
+          go true e t = ap (λ b. cond b (dropAt m r) 0) (never-past t) ∙ sym (nothing (le clip x) (zoneDrop m r) (none (eqb-true _ _ e)))
+          go false e t =
+              ap (λ n. cond (le (wholeF (pastAt r)) (Y r x)) n 0) (all (eqb-true (clipPast r) 1 (and-fst (eqb (clipPast r) 1) _ t)))
+              ∙ ap (λ b. cond b (zoneDrop m r) 0) (past-from (and-snd (eqb (clipPast r) 1) _ t))
+
+      row-counted : highAt r + reachedF (zoneHigh r) x ≡ valueBits m r x + (reachedF (zoneLow r) x + cond (le clip x) (zoneDrop m r) 0)
+      unfolding marksAt ofInt
+      row-counted =
+          let one : le oneF (Y r x) ≡ true = is-true _ (argument-short r few x w .least) in
+          let e = value-counted m r x (marksAt m r) (omega arith) refl in
+          sym (ap (λ n. n + reachedF (zoneHigh r) x) (low-high m r (omega arith)))
+          ∙ sym (ap (λ b. lowAt m r + cond b (highAt r - lowAt m r) 0 + reachedF (zoneHigh r) x) one)
+          ∙ sym (ap (λ b. lowAt m r + cond (le oneF (Y r x)) (highAt r - lowAt m r) 0 + cond b 1 0) far-from)
+          ∙ e
+          ∙ ap (λ b. valueBits m r x + (cond b 1 0 + cond (le (wholeF (pastAt r)) (Y r x)) (dropAt m r) 0)) near-from
+          ∙ ap (λ n. valueBits m r x + (reachedF (zoneLow r) x + n)) drop-from
 
 -- ---- of a value within the clip: its most, one more from high on, one less from low on, and at the clip what is dropped there
-pub zone-counted : (r : ℕ) → r < 8 → (x : Float) → T (fits binary32 x) → Within x
-    → highAt r + reachedF (zoneHigh r) x ≡ valueBits r x + (reachedF (zoneLow r) x + cond (le clip x) (zoneDrop r) 0)
-zone-counted zero h x f w = silent x
+pub zone-counted : (m : Mode) (r : ℕ) → r < 8 → (x : Float) → T (fits binary32 x) → Within x
+    → highAt r + reachedF (zoneHigh r) x ≡ valueBits m r x + (reachedF (zoneLow r) x + cond (le clip x) (zoneDrop m r) 0)
+zone-counted m zero h x f w = silent x
   where
-    silent : (x : Float) → highAt 0 + reachedF (zoneHigh 0) x ≡ valueBits 0 x + (reachedF (zoneLow 0) x + cond (le clip x) (zoneDrop 0) 0)
-    silent x = unfold highAt zoneHigh zoneLow zoneDrop highPattern lowPattern in go (le (zoneHigh 0) x) (le clip x) (valueBits 0 x) (zone-silent x)
+    silent : (x : Float) → highAt 0 + reachedF (zoneHigh 0) x ≡ valueBits m 0 x + (reachedF (zoneLow 0) x + cond (le clip x) (zoneDrop m 0) 0)
+    silent x = unfold highAt zoneHigh zoneLow zoneDrop clipPast highPattern lowPattern in
+        go (le (zoneHigh 0) x) (le clip x) (valueBits m 0 x) (0 * dropAt m 0) (silent-bits m x) (zero-mul (dropAt m 0))
       where
-        go : (b c : Bool) (v : ℕ) → v ≡ 0 → 0 + cond b 1 0 ≡ v + (cond b 1 0 + cond c 0 0)
-        go true true v e = omega arith
-        go true false v e = omega arith
-        go false true v e = omega arith
-        go false false v e = omega arith
-zone-counted (suc i) h x f w = row-counted i (omega arith) x f w
+        go : (b c : Bool) (v d : ℕ) → v ≡ 0 → d ≡ 0 → 0 + cond b 1 0 ≡ v + (cond b 1 0 + cond c d 0)
+        go true true v d e q = omega arith
+        go true false v d e q = omega arith
+        go false true v d e q = omega arith
+        go false false v d e q = omega arith
+zone-counted m (suc i) h x f w = row-counted i (omega arith) x f w m

@@ -1,9 +1,11 @@
 -- Document 01, **Estimate** below resolution 8: where the count of a scaled value changes, as scaled values. Definitions only.
 use mathlib.Core.List.{[], _∷_}
 use mathlib.Core.Bool.{cond}
-use Prim.Native.Nat.{ℕ}
+use Prim.Native.Nat.{ℕ, _*_}
 use lib.Ieee.{Float, binary32, ofBits, le}
 use lib.ListN.{getD}
+use Rattle.rules.specs.declared.Mode.{Mode}
+use Rattle.quantizer.specs.Marks.{dropAt}
 
 -- the least at which scaled x step + (step + 1) reaches near, and the least at which it reaches far: from the one to the other a value takes one bit less.
 -- At resolution 0 both are one value, and none takes a bit.
@@ -19,9 +21,12 @@ zoneLow resolution = ofBits binary32 (lowPattern resolution)
 unfoldable pub zoneHigh : (resolution : ℕ) → Float
 zoneHigh resolution = ofBits binary32 (highPattern resolution)
 
--- what is taken off at the clip itself, where the code is one past its row
-unfoldable pub zoneDrop : (resolution : ℕ) → ℕ
-zoneDrop resolution = getD (0 ∷ 0 ∷ 3 ∷ 0 ∷ 4 ∷ 4 ∷ 0 ∷ 0 ∷ []) resolution 0
+-- whether the clip itself reaches past, so that its code is one past the range: at resolutions 2, 4 and 5; and what is taken off there
+unfoldable pub clipPast : (resolution : ℕ) → ℕ
+clipPast resolution = getD (0 ∷ 0 ∷ 1 ∷ 0 ∷ 1 ∷ 1 ∷ 0 ∷ 0 ∷ []) resolution 0
+
+unfoldable pub zoneDrop : (mode : Mode) (resolution : ℕ) → ℕ
+zoneDrop mode resolution = clipPast resolution * dropAt mode resolution
 
 -- 1 where a value reaches the mark
 abbrev pub reachedF : (mark x : Float) → ℕ

@@ -6,7 +6,8 @@
 //! ```
 //! let wav = std::fs::read("../../sample/line.wav")?;
 //! let take = hca_frame::read_wav(&wav)?;
-//! let settings = hca_convert::Settings { bitrate: 48_000, loop_points: None, resolutions: (1, 15) };
+//! let mode = hca_frame::Mode::Rust;
+//! let settings = hca_convert::Settings { bitrate: 48_000, loop_points: None, resolutions: (1, 15), mode };
 //! let made = hca_convert::convert(&take, &settings, |_, _| ())?;
 //! assert_eq!((made.entries.len(), made.file.len()), (47, 96 + 47 * 278));
 //! # Ok::<(), Box<dyn std::error::Error>>(())
@@ -15,7 +16,7 @@
 
 mod published;
 
-use hca_frame::{write_header, Delivered, Encoder, Kind, Layout, LayoutError, Refusal, Stream, Take};
+use hca_frame::{write_header, Delivered, Encoder, Kind, Layout, LayoutError, Mode, Refusal, Stream, Take};
 use published::Front;
 use std::fmt;
 
@@ -28,6 +29,8 @@ pub struct Settings {
     pub loop_points: Option<(u64, u64)>,
     /// The lowest and the highest resolution of a band that is not silent; the published encoder's are 1 and 15.
     pub resolutions: (u32, u32),
+    /// What becomes of a code past its range; the published encoder's is [`Mode::Rust`].
+    pub mode: Mode,
 }
 
 /// An HCA file and its numbers.
@@ -92,7 +95,7 @@ impl std::error::Error for Fault {}
 /// Samples outside -1 to 1 are taken as the nearer of the two, as the published encoder takes them.
 pub fn convert(take: &Take, settings: &Settings, mut told: impl FnMut(usize, usize)) -> Result<Converted, Fault> {
     let mut front = Front::new(take.rate, take.channels, settings.bitrate).map_err(|_| Fault::Unfit)?;
-    let layout = front.layout(settings.resolutions).map_err(|error| match error {
+    let layout = front.layout(settings.resolutions, settings.mode).map_err(|error| match error {
         LayoutError::Resolutions { .. } => Fault::Resolutions(error),
         _ => Fault::Unfit,
     })?;

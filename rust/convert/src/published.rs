@@ -2,7 +2,7 @@
 //! padding, the MDCT. Not proved; whole files are compared with the published encoder's by compare/.
 #![allow(dead_code, clippy::all)]
 
-use hca_frame::{Kind, Layout, LayoutError};
+use hca_frame::{Kind, Layout, LayoutError, Mode};
 use std::f32::consts::PI;
 use std::io;
 use std::sync::OnceLock;
@@ -53,8 +53,8 @@ impl Front {
         HcaEncoder::new(config).map(Front).map_err(|_| Unfit)
     }
 
-    /// Its layout, with these resolutions in the place of its own, which are 1 and 15.
-    pub fn layout(&self, (minimum, maximum): (u32, u32)) -> Result<Layout, LayoutError> {
+    /// Its layout, with these resolutions in the place of its own, which are 1 and 15, and with this mode.
+    pub fn layout(&self, (minimum, maximum): (u32, u32), mode: Mode) -> Result<Layout, LayoutError> {
         let channels = &self.0.channel[..self.0.config.channels as usize];
         let kind = |channel: &ChannelEncodeState| match channel.channel_type {
             ChannelType::Discrete => Kind::Discrete,
@@ -68,6 +68,7 @@ impl Front {
             .bands(bands[0], bands[1], bands[2])
             .frame_size(self.0.frame_size)
             .resolutions(minimum, maximum)
+            .mode(mode)
             .build()
     }
 
@@ -129,7 +130,7 @@ mod tests {
         for row in rows.take_while(|line| line.starts_with('|')) {
             let cells: Vec<String> = row.trim_matches('|').split('|').map(|cell| cell.trim().replace(',', "")).collect();
             let [rate, channels, bitrate] = [0, 1, 2].map(|i| cells[i].parse().unwrap());
-            let layout = Front::new(rate, channels, bitrate).ok().unwrap().layout().unwrap();
+            let layout = Front::new(rate, channels, bitrate).ok().unwrap().layout((1, 15), Mode::Rust).unwrap();
             let bands = [layout.base_bands(), layout.stereo_bands(), layout.total_bands()];
             let letters = layout.kinds().iter().map(|kind| match kind {
                 Kind::Discrete => 'D',
@@ -176,7 +177,8 @@ mod tests {
 
     #[test]
     fn layouts_of_the_published_encoder() {
-        let layout = |rate, channels, bitrate| Front::new(rate, channels, bitrate).ok().unwrap().layout((1, 15)).unwrap();
+        let layout =
+            |rate, channels, bitrate| Front::new(rate, channels, bitrate).ok().unwrap().layout((1, 15), Mode::Rust).unwrap();
         let mono = layout(22_050, 1, 48_000);
         assert_eq!((mono.frame_size(), mono.kinds()), (278, &[Kind::Discrete][..]));
         let pair = layout(22_050, 2, 72_000);

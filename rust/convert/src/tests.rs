@@ -12,7 +12,7 @@ fn take(channels: u16, rate: u32, samples: usize) -> Take {
 }
 
 fn made(take: &Take, bitrate: u32) -> Result<Converted, Fault> {
-    convert(take, &Settings { bitrate, loop_points: None, resolutions: (1, 15) }, |_, _| ())
+    convert(take, &Settings { bitrate, loop_points: None, resolutions: (1, 15), mode: Mode::Rust }, |_, _| ())
 }
 
 #[test]
@@ -39,7 +39,11 @@ fn what_no_hca_file_has() {
 fn loops_lie_within_the_take() {
     let take = take(2, 48_000, 4000);
     let with = |start, end| {
-        convert(&take, &Settings { bitrate: 96_000, loop_points: Some((start, end)), resolutions: (1, 15) }, |_, _| ())
+        convert(
+            &take,
+            &Settings { bitrate: 96_000, loop_points: Some((start, end)), resolutions: (1, 15), mode: Mode::Rust },
+            |_, _| (),
+        )
     };
     assert_eq!(with(5, 5).unwrap_err(), Fault::Loop(2000));
     assert_eq!(with(0, 2001).unwrap_err(), Fault::Loop(2000));
@@ -59,9 +63,11 @@ fn frames_that_are_too_small() {
 #[test]
 fn every_frame_is_told() {
     let mut heard = Vec::new();
-    convert(&take(1, 48_000, 1921), &Settings { bitrate: 64_000, loop_points: None, resolutions: (1, 15) }, |done, all| {
-        heard.push((done, all))
-    })
+    convert(
+        &take(1, 48_000, 1921),
+        &Settings { bitrate: 64_000, loop_points: None, resolutions: (1, 15), mode: Mode::Rust },
+        |done, all| heard.push((done, all)),
+    )
     .unwrap();
     assert_eq!(heard, [(1, 3), (2, 3), (3, 3)]);
 }
@@ -69,7 +75,8 @@ fn every_frame_is_told() {
 #[test]
 fn resolutions_of_the_settings() {
     let take = take(1, 48_000, 4000);
-    let with = |resolutions| convert(&take, &Settings { bitrate: 64_000, loop_points: None, resolutions }, |_, _| ());
+    let with =
+        |resolutions| convert(&take, &Settings { bitrate: 64_000, loop_points: None, resolutions, mode: Mode::Rust }, |_, _| ());
     let limited = with((4, 6)).unwrap();
     assert_eq!((limited.layout.minimum_resolution(), limited.layout.maximum_resolution()), (4, 6));
     assert_eq!(limited.file[30..32], [4, 6]);
@@ -77,4 +84,19 @@ fn resolutions_of_the_settings() {
     let fault = with((9, 8)).unwrap_err();
     assert_eq!(fault, Fault::Resolutions(LayoutError::Resolutions { minimum: 9, maximum: 8 }));
     assert_eq!((fault.refusal().unwrap().number, fault.to_string().starts_with("resolutions from 9 to 8;")), (1, true));
+}
+
+#[test]
+fn mode_of_the_settings() {
+    let take = take(1, 48_000, 4000);
+    let with =
+        |mode| convert(&take, &Settings { bitrate: 64_000, loop_points: None, resolutions: (1, 15), mode }, |_, _| ()).unwrap();
+    let (rust, held) = (with(Mode::Rust), with(Mode::Held));
+    assert_eq!((rust.layout.mode(), held.layout.mode()), (Mode::Rust, Mode::Held));
+    // the header does not say which
+    assert_eq!(rust.file[..96], held.file[..96]);
+    for frame in held.file[96..].chunks_exact(held.layout.frame_size()) {
+        let (record, _) = hca_frame::read_frame(&rust.layout, frame).unwrap();
+        assert_eq!(hca_frame::write_record(&held.layout, &record).unwrap().0, frame);
+    }
 }

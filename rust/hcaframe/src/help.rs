@@ -18,6 +18,9 @@ LAYOUT is --kinds PS --base 40 --stereo 60 --total 117 --frame-size 512:
   --minimum, --maximum   the lowest and the highest resolution of a band that is not silent, within 1 to 15; 1 and 15 where
                 they are not given. They say how coarsely and how finely a band may be coded; frames are read with the two
                 that they were made with, and the header of a file carries them
+  --mode        rust: frames byte for byte as the published encoder makes them, the default; held: below resolution 8 no code
+                leaves its range, so that every frame is read back as it was meant. No frame and no header says which; frames
+                of either are read and written with either
 or --layout FILE, a text file with these words; a line that begins with # is a comment.
 ";
 
@@ -38,10 +41,10 @@ const CONVERT: &str = "\
 Makes the HCA file of a WAV file. The word --in may be left out. The published encoder chooses the layout for the bit rate.
 Proved: reading the WAV file, mixing pairs, each frame, the header and the list are calls of the proved library. Not proved:
 the layout's choice, the number of frames and the MDCT, which are taken from the published encoder's source; runs show that with
-resolutions 1 to 15, which are its own, the file is that of its encode_wav_to_hca, byte for byte. What it takes and convert
-refuses: samples that are NaN or infinite (refusal 25), of other depths than 16, 24 and 32 bits (24), more than 16777216 of them
-(30), and a loop that does not lie within the take (status 2). Samples beyond -1 and 1 are clipped, as there; so refusal 17 does
-not come. Not here: a cipher.
+resolutions 1 to 15 and the mode rust, which are its own, the file is that of its encode_wav_to_hca, byte for byte. What it takes
+and convert refuses: samples that are NaN or infinite (refusal 25), of other depths than 16, 24 and 32 bits (24), more than
+16777216 of them (30), and a loop that does not lie within the take (status 2). Samples beyond -1 and 1 are clipped, as there; so
+refusal 17 does not come. Not here: a cipher.
 ";
 
 const BANK: &str = "\
@@ -88,6 +91,7 @@ fn call(row: &Row, one: &Use) -> String {
         Value::Shard => format!("{} K/N", row.word),
         Value::Folder => format!("{} FOLDER", row.word),
         Value::Kinds => format!("{} KINDS", row.word),
+        Value::Mode => format!("{} rust|held", row.word),
         Value::Input | Value::Output => format!("{} FILE", row.word),
     }
 }
@@ -224,8 +228,10 @@ usage: hcaframe header LAYOUT --rate N --count N --padding N [--loop-start N --l
 [--frames FILE [--unchecked]] --out FILE [--quiet]
 usage: hcaframe wav --in FILE [--samples FILE] [--quiet]
 usage: hcaframe list --list FILE [--frame N] [--svg FILE [--frame-size N]] [--quiet]
-usage: hcaframe convert [--in] FILE --bitrate N [--minimum N] [--maximum N] [--loop-start N --loop-end N] --out FILE [--list FILE] [--quiet]
-usage: hcaframe bank --bitrate N [--minimum N] [--maximum N] --in FOLDER --out FOLDER [--jobs N] [--shard K/N] [--report FILE] [--force] [--quiet]
+usage: hcaframe convert [--in] FILE --bitrate N [--minimum N] [--maximum N] [--mode rust|held] [--loop-start N --loop-end N] \
+--out FILE [--list FILE] [--quiet]
+usage: hcaframe bank --bitrate N [--minimum N] [--maximum N] [--mode rust|held] --in FOLDER --out FOLDER [--jobs N] [--shard K/N] \
+[--report FILE] [--force] [--quiet]
 ";
         assert_eq!(all, expected);
     }

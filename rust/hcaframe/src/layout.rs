@@ -2,7 +2,7 @@
 use crate::options::Name;
 use crate::parse::Options;
 use crate::stop::Stop;
-use hca_frame::{Kind, Layout, Refusal};
+use hca_frame::{Kind, Layout, Mode, Refusal};
 
 /// The layout, or the first limit that it breaks: refusal 1.
 pub fn layout_of(options: &Options) -> Result<Layout, Stop> {
@@ -21,6 +21,7 @@ pub fn layout_of(options: &Options) -> Result<Layout, Stop> {
         .bands(bands[0], bands[1], bands[2])
         .frame_size(size as u32)
         .resolutions(minimum, maximum)
+        .mode(options.mode())
         .build();
     built.map_err(|error| Stop::wrong(format_args!("refusal 1: {error}")))
 }
@@ -44,8 +45,16 @@ pub fn resolution_words(minimum: u32, maximum: u32) -> String {
     }
 }
 
+/// The mode as words, none where it is what it is without words.
+pub fn mode_words(mode: Mode) -> &'static str {
+    match mode {
+        Mode::Rust => "",
+        Mode::Held => " --mode held",
+    }
+}
+
 fn bad_layout(limit: &str) -> Stop {
-    let refusal = crate::report::refusal(Refusal { number: Refusal::BAD_LAYOUT, place: 0 });
+    let refusal = crate::report::refusal(Refusal::new(Refusal::BAD_LAYOUT, 0));
     Stop::wrong(format_args!("{refusal}: {limit}"))
 }
 

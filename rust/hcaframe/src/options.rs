@@ -70,6 +70,7 @@ pub enum Name {
     Bitrate,
     Minimum,
     Maximum,
+    Mode,
     LoopStart,
     LoopEnd,
     AnyKinds,
@@ -96,6 +97,8 @@ pub enum Value {
     Nothing,
     Number,
     Kinds,
+    /// rust or held.
+    Mode,
     /// A file that is read.
     Input,
     /// A file that is written.
@@ -143,7 +146,7 @@ const FRAMES: &[Command] = &[Encode, Read, Write, Check, Header];
 
 // The words of a layout have a text of their own in the help.
 #[rustfmt::skip]
-pub const OPTIONS: [Row; 33] = [
+pub const OPTIONS: [Row; 34] = [
     row(Name::Kinds, "--kinds", &[taken(FRAMES, Kinds, Needed, "")]),
     row(Name::Base, "--base", &[taken(FRAMES, Number, Needed, "")]),
     row(Name::Stereo, "--stereo", &[taken(FRAMES, Number, Needed, "")]),
@@ -179,6 +182,12 @@ pub const OPTIONS: [Row; 33] = [
     row(Name::Maximum, "--maximum", &[
         taken(FRAMES, Number, Optional, ""),
         taken(&[Convert, Bank], Number, Optional, "the highest resolution, --minimum to 15; 15 where it is not given. The header carries both"),
+    ]),
+    row(Name::Mode, "--mode", &[
+        taken(FRAMES, Value::Mode, Optional, ""),
+        taken(&[Convert, Bank], Value::Mode, Optional,
+            "rust: bytes as of the published encoder, the default; held: no code leaves its range, so that frames decode as they were\n\
+             meant. The file does not say which"),
     ]),
     row(Name::LoopStart, "--loop-start", &[
         taken(&[Header], Number, With(Name::LoopEnd), "the loop in samples, at most 4294967167; both or none"),
@@ -253,10 +262,10 @@ impl Name {
         OPTIONS[self as usize].uses.iter().find(|one| one.by.contains(&command))
     }
 
-    /// Is it of the seven that say a layout, and may stand in a layout file?
+    /// Is it of the eight that say a layout, and may stand in a layout file?
     pub fn is_of_layout(self) -> bool {
-        let is_limit = matches!(self, Name::Minimum | Name::Maximum);
-        is_limit || matches!(self, Name::Kinds | Name::Base | Name::Stereo | Name::Total | Name::FrameSize)
+        let has_default = matches!(self, Name::Minimum | Name::Maximum | Name::Mode);
+        has_default || matches!(self, Name::Kinds | Name::Base | Name::Stereo | Name::Total | Name::FrameSize)
     }
 }
 

@@ -3,7 +3,7 @@ use crate::help::usage;
 use crate::input::{open, Input};
 use crate::options::{Command, Name, Need, Use, Value, OPTIONS};
 use crate::stop::{shown, Stop};
-use hca_frame::Kind;
+use hca_frame::{Kind, Mode};
 use std::ffi::{OsStr, OsString};
 use std::io::{self, BufRead, BufReader, Read};
 use std::os::unix::ffi::OsStrExt;
@@ -14,6 +14,7 @@ enum Given {
     Flag,
     Number(u64),
     Kinds(Vec<Kind>),
+    Mode(Mode),
     File(OsString),
     Folder(OsString),
     /// A part, and of how many.
@@ -70,6 +71,14 @@ impl Options {
         match &self.values[Name::Kinds as usize] {
             Some(Given::Kinds(kinds)) => kinds,
             _ => &[],
+        }
+    }
+
+    /// What becomes of a code past its range.
+    pub fn mode(&self) -> Mode {
+        match self.values[Name::Mode as usize] {
+            Some(Given::Mode(mode)) => mode,
+            _ => Mode::Rust,
         }
     }
 
@@ -196,6 +205,11 @@ impl Parser {
             Value::Kinds => match spelt_kinds(word.as_bytes()) {
                 Ok(kinds) => Given::Kinds(kinds),
                 Err(fault) => return Err(self.refuse_value(name, word, fault)),
+            },
+            Value::Mode => match word.as_bytes() {
+                b"rust" => Given::Mode(Mode::Rust),
+                b"held" => Given::Mode(Mode::Held),
+                _ => return Err(self.refuse_value(name, word, " is no mode; the modes are rust and held")),
             },
             Value::Shard => match spelt_shard(word.as_bytes()) {
                 Some((part, of)) => Given::Shard(part, of),

@@ -13,6 +13,7 @@
 //! which is done just before each frame.
 //! Counted for the reader: the whole call of hca_read_frame on the frames that
 //! the stage delivered.
+//! Beside it the library's calls in held mode, on the same spectra; the Rust has none.
 //! Stereo inputs are also taken from unmixed frames on (bench/stereo.rs).
 //! Lines of 400 frames are taken in one call and in 400 (bench/line.rs); P times
 //! in a run too.
@@ -23,9 +24,11 @@ mod line;
 #[path = "bench/stereo.rs"]
 mod stereo;
 
+use compare::modes::in_mode;
 use gen::speech::{crowded, frames, unmixed_frames};
 use published::driver::{all_steps, load, setup, Lent, StageCall};
 use published::hca::encoder::HcaEncoder;
+use published::limits::HELD;
 use std::hint::black_box;
 use std::time::Instant;
 use stereo::Stereo;
@@ -78,12 +81,15 @@ fn counted_library(call: &StageCall, spectra: &[f32], intensities: &[u8], b: &mu
     by_library(call, spectra, intensities, b)
 }
 
-fn library_pass(b: &mut Lent, spectra: &mut [f32], intensities: &mut [u8], calls: &[StageCall]) -> Vec<f64> {
+/// A call of the library.
+type Counted = fn(&StageCall, &[f32], &[u8], &mut Lent) -> u32;
+
+fn library_pass(b: &mut Lent, spectra: &mut [f32], intensities: &mut [u8], calls: &[StageCall], counted: Counted) -> Vec<f64> {
     let timed = |call: &StageCall| {
         spectra.copy_from_slice(&call.spectra);
         intensities.copy_from_slice(&call.intensities);
         let start = Instant::now();
-        black_box(counted_library(black_box(call), spectra, intensities, b));
+        black_box(counted(black_box(call), spectra, intensities, b));
         start.elapsed().as_nanos() as f64
     };
     calls.iter().map(timed).collect()
@@ -164,6 +170,7 @@ fn same_frames(e: &mut HcaEncoder, b: &mut Lent, calls: &[StageCall]) -> Made {
 struct Times {
     rust: f64,
     library: f64,
+    held: f64,
     reader: Option<f64>,
 }
 
@@ -177,6 +184,8 @@ impl Times {
 struct Input {
     name: &'static str,
     calls: Vec<StageCall>,
+    /// the same in held mode
+    held: Vec<StageCall>,
     made: Made,
     e: HcaEncoder,
     b: Lent,
@@ -188,7 +197,9 @@ impl Input {
     fn new(name: &'static str, calls: Vec<StageCall>) -> Self {
         let (mut e, mut b) = (setup(&calls[0]), calls[0].lent());
         let made = same_frames(&mut e, &mut b, &calls);
-        Input { name, calls, made, e, b, runs: Vec::new(), stereo: None }
+        let held = |call: &StageCall| StageCall { layout: in_mode(&call.layout, HELD), ..call.clone() };
+        let held = calls.iter().map(held).collect();
+        Input { name, calls, held, made, e, b, runs: Vec::new(), stereo: None }
     }
 
     fn with_unmixed(mut self, calls: Vec<StageCall>) -> Self {
@@ -198,13 +209,14 @@ impl Input {
 
     fn run(&mut self, passes: usize) {
         let (mut spectra, mut intensities) = (self.calls[0].spectra.clone(), self.calls[0].intensities.clone());
-        let (mut rust, mut library, mut reader) = (Vec::new(), Vec::new(), Vec::new());
+        let (mut rust, mut library, mut held, mut reader) = (Vec::new(), Vec::new(), Vec::new(), Vec::new());
         for pass in 0..passes {
             // in turns, so that neither has the quieter machine
             if pass % 2 == 0 {
                 rust.push(rust_pass(&mut self.e, &self.calls, counted_rust));
             }
-            library.push(library_pass(&mut self.b, &mut spectra, &mut intensities, &self.calls));
+            library.push(library_pass(&mut self.b, &mut spectra, &mut intensities, &self.calls, counted_library));
+            held.push(library_pass(&mut self.b, &mut spectra, &mut intensities, &self.held, by_library));
             if pass % 2 == 1 {
                 rust.push(rust_pass(&mut self.e, &self.calls, counted_rust));
             }
@@ -218,7 +230,7 @@ impl Input {
         if let Some(stereo) = &mut self.stereo {
             stereo.end_run(library);
         }
-        self.runs.push(Times { rust: mean_of_medians(&rust), library, reader });
+        self.runs.push(Times { rust: mean_of_medians(&rust), library, held: mean_of_medians(&held), reader });
     }
 
     /// The run whose ratio is the median, and the least and the greatest of all runs' ratios.
@@ -248,6 +260,15 @@ impl Input {
             }
             None => println!(),
         }
+        let mut shares: Vec<f64> = self.runs.iter().map(|r| r.held / r.library).collect();
+        shares.sort_by(f64::total_cmp);
+        println!(
+            "    held mode {:.0}  held / Rust's mode {:.2} ({:.2} to {:.2})",
+            run.held,
+            shares[n / 2],
+            shares[0],
+            shares[n - 1]
+        );
         if let Some(stereo) = &self.stereo {
             stereo.say();
         }

@@ -1,11 +1,11 @@
 //! A take's whole way, by `hca_convert::convert` over the library and by the Rust's own `encode_wav_to_hca`: the same file byte for byte, or
 //! refused by both. With a program in HCAFRAME (an absolute path) each case goes through `hcaframe convert` too, whose file has to be the same.
-//! With --pairs each take is made under one of the 120 pairs of limits, and held against the Rust's second copy.
+//! With --pairs each take is made under one of the 120 pairs of limits, and compared with the Rust's second copy; with --held so in held mode.
 use compare::{run, Options, Outcome};
 use gen::convert::{case, kind_of, Case, KINDS};
 use gen::limits::pair;
 use hca_convert::{convert, Fault, Settings};
-use hca_frame::{read_wav, Refusal};
+use hca_frame::{read_wav, Mode, Refusal};
 use published::hca::encoder::{encode_wav_to_hca, HcaEncoderConfig, HcaEncoderError};
 use published::hca::limited;
 use published::limits::under;
@@ -13,14 +13,17 @@ use std::io::Cursor;
 use std::path::PathBuf;
 use std::process::{Command, Stdio};
 
-/// Lowest and highest resolution.
-type Pair = (u32, u32);
+/// Lowest and highest resolution, and the mode.
+type Limits = (u32, u32, Mode);
+
+/// The published encoder's own.
+const PUBLISHED: Limits = (1, 15, Mode::Rust);
 
 /// The file, or the number of the refusal; 0 where there is none.
-fn by_library(case: &Case, resolutions: Pair) -> Result<Vec<u8>, u32> {
+fn by_library(case: &Case, (minimum, maximum, mode): Limits) -> Result<Vec<u8>, u32> {
     let take = read_wav(&case.wav).map_err(|no| no.number)?;
     let loop_points = case.loop_points.map(|(start, end)| (start.into(), end.into()));
-    let settings = Settings { bitrate: case.bitrate, loop_points, resolutions };
+    let settings = Settings { bitrate: case.bitrate, loop_points, resolutions: (minimum, maximum), mode };
     let made = convert(&take, &settings, |_, _| ()).map_err(|fault: Fault| fault.refusal().map_or(0, |no| no.number))?;
     Ok(made.file)
 }
@@ -35,14 +38,15 @@ fn by_rust(case: &Case) -> Result<Vec<u8>, HcaEncoderError> {
     Ok(file.into_inner())
 }
 
-/// The same by the second copy, under a pair of limits.
-fn by_second_copy(case: &Case, (minimum, maximum): Pair) -> Result<Vec<u8>, HcaEncoderError> {
+/// The same by the second copy, under a pair of limits and in a mode.
+fn by_second_copy(case: &Case, (minimum, maximum, mode): Limits) -> Result<Vec<u8>, HcaEncoderError> {
     let mut config = limited::HcaEncoderConfig::new(case.rate, case.channels.into()).with_bitrate(case.bitrate);
     if let Some((start, end)) = case.loop_points {
         (config.loop_start, config.loop_end) = (Some(start), Some(end));
     }
     let mut file = Cursor::new(Vec::new());
-    let made = under(&[0, 0, 0, 0, 0, minimum, maximum], || limited::encode_wav_to_hca(&case.wav, &mut file, Some(config)));
+    let numbers = [0, 0, 0, 0, 0, minimum, maximum, u32::from(mode == Mode::Held)];
+    let made = under(&numbers, || limited::encode_wav_to_hca(&case.wav, &mut file, Some(config)));
     match made {
         Ok(_) => Ok(file.into_inner()),
         Err(limited::HcaEncoderError::InvalidSampleRate(n)) => Err(HcaEncoderError::InvalidSampleRate(n)),
@@ -63,9 +67,9 @@ fn numbers(error: &HcaEncoderError) -> &'static [u32] {
     }
 }
 
-fn compared(case: &Case, limits: Option<Pair>) -> (String, Option<String>) {
-    let ours = by_library(case, limits.unwrap_or((1, 15)));
-    let theirs = limits.map_or_else(|| by_rust(case), |pair| by_second_copy(case, pair));
+fn compared(case: &Case, limits: Option<Limits>) -> (String, Option<String>) {
+    let ours = by_library(case, limits.unwrap_or(PUBLISHED));
+    let theirs = limits.map_or_else(|| by_rust(case), |limits| by_second_copy(case, limits));
     match (&ours, &theirs) {
         (Ok(a), Ok(b)) if a == b => ("equal".into(), None),
         (Ok(a), Ok(b)) => {
@@ -100,7 +104,7 @@ fn counted(case: &Case, outcome: String) -> Vec<String> {
 }
 
 /// The program on the same file; nothing where it makes what the library's calls make.
-fn by_program(program: &str, k: u64, case: &Case, limits: Option<Pair>) -> Option<String> {
+fn by_program(program: &str, k: u64, case: &Case, limits: Option<Limits>) -> Option<String> {
     let folder = std::env::temp_dir();
     let name = |end: &str| -> PathBuf { folder.join(format!("compare-convert-{}-{k}.{end}", std::process::id())) };
     let (wav, hca) = (name("wav"), name("hca"));
@@ -110,13 +114,14 @@ fn by_program(program: &str, k: u64, case: &Case, limits: Option<Pair>) -> Optio
     if let Some((start, end)) = case.loop_points {
         call.args(["--loop-start", &start.to_string(), "--loop-end", &end.to_string()]);
     }
-    if let Some((minimum, maximum)) = limits {
+    if let Some((minimum, maximum, mode)) = limits {
         call.args(["--minimum", &minimum.to_string(), "--maximum", &maximum.to_string()]);
+        call.args(["--mode", if mode == Mode::Held { "held" } else { "rust" }]);
     }
     let status = call.stdout(Stdio::null()).stderr(Stdio::null()).status().expect("the program runs").code();
     let made = std::fs::read(&hca).ok();
     let _ = std::fs::remove_file(&wav).and_then(|()| std::fs::remove_file(&hca));
-    match (by_library(case, limits.unwrap_or((1, 15))), status, made) {
+    match (by_library(case, limits.unwrap_or(PUBLISHED)), status, made) {
         (Ok(file), Some(0), Some(made)) if file == made => None,
         (Err(_), Some(1), None) => None,
         (_, status, _) => Some(format!("hcaframe convert: status {status:?}, or another file than the library's calls make")),
@@ -128,7 +133,9 @@ fn main() {
     let program = std::env::var("HCAFRAME").ok();
     let good = run(&o, "compare-convert", |k| {
         let case = case(o.seed, k);
-        let limits = o.pairs.then(|| pair(k + k / 100));
+        let mode = if o.held { Mode::Held } else { Mode::Rust };
+        let (minimum, maximum) = if o.held && k % 2 == 0 { (1, 15) } else { pair(k + k / 100) };
+        let limits = (o.pairs || o.held).then_some((minimum, maximum, mode));
         let (outcome, mut difference) = compared(&case, limits);
         if let (None, Some(program)) = (&difference, &program) {
             difference = by_program(program, k, &case, limits);

@@ -3,7 +3,7 @@
 use compare::front::{encoder_for, read_wav, Wav};
 use compare::pairs::Met;
 use compare::{differ, run, Options, Outcome};
-use gen::header::{call, kind_of, limited, KINDS};
+use gen::header::{call, held, kind_of, limited, KINDS};
 use gen::speech::call_of;
 use published::driver::pattern_bytes;
 use published::header::{write, HeaderCall};
@@ -87,13 +87,20 @@ fn main() {
     let o = Options::parse("compare-header", 100_000, 3_000);
     let met = Met::default();
     let mut good = run(&o, "compare-header", |k| {
-        let call = if o.pairs { limited(o.seed, k) } else { call(o.seed, k) };
+        let made = if o.held {
+            held
+        } else if o.pairs {
+            limited
+        } else {
+            call
+        };
+        let call = made(o.seed, k);
         let (number, difference) = compared(&call, o.model);
         let difference = difference.or(met.note(&call.layout, number));
         Outcome { kind: KINDS[kind_of(k).0].0, counted: named(&call, number), difference }
     });
     good &= met.all(&o);
-    if o.only.is_none() && !o.pairs {
+    if o.only.is_none() && !o.pairs && !o.held {
         if let Err(what) = sample_lines(o.model) {
             println!("SAMPLE LINES DIFFER, {what}");
             good = false;

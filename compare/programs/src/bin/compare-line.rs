@@ -2,7 +2,7 @@
 //! 65,535 frames, which is the most, and of one more.
 use compare::pairs::Met;
 use compare::{differ, differ_answer, run, Options, Outcome};
-use gen::line::{call, kind_of, limited, KINDS, LONGEST};
+use gen::line::{call, held, kind_of, limited, KINDS, LONGEST};
 use published::driver::{Lent, StageCall};
 use published::limits::stage;
 use published::line::{line, LineCall, LineLent, MOST};
@@ -86,7 +86,7 @@ fn compared(call: &LineCall, model: bool) -> (u32, usize, String) {
 
 fn describe(call: &LineCall) -> String {
     format!(
-        "  layout (channels, base, stereo, total, frame, minimum, maximum) {:?}, kinds {:?}, {} frames, tally {:?}\n  {} spectra, {} intensities\n  lengths of scaled, codes, factors, side, frames, answers, answer: {:?}\n",
+        "  layout (channels, base, stereo, total, frame, minimum, maximum, mode) {:?}, kinds {:?}, {} frames, tally {:?}\n  {} spectra, {} intensities\n  lengths of scaled, codes, factors, side, frames, answers, answer: {:?}\n",
         call.layout,
         call.kinds,
         call.count,
@@ -142,7 +142,14 @@ fn main() {
     let o = Options::parse("compare-line", 20_000, 600);
     let (places, met) = (Mutex::new(Places::default()), Met::default());
     let good = run(&o, "compare-line", |k| {
-        let call = if o.pairs { limited(o.seed, k) } else { call(o.seed, k) };
+        let made = if o.held {
+            held
+        } else if o.pairs {
+            limited
+        } else {
+            call
+        };
+        let call = made(o.seed, k);
         let (number, place, mut text) = compared(&call, o.model);
         text += &met.note(&call.layout, number).unwrap_or_default();
         let mut counted = vec![if number == 0 { "delivered".to_string() } else { format!("refusal {number}") }];
@@ -154,9 +161,9 @@ fn main() {
         Outcome { kind: KINDS[kind_of(k).0].0, counted, difference }
     });
     // a frame that is refused under 1 and 15 may be delivered under another pair
-    let whole = o.only.is_none() && o.cases >= 600 && !o.pairs;
+    let whole = o.only.is_none() && o.cases >= 600 && !o.pairs && !o.held;
     let good = met.all(&o) && good;
     let good = (!whole || all_places(&places.lock().unwrap())) && good;
-    let good = (o.only.is_some() || o.pairs || longest_lines(o.model)) && good;
+    let good = (o.only.is_some() || o.pairs || o.held || longest_lines(o.model)) && good;
     std::process::exit(if good { 0 } else { 1 });
 }

@@ -1,5 +1,5 @@
 //! Corners of a layout's pair of limits, on all six calls that take a layout: `compare-pairs [--model]`. Wrong pairs alone and together with every
-//! other refusal; slices of four to nine numbers; one resolution for all bands; a frame, a record and a call whose numbers are worked out by hand.
+//! other refusal; slices of four to ten numbers; one resolution for all bands; a frame, a record and a call whose numbers are worked out by hand.
 #[path = "compare-pairs/calls.rs"]
 mod calls;
 #[path = "compare-pairs/worked.rs"]
@@ -47,7 +47,7 @@ fn wrong_pairs(call: &Call, model: bool, seen: &mut Seen) {
 /// Five numbers, six with 1, seven with 1 and 15, and more: the same call. Four are refusal 1.
 fn slices(call: &Call, model: bool, seen: &mut Seen) {
     let five = call.left(model);
-    for numbers in [&[1][..], &[1, 15], &[1, 15, 0], &[1, 15, u32::MAX, 9]] {
+    for numbers in [&[1][..], &[1, 15], &[1, 15, 0], &[1, 15, 0, u32::MAX], &[1, 15, 0, u32::MAX, 9]] {
         let same = call.with(numbers).left(model) == five;
         seen.check(same, || format!("{}: behind five numbers {numbers:?} make a difference", call.name()));
     }

@@ -3,7 +3,7 @@
 //! write to the same bytes again.
 use compare::pairs::Met;
 use compare::{differ, differ_answer, run, Options, Outcome};
-use gen::records::{calls, heads, kind_of, limited, Call, ReadCall, WriteCall, KINDS};
+use gen::records::{calls, heads, held, kind_of, limited, Call, ReadCall, WriteCall, KINDS};
 use published::driver::{pattern_bytes, pattern_words};
 use published::hca::decoder::crc16_checksum;
 
@@ -54,7 +54,7 @@ fn read(call: &ReadCall, model: bool, met: &Met, counted: &mut Vec<String>) -> O
     }
     (!text.is_empty()).then(|| {
         format!(
-            "read_frame\n  layout (channels, base, stereo, total, frame, minimum, maximum) {:?}, kinds {:?}\n  frame {}\n  lengths of factors, side, codes, answer: {:?}\n  model: {number} {:?}, library: {got} {:?}\n{text}",
+            "read_frame\n  layout (channels, base, stereo, total, frame, minimum, maximum, mode) {:?}, kinds {:?}\n  frame {}\n  lengths of factors, side, codes, answer: {:?}\n  model: {number} {:?}, library: {got} {:?}\n{text}",
             call.layout, call.kinds, hex(&call.frame), call.lengths, e.answer, g.answer
         )
     })
@@ -97,7 +97,7 @@ fn write(call: &WriteCall, model: bool, met: &Met, counted: &mut Vec<String>) ->
     }
     (!text.is_empty()).then(|| {
         format!(
-            "write_record\n  layout (channels, base, stereo, total, frame, minimum, maximum) {:?}, kinds {:?}, level and boundary {:?}\n  factors {}\n  side {}\n  codes not zero (place: code) {}\n  lengths of frame, answer: {:?}\n  model: {number} {:?}, library: {got} {:?}\n{text}",
+            "write_record\n  layout (channels, base, stereo, total, frame, minimum, maximum, mode) {:?}, kinds {:?}, level and boundary {:?}\n  factors {}\n  side {}\n  codes not zero (place: code) {}\n  lengths of frame, answer: {:?}\n  model: {number} {:?}, library: {got} {:?}\n{text}",
             call.layout, call.kinds, call.record, hex(&call.factors), hex(&call.side), sparse(&call.codes), call.lengths, e.1, g.1
         )
     })
@@ -166,7 +166,14 @@ fn main() {
     let good = run(&o, "compare-records", |k| {
         let mut counted = Vec::new();
         let mut difference = None;
-        for call in if o.pairs { limited(o.seed, k) } else { calls(o.seed, k) } {
+        let made = if o.held {
+            held
+        } else if o.pairs {
+            limited
+        } else {
+            calls
+        };
+        for call in made(o.seed, k) {
             let d = match &call {
                 Call::Read(c) => read(c, o.model, &met, &mut counted),
                 Call::Write(c) => write(c, o.model, &met, &mut counted),
@@ -177,6 +184,6 @@ fn main() {
         Outcome { kind: KINDS[kind_of(k).0].0, counted, difference }
     });
     let good = met.all(&o) && good;
-    let good = (o.only.is_some() || o.pairs || every_head(o.model)) && good;
+    let good = (o.only.is_some() || o.pairs || o.held || every_head(o.model)) && good;
     std::process::exit(if good { 0 } else { 1 });
 }

@@ -1,9 +1,11 @@
-//! The library's frame stage against the published Rust, every buffer whole; with --pairs against its second copy, under pairs of limits.
+//! The library's frame stage against the published Rust, every buffer whole; with --pairs against its second copy, under pairs of limits; with --held so in
+//! held mode, where each delivered frame is read back too, and the same call is made in the Rust's mode.
+use compare::modes::{beside, in_mode, is_held, Way};
 use compare::pairs::Met;
 use compare::{differ, differ_answer, run, Options, Outcome};
-use gen::stage::{call, kind_of, limited, KINDS};
+use gen::stage::{call, held, is_clipped, kind_of, limited, KINDS};
 use published::driver::{Lent, Notes, StageCall};
-use published::limits::{pair_of, stage};
+use published::limits::{pair_of, stage, RUST};
 
 fn by_library(call: &StageCall, model: bool, b: &mut Lent) -> u32 {
     let f = if model { hca_model::encode_frame } else { hca_frame::raw::encode_frame };
@@ -42,7 +44,7 @@ fn named(number: u32, notes: &Notes) -> Vec<String> {
 fn describe(call: &StageCall) -> String {
     let loud = call.spectra.iter().filter(|v| v.to_bits() << 1 != 0).count();
     format!(
-        "  layout (channels, base, stereo, total, frame, minimum, maximum) {:?}, kinds {:?}\n  {} spectra, {} not zero; intensities {:?}\n  lengths of scaled, codes, factors, side, frame, answer: {:?}\n",
+        "  layout (channels, base, stereo, total, frame, minimum, maximum, mode) {:?}, kinds {:?}\n  {} spectra, {} not zero; intensities {:?}\n  lengths of scaled, codes, factors, side, frame, answer: {:?}\n",
         call.layout,
         call.kinds,
         call.spectra.len(),
@@ -58,11 +60,29 @@ fn list(spectra: &[f32]) -> String {
     format!("  spectra (place: bits) {}\n", spectra.iter().enumerate().filter_map(shown).collect::<String>())
 }
 
+/// The same call in the Rust's mode, beside what it left in held mode.
+fn other_mode(call: &StageCall, model: bool, answer: u32, got: &Lent) -> (Vec<String>, String) {
+    if !is_held(&call.layout) || ![0, 5, 7].contains(&answer) {
+        return (Vec::new(), String::new());
+    }
+    let other = StageCall { layout: in_mode(&call.layout, RUST), ..call.clone() };
+    let mut left = other.lent();
+    let number = by_library(&other, model, &mut left);
+    beside(Way { model }, call, (answer, got), (number, &left))
+}
+
 fn main() {
     let o = Options::parse("compare-stage", 100_000, 3_000);
     let met = Met::default();
     let good = run(&o, "compare-stage", |k| {
-        let call = if o.pairs { limited(o.seed, k) } else { call(o.seed, k) };
+        let made = if o.held {
+            held
+        } else if o.pairs {
+            limited
+        } else {
+            call
+        };
+        let call = made(o.seed, k);
         let before = call.lent();
         let (mut expected, mut got) = (before.clone(), before.clone());
         let (number, notes) = stage(&call, &mut expected);
@@ -81,11 +101,14 @@ fn main() {
         differ("scaled", &before.scaled, &expected.scaled, &got.scaled, &mut text);
         differ("codes", &before.codes, &expected.codes, &got.codes, &mut text);
         differ("frame", &before.frame, &expected.frame, &got.frame, &mut text);
+        let (more, wrong) = other_mode(&call, o.model, answer, &got);
+        text.push_str(&wrong);
         let difference = (!text.is_empty()).then(|| {
             let spectra = if o.only.is_some() { list(&call.spectra) } else { String::new() };
             format!("{}{spectra}{text}  the Rust's run: {notes:?} (--only lists the spectra)", describe(&call))
         });
-        Outcome { kind: KINDS[kind_of(k).0].0, counted: named(number, &notes), difference }
+        let kind = if o.held && is_clipped(k) { "at the clip" } else { KINDS[kind_of(k).0].0 };
+        Outcome { kind, counted: [named(number, &notes), more].concat(), difference }
     });
     let good = met.all(&o) && good;
     std::process::exit(if good { 0 } else { 1 });

@@ -1,7 +1,8 @@
 //! The library's stereo stage against the published Rust, every buffer whole: those of the stage, spectra and intensities.
+use compare::modes::{is_held, Way};
 use compare::pairs;
 use compare::{differ, differ_answer, run, Options, Outcome};
-use gen::stereo::{call, kind_of, limited, KINDS};
+use gen::stereo::{call, held, kind_of, limited, KINDS};
 use published::driver::{Notes, StageCall};
 use published::stereo::{stereo_stage, Met, StereoLent};
 use std::sync::Mutex;
@@ -42,7 +43,7 @@ fn named(number: u32, notes: &Notes, met: &Met) -> Vec<String> {
 
 fn describe(call: &StageCall) -> String {
     format!(
-        "  layout (channels, base, stereo, total, frame, minimum, maximum) {:?}, kinds {:?}\n  {} spectra; intensities {:?}\n  lengths of scaled, codes, factors, side, frame, answer: {:?}\n",
+        "  layout (channels, base, stereo, total, frame, minimum, maximum, mode) {:?}, kinds {:?}\n  {} spectra; intensities {:?}\n  lengths of scaled, codes, factors, side, frame, answer: {:?}\n",
         call.layout,
         call.kinds,
         call.spectra.len(),
@@ -73,7 +74,14 @@ fn main() {
     let o = Options::parse("compare-stereo", 100_000, 3_000);
     let (all, under) = (Mutex::new(Met::default()), pairs::Met::default());
     let good = run(&o, "compare-stereo", |k| {
-        let call = if o.pairs { limited(o.seed, k) } else { call(o.seed, k) };
+        let made = if o.held {
+            held
+        } else if o.pairs {
+            limited
+        } else {
+            call
+        };
+        let call = made(o.seed, k);
         let before = StereoLent::of(&call);
         let (mut expected, mut got) = (before.clone(), before.clone());
         let (number, notes, met) = stereo_stage(&call, &mut expected);
@@ -91,6 +99,9 @@ fn main() {
         differ("scaled", &b.scaled, &e.scaled, &g.scaled, &mut text);
         differ("codes", &b.codes, &e.codes, &g.codes, &mut text);
         differ("frame", &b.frame, &e.frame, &g.frame, &mut text);
+        if answer == 0 && is_held(&call.layout) && !(Way { model: o.model }).is_read_back(&call.layout, &call.kinds, g) {
+            text.push_str("  held mode: the frame is not read back to its record, or that not written back to the frame\n");
+        }
         let difference = (!text.is_empty()).then(|| {
             let spectra = if o.only.is_some() { list(&call.spectra) } else { String::new() };
             format!("{}{spectra}{text}  the Rust's run: {notes:?} (--only lists the spectra)", describe(&call))

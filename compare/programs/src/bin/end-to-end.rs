@@ -5,6 +5,11 @@
 //! end-to-end measure WAV OURS.f32 RUST.f32
 //!     the signal-to-noise ratio of each decoded file (raw f32, little endian) against the WAV file, at the best delay
 //!     and polarity: the transforms of encoder and decoder stand outside the frame, and may differ in sign
+//! end-to-end modes HERTZ BITRATE
+//!     a full-scale square tone in both modes: frames that are read back, and the signal-to-noise ratio of what is
+#[path = "end-to-end/modes.rs"]
+mod modes;
+
 use compare::front::{encoder_for, layout_of, read_wav, stage_calls, Wav};
 use hca_frame::{write_header, Encoder, Stream};
 use std::io::Cursor;
@@ -103,7 +108,11 @@ fn main() {
     let done = match words.as_slice() {
         ["encode", wav, bitrate, ours, rust] => encode(wav, bitrate, ours, rust),
         ["measure", wav, ours, rust] => measure(wav, ours, rust),
-        _ => Err("usage: end-to-end encode WAV BITRATE OURS.hca RUST.hca | measure WAV OURS.f32 RUST.f32".to_string()),
+        ["modes", hertz, bitrate] => modes::compare(hertz, bitrate),
+        _ => {
+            let measure = "measure WAV OURS.f32 RUST.f32 | modes HERTZ BITRATE";
+            Err(format!("usage: end-to-end encode WAV BITRATE OURS.hca RUST.hca | {measure}"))
+        }
     };
     if let Err(what) = done {
         eprintln!("{what}");

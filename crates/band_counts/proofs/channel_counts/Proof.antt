@@ -12,10 +12,10 @@ use Rattle.band_counts.proofs.channel_counts.Statement.{statement}
 use Rattle.band_counts.proofs.channel_counts.Tie as tie
 
 abbrev Inv-loop : tie.InvT-loop
-Inv-loop scaled coded counts₀ marks sizes b₀ counts b = (b ≤ coded) × Blocked (bandEntries scaled) 8 counts₀ b counts
+Inv-loop mode scaled coded counts₀ marks sizes b₀ counts b = (b ≤ coded) × Blocked (bandEntries mode scaled) 8 counts₀ b counts
 
 abbrev μ-loop : tie.MeasureT-loop
-μ-loop scaled coded counts₀ marks sizes b₀ counts b = coded - b
+μ-loop mode scaled coded counts₀ marks sizes b₀ counts b = coded - b
 
 mark-table-requires : tie.Need-mark-table-requires Inv-loop μ-loop
 mark-table-requires c κs = search needs
@@ -79,9 +79,10 @@ loop-again c =
     let a = start .args in
     let h = c .before .before .before .before .before .before .loop-test .taken in (
       next-le _ _ h,
-      blocked-more (bandEntries (a .scaled .now)) 8 (a .coded) (a .counts .now) (λ b _. band-size _ b) (s .loop .b) (s .loop .counts) h (s .loop .inv .1)
-          (c .before .band-counts .last .1 .1 .1 .0) (next-ends 8 _ 128 _ (below _ _ h 128 (start .pre .1)) (start .pre .2))
-          (c .before .band-counts .ensures ∙ ap (λ e. build (entryOf e) 8) (c .before .before .before .before .before .read-eight .ensures)),
+      blocked-more (bandEntries (a .mode) (a .scaled .now)) 8 (a .coded) (a .counts .now) (λ b _. band-size _ _ b) (s .loop .b) (s .loop .counts) h
+          (s .loop .inv .1)
+          (c .before .band-counts .last .1 .1 .1 .1 .0) (next-ends 8 _ 128 _ (below _ _ h 128 (start .pre .1)) (start .pre .2))
+          (c .before .band-counts .ensures ∙ ap (λ e. build (entryOf (a .mode) e) 8) (c .before .before .before .before .before .read-eight .ensures)),
     )
 
 same-length : tie.Need-same-length Inv-loop μ-loop
@@ -89,9 +90,10 @@ same-length c = c .before .loop .inv .1 .0
 
 returns : tie.Need-returns Inv-loop μ-loop
 unfolding channelCounts
-returns c = blocked-all (bandEntries (c .before .before .before .before .before .args .scaled .now)) 8
-    (c .before .before .before .before .before .args .counts .now) (c .before .loop .b) (c .before .before .before .before .before .args .coded) _
-    (search needs) (search needs) (c .before .loop .inv .1)
+returns c =
+    let a = c .before .before .before .before .before .args in
+    blocked-all (bandEntries (a .mode) (a .scaled .now)) 8 (a .counts .now) (c .before .loop .b) (a .coded) _ (search needs) (search needs)
+    (c .before .loop .inv .1)
 
 pub channel-counts-spec : {M : Type 1} → statement M
 channel-counts-spec =

@@ -49,7 +49,13 @@ small-count-requires c κs =
     let z = s .args .sizes .now in
     let h = s .pre .1 .0 in (
       (s .pre .0 .0, s .pre .0 .1, s .pre .0 .3),
-      (h, low-column m (s .pre .1 .1) k h, high-column m (s .pre .1 .1) k h, most-column z (s .pre .1 .2) k h, drop-column z (s .pre .1 .2) k h),
+      (
+        h,
+        low-column m (s .pre .1 .1) k h,
+        high-column m (s .pre .1 .1) k h,
+        most-column (s .args .mode) z (s .pre .1 .2) k h,
+        drop-column (s .args .mode) z (s .pre .1 .2) k h,
+      ),
     )
 
 add-wide-count : tie.Need-add-wide-count
@@ -77,8 +83,13 @@ wide-count-requires : tie.Need-wide-count-requires
 wide-count-requires c κs =
     let s = c .before .before .before .before .before .before .before in
     let k = s .args .k in
-    let h = s .pre .1 .0 in
-    (s .pre .0 .2, omega arith, omega arith, dead-column (s .args .marks .now) (s .pre .1 .1) k h, wide-column (s .args .sizes .now) (s .pre .1 .2) k h)
+    let h = s .pre .1 .0 in (
+      s .pre .0 .2,
+      omega arith,
+      omega arith,
+      dead-column (s .args .marks .now) (s .pre .1 .1) k h,
+      wide-column (s .args .mode) (s .args .sizes .now) (s .pre .1 .2) k h,
+    )
 
 mul-result : tie.Need-mul-result
 mul-result c = search needs

@@ -15,10 +15,10 @@ use Rattle.band_counts.proofs.frame_counts.Statement.{statement}
 use Rattle.band_counts.proofs.frame_counts.Tie as tie
 
 abbrev Inv-loop : tie.InvT-loop
-Inv-loop layout scaled counts₀ channels c₀ counts c = (c ≤ channels) × Blocked (channelAt layout scaled counts₀) 1024 counts₀ c counts
+Inv-loop layout scaled counts₀ channels mode c₀ counts c = (c ≤ channels) × Blocked (channelAt layout scaled counts₀) 1024 counts₀ c counts
 
 abbrev μ-loop : tie.MeasureT-loop
-μ-loop layout scaled counts₀ channels c₀ counts c = channels - c
+μ-loop layout scaled counts₀ channels mode c₀ counts c = channels - c
 
 loop-holds : tie.Need-loop-holds Inv-loop μ-loop
 loop-holds c = (search needs, blocked-none _ 1024 _)
@@ -86,13 +86,13 @@ loop-again c =
     let size = channel-size (a .layout) (start .pre .0) (a .scaled .now) (a .counts .now) (start .pre .1 .1) in (
       next-le _ _ h,
       blocked-more (channelAt (a .layout) (a .scaled .now) (a .counts .now)) 1024 (a .layout .channels) (a .counts .now) size (s .loop .c) (s .loop .counts) h
-          (s .loop .inv .1) (c .before .channel-counts .last .1 .1 .0) (next-ends 1024 _ _ _ h (start .pre .1 .1))
+          (s .loop .inv .1) (c .before .channel-counts .last .1 .1 .1 .0) (next-ends 1024 _ _ _ h (start .pre .1 .1))
           (c .before .channel-counts .ensures
-          ∙ ap₂ (λ n xs. channelCounts (take n (drop (s .loop .c * 1024) (a .scaled .now))) (c .before .before .before .before .coded-count .result) xs)
-          (back-width (s .loop .c * 1024) 1024)
+          ∙ ap₂ (λ n xs. channelCounts (a .layout .mode) (take n (drop (s .loop .c * 1024) (a .scaled .now)))
+          (c .before .before .before .before .coded-count .result) xs) (back-width (s .loop .c * 1024) 1024)
           (blocked-lent (channelAt (a .layout) (a .scaled .now) (a .counts .now)) 1024 (a .layout .channels) (a .counts .now) size (s .loop .c)
           (s .loop .counts) h (s .loop .inv .1))
-          ∙ ap (λ n. channelCounts (part 1024 (a .scaled .now) (s .loop .c)) n (part 1024 (a .counts .now) (s .loop .c)))
+          ∙ ap (λ n. channelCounts (a .layout .mode) (part 1024 (a .scaled .now) (s .loop .c)) n (part 1024 (a .counts .now) (s .loop .c)))
           (c .before .before .before .before .coded-count .ensures .0)),
     )
 

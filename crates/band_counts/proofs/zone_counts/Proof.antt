@@ -11,10 +11,10 @@ use Rattle.band_counts.proofs.zone_counts.Statement.{statement}
 use Rattle.band_counts.proofs.zone_counts.Tie as tie
 
 abbrev Inv-loop : tie.InvT-loop
-Inv-loop e marks sizes counts₀ m clips k₀ counts k = (k ≤ 8) × Filled (entryOf e) counts₀ k counts
+Inv-loop mode e marks sizes counts₀ m clips k₀ counts k = (k ≤ 8) × Filled (entryOf mode e) counts₀ k counts
 
 abbrev μ-loop : tie.MeasureT-loop
-μ-loop e marks sizes counts₀ m clips k₀ counts k = 8 - k
+μ-loop mode e marks sizes counts₀ m clips k₀ counts k = 8 - k
 
 sizes-of-requires : tie.Need-sizes-of-requires Inv-loop μ-loop
 sizes-of-requires c κs = search needs
@@ -31,8 +31,8 @@ entry-requires c κs =
     let m = c .before .before .before .sizes-of .ensures in
     ((s .pre .0, m .1, m .0, c .before .before .clip-count .ensures), (search needs, s .pre .1 .0, s .pre .1 .1))
 
-mul-t10 : tie.Need-mul-t10 Inv-loop μ-loop
-mul-t10 c = search needs
+mul-t11 : tie.Need-mul-t11 Inv-loop μ-loop
+mul-t11 c = search needs
 
 slice-set-from-counts : tie.Need-slice-set-from-counts Inv-loop μ-loop
 slice-set-from-counts c = search needs
@@ -48,7 +48,7 @@ loop-again c =
     let s = c .before .before in
     let a = c .before .before .before .before .before .args in (
       search needs,
-      filled-more (entryOf (a .e)) (a .counts .now) (s .loop .k) (s .loop .counts) _ (omega arith) (s .loop .inv .1)
+      filled-more (entryOf (a .mode) (a .e)) (a .counts .now) (s .loop .k) (s .loop .counts) _ (omega arith) (s .loop .inv .1)
           (toZ-ofZ w32 (c .entry .result) (record { sfits = c .entry .ok }) ∙ c .entry .ensures),
     )
 
@@ -58,8 +58,8 @@ same-length c = c .before .loop .inv .1 .0
 returns : tie.Need-returns Inv-loop μ-loop
 returns c =
     let start = c .before .before .before .before in
-    filled-all (entryOf (start .args .e)) (start .args .counts .now) (c .before .loop .k) 8 _ (start .pre .1 .2) (search needs) (c .before .loop .inv .0)
-    (c .before .loop .inv .1)
+    filled-all (entryOf (start .args .mode) (start .args .e)) (start .args .counts .now) (c .before .loop .k) 8 _ (start .pre .1 .2) (search needs)
+    (c .before .loop .inv .0) (c .before .loop .inv .1)
 
 pub zone-counts-spec : {M : Type 1} → statement M
 zone-counts-spec =
@@ -71,7 +71,7 @@ zone-counts-spec =
     clip-count-requires
     loop-holds
     entry-requires
-    mul-t10
+    mul-t11
     slice-set-from-counts
     add-k
     loop-less

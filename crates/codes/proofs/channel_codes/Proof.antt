@@ -8,10 +8,10 @@ use Rattle.codes.proofs.channel_codes.Statement.{statement}
 use Rattle.codes.proofs.channel_codes.Tie as tie
 
 abbrev Inv-loop : tie.InvT-loop
-Inv-loop resolutions scaled codes₀ b₀ codes b = (b ≤ 128) × Laid resolutions scaled b codes
+Inv-loop mode resolutions scaled codes₀ b₀ codes b = (b ≤ 128) × Laid mode resolutions scaled b codes
 
 abbrev μ-loop : tie.MeasureT-loop
-μ-loop resolutions scaled codes₀ b₀ codes b = 128 - b
+μ-loop mode resolutions scaled codes₀ b₀ codes b = 128 - b
 
 loop-holds : tie.Need-loop-holds Inv-loop μ-loop
 loop-holds c = (search needs, (search needs, λ s i h lt. absurd (omega arith)))
@@ -34,15 +34,15 @@ loop-again c =
     let s = c .before .before .before .before .before in
     let a = s .before .before .before .args in (
       search needs,
-      subst (Laid (a .resolutions .now) (a .scaled .now) (s .loop .b + 1)) (sym (c .before .band-codes .ensures))
-          (laid-more (a .resolutions .now) (a .scaled .now) (s .loop .b) (s .loop .codes) (s .loop .inv .1) (search needs)),
+      subst (Laid (a .mode) (a .resolutions .now) (a .scaled .now) (s .loop .b + 1)) (sym (c .before .band-codes .ensures))
+          (laid-more (a .mode) (a .resolutions .now) (a .scaled .now) (s .loop .b) (s .loop .codes) (s .loop .inv .1) (search needs)),
     )
 
 same-length : tie.Need-same-length Inv-loop μ-loop
 same-length c = search needs
 
 returns : tie.Need-returns Inv-loop μ-loop
-returns c = laid-all _ _ (c .before .loop .b) (c .before .loop .codes) (c .before .loop .inv .1) (search needs)
+returns c = laid-all _ _ _ (c .before .loop .b) (c .before .loop .codes) (c .before .loop .inv .1) (search needs)
 
 pub channel-codes-spec : {M : Type 1} → statement M
 channel-codes-spec =

@@ -12,10 +12,10 @@ use Rattle.codes.proofs.quantize_spectra.Statement.{statement}
 use Rattle.codes.proofs.quantize_spectra.Tie as tie
 
 abbrev Inv-loop : tie.InvT-loop
-Inv-loop resolutions scaled codes₀ channels c₀ codes c = (c ≤ channels) × Blocked (codesAt resolutions scaled) 1024 codes₀ c codes
+Inv-loop resolutions scaled codes₀ channels mode c₀ codes c = (c ≤ channels) × Blocked (codesAt mode resolutions scaled) 1024 codes₀ c codes
 
 abbrev μ-loop : tie.MeasureT-loop
-μ-loop resolutions scaled codes₀ channels c₀ codes c = channels - c
+μ-loop resolutions scaled codes₀ channels mode c₀ codes c = channels - c
 
 loop-holds : tie.Need-loop-holds Inv-loop μ-loop
 loop-holds c = (search needs, blocked-none _ 1024 _)
@@ -97,9 +97,8 @@ loop-again c =
     let a = start .args in
     let h = c .before .before .before .before .before .loop-test .taken in (
       next-le _ _ h,
-      blocked-more (codesAt (a .resolutions .now) (a .scaled .now)) 1024 (a .layout .channels) (a .codes .now) (λ i h. codes-size _ _) (s .loop .c)
-          (s .loop .codes)
-          h (s .loop .inv .1) (c .before .channel-codes .last .1 .1 .0) (next-ends 1024 _ _ _ h (start .pre .1 .1 .2))
+      blocked-more (codesAt (a .layout .mode) (a .resolutions .now) (a .scaled .now)) 1024 (a .layout .channels) (a .codes .now) (λ i h. codes-size _ _ _)
+          (s .loop .c) (s .loop .codes) h (s .loop .inv .1) (c .before .channel-codes .last .1 .1 .1 .0) (next-ends 1024 _ _ _ h (start .pre .1 .1 .2))
           (c .before .channel-codes .ensures ∙ rw (back-width (s .loop .c * 1024) 1024, back-width (s .loop .c * 128) 128)),
     )
 

@@ -40,17 +40,25 @@ number-or-requires c κs = search needs
 number-or-requires-2 : tie.Need-number-or-requires-2
 number-or-requires-2 c κs = search needs
 
+number-or-requires-3 : tie.Need-number-or-requires-3
+number-or-requires-3 c κs = search needs
+
+mode-of-requires : tie.Need-mode-of-requires
+mode-of-requires c κs = search needs
+
 channels-of-requires : tie.Need-channels-of-requires
 channels-of-requires c κs = search needs
 
 returns : tie.Need-returns
 unfolding layoutOf
 returns c =
-    let s = c .before .before .before in
+    let s = c .before .before .before .before .before in
     rw (
       c .channels-of .ensures,
-      c .before .number-or2 .ensures,
-      c .before .before .number-or .ensures,
+      c .before .mode-of .ensures,
+      c .before .before .number-or3 .ensures,
+      c .before .before .before .number-or2 .ensures,
+      c .before .before .before .before .number-or .ensures,
       s .wide5 .ensures,
       s .before .before .wide4 .ensures,
       s .before .before .before .before .wide3 .ensures,
@@ -74,5 +82,7 @@ layout-of-spec =
     wide-requires-5
     number-or-requires
     number-or-requires-2
+    number-or-requires-3
+    mode-of-requires
     channels-of-requires
     returns)

@@ -6,7 +6,7 @@ use crate::bank::turns::Turns;
 use crate::bank::words::{is_words_file, Words};
 use crate::bank::work::{Outcome, State, Work};
 use crate::files::{Ended, Files};
-use crate::layout::{resolution_words, resolutions_of};
+use crate::layout::{mode_words, resolution_words, resolutions_of};
 use crate::options::Name;
 use crate::parse::Options;
 use crate::progress::Progress;
@@ -35,7 +35,7 @@ pub fn run(options: &Options, text: &mut Text) -> Result<Ended, Stop> {
     files.output(Name::Report)?;
     let mut outputs = files.outputs();
     // the words that the files' bytes depend on
-    let limits = resolution_words(resolutions.0, resolutions.1);
+    let limits = resolution_words(resolutions.0, resolutions.1) + mode_words(options.mode());
     let told = format!("hcaframe {} --bitrate {bitrate}{limits}", env!("CARGO_PKG_VERSION"));
     let words = Words::open(to, told, options.shard())?;
     let own = takes.iter().flat_map(Take::outputs).map(|name| to.join(name));
@@ -43,7 +43,7 @@ pub fn run(options: &Options, text: &mut Text) -> Result<Ended, Stop> {
     if 0 < left {
         text.say(format_args!("left behind by a run before, and removed: {left}\n"));
     }
-    let settings = Settings { bitrate, loop_points: None, resolutions };
+    let settings = Settings { bitrate, loop_points: None, resolutions, mode: options.mode() };
     let from = Path::new(options.folder(Name::In));
     let is_forced = options.is_given(Name::Force);
     let work =

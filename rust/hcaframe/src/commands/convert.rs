@@ -1,6 +1,6 @@
 //! A WAV file to an HCA file.
 use crate::files::{Ended, Files};
-use crate::layout::{letters, resolution_words, resolutions_of};
+use crate::layout::{letters, mode_words, resolution_words, resolutions_of};
 use crate::options::Name;
 use crate::parse::Options;
 use crate::progress::Progress;
@@ -12,7 +12,8 @@ use hca_frame::list_summary;
 
 pub fn run(options: &Options, text: &mut Text) -> Result<Ended, Stop> {
     let loop_points = options.number(Name::LoopStart).zip(options.number(Name::LoopEnd));
-    let settings = Settings { bitrate: bitrate_of(options)?, loop_points, resolutions: resolutions_of(options)? };
+    let (bitrate, resolutions) = (bitrate_of(options)?, resolutions_of(options)?);
+    let settings = Settings { bitrate, loop_points, resolutions, mode: options.mode() };
     let mut files = Files::new(options, text);
     let mut input = files.input(Name::In)?.ok_or_else(|| Stop::wrong("no WAV file"))?;
     files.inputs_are_apart()?;
@@ -34,7 +35,7 @@ fn say(text: &mut Text, made: &Converted, list: &[u8]) {
     let (layout, stream) = (&made.layout, &made.stream);
     let [_, base, stereo, total, size, minimum, maximum] = layout.numbers()[..7] else { return };
     let kinds = letters(layout.kinds());
-    let limits = resolution_words(minimum, maximum);
+    let limits = resolution_words(minimum, maximum) + mode_words(layout.mode());
     text.say(format_args!(
         "layout --kinds {kinds} --base {base} --stereo {stereo} --total {total} --frame-size {size}{limits}\n"
     ));

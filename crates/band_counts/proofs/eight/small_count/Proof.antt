@@ -28,11 +28,13 @@ module _ (c : tie.After-eight-reached2) where
   some : s .args .most + c .before .eight-reached .result ≤ 40
   some = let h = most-le (s .args .k) (s .pre .1 .0) in omega (arith, s .pre .1 .3, c .before .eight-reached .ensures .1)
 
-  whole : s .args .most + c .before .eight-reached .result ≡ eightBits (s .args .k) (s .args .e) + (c .eight-reached2 .result + s .args .drop * s .args .clips)
+  whole : s .args .most + c .before .eight-reached .result
+      ≡ eightBits (s .args .mode) (s .args .k) (s .args .e) + (c .eight-reached2 .result + s .args .drop * s .args .clips)
   whole =
       ap₂ _+_ (s .pre .1 .3) (c .before .eight-reached .ensures .0 ∙ ap (λ x. eightReached x (s .args .e)) (s .pre .1 .2))
-      ∙ eight-zones (s .args .k) (s .pre .1 .0) (s .args .e) (s .pre .0 .0) (s .pre .0 .1)
-      ∙ sym (ap₂ (λ a b. eightBits (s .args .k) (s .args .e) + (a + b)) (c .eight-reached2 .ensures .0 ∙ ap (λ x. eightReached x (s .args .e)) (s .pre .1 .1))
+      ∙ eight-zones (s .args .mode) (s .args .k) (s .pre .1 .0) (s .args .e) (s .pre .0 .0) (s .pre .0 .1)
+      ∙ sym (ap₂ (λ a b. eightBits (s .args .mode) (s .args .k) (s .args .e) + (a + b))
+      (c .eight-reached2 .ensures .0 ∙ ap (λ x. eightReached x (s .args .e)) (s .pre .1 .1))
       (ap₂ _*_ (s .pre .1 .4) (s .pre .0 .2)))
 
 mul-result : tie.Need-mul-result

@@ -20,7 +20,7 @@ returns : tie.Need-returns
 returns c =
     let s = c .before in
     let n : c .eight-reached .result ≡ _ = c .eight-reached .ensures .0 ∙ ap₂ eightReached (s .pre .3) (s .pre .0) in (
-      ap₂ _+_ (s .pre .4) n ∙ eight-wide (s .args .r) (s .pre .1) (s .args .e),
+      ap₂ _+_ (s .pre .4) n ∙ eight-wide (s .args .mode) (s .args .r) (s .pre .1) (s .args .e),
       omega (arith, bits-le (s .args .r) (s .pre .2), s .pre .4, c .eight-reached .ensures .1),
     )
 

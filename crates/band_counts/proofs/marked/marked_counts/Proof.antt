@@ -11,10 +11,10 @@ use Rattle.band_counts.proofs.marked.marked_counts.Statement.{statement
 use Rattle.band_counts.proofs.marked.marked_counts.Tie as tie
 
 abbrev Inv-loop : tie.InvT-loop
-Inv-loop e counts₀ k₀ counts k = (k ≤ 8) × Filled (entryOf e) counts₀ k counts
+Inv-loop mode e counts₀ k₀ counts k = (k ≤ 8) × Filled (entryOf mode e) counts₀ k counts
 
 abbrev μ-loop : tie.MeasureT-loop
-μ-loop e counts₀ k₀ counts k = 8 - k
+μ-loop mode e counts₀ k₀ counts k = 8 - k
 
 loop-holds : tie.Need-loop-holds Inv-loop μ-loop
 loop-holds c = (search needs, filled-none _ _)
@@ -25,8 +25,8 @@ cast-marked-entry c = search needs
 marked-entry-requires : tie.Need-marked-entry-requires Inv-loop μ-loop
 marked-entry-requires c κs = search needs
 
-mul-t7 : tie.Need-mul-t7 Inv-loop μ-loop
-mul-t7 c = search needs
+mul-t8 : tie.Need-mul-t8 Inv-loop μ-loop
+mul-t8 c = search needs
 
 slice-set-from-counts : tie.Need-slice-set-from-counts Inv-loop μ-loop
 slice-set-from-counts c = search needs
@@ -42,7 +42,7 @@ loop-again c =
     let s = c .before .before in
     let a = c .before .before .before .args in (
       search needs,
-      filled-more (entryOf (a .e)) (a .counts .now) (s .loop .k) (s .loop .counts) _ (omega arith) (s .loop .inv .1)
+      filled-more (entryOf (a .mode) (a .e)) (a .counts .now) (s .loop .k) (s .loop .counts) _ (omega arith) (s .loop .inv .1)
           (toZ-ofZ w32 (c .marked-entry .result) (record { sfits = c .marked-entry .ok }) ∙ c .marked-entry .ensures),
     )
 
@@ -52,8 +52,8 @@ same-length c = c .before .loop .inv .1 .0
 returns : tie.Need-returns Inv-loop μ-loop
 returns c =
     let start = c .before .before in
-    filled-all (entryOf (start .args .e)) (start .args .counts .now) (c .before .loop .k) 8 _ (start .pre) (search needs) (c .before .loop .inv .0)
-    (c .before .loop .inv .1)
+    filled-all (entryOf (start .args .mode) (start .args .e)) (start .args .counts .now) (c .before .loop .k) 8 _ (start .pre) (search needs)
+    (c .before .loop .inv .0) (c .before .loop .inv .1)
 
 pub marked-counts-spec : {M : Type 1} → statement M
 marked-counts-spec =
@@ -64,7 +64,7 @@ marked-counts-spec =
     loop-holds
     cast-marked-entry
     marked-entry-requires
-    mul-t7
+    mul-t8
     slice-set-from-counts
     add-k
     loop-less

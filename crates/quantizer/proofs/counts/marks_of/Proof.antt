@@ -1,90 +1,59 @@
--- `quantizer::counts::marks_of` meets its contract: each arm has its resolution's marks. Assumes nothing.
-use mathlib.Core.Path.{_≡_, _∙_}
-use native.Mathlib.Nat.{le-of-suc-le-suc}
-use lib.Ieee.{ofBits, ofInt}
+-- `quantizer::counts::marks_of` meets its contract: in held mode low is the row's high, and neither high nor drop is left. Assumes nothing.
+use mathlib.Core.Path.{_≡_, refl, ap, _∙_}
+use Prim.Native.Nat.{ℕ, _-_, _<_}
 use borrow.Author.Needs.{needs}
-use Rattle.rules.specs.Tables.{stepTable}
-use Rattle.rules.specs.Code.{stepOf}
-use Rattle.quantizer.specs.Marks.{marksAt, nearAt, farAt, pastAt, highAt, dropAt}
-use Rattle.quantizer.proofs.Entries.{last-arm}
+use Rattle.buffers.specs.Walk.{build}
+use Rattle.rules.specs.Tables.{spectrumBits}
+use Rattle.rules.specs.Signed.{heldZ}
+use Rattle.rules.specs.Code.{codePlace}
+use Rattle.rules.specs.declared.Mode.the-variants.{Rust, Held}
+use Rattle.quantizer.specs.Marks.{marksOf, marksAt, highAt, lowAt, dropAt}
+use Rattle.quantizer.specs.declared.counts.Marks.{Marks}
+use Rattle.quantizer.proofs.Entries.{build-agrees}
 use Rattle.quantizer.proofs.counts.marks_of.Statement.{statement}
 use Rattle.quantizer.proofs.counts.marks_of.Tie as tie
 
-marked-requires : tie.Need-marked-requires
-marked-requires c κs = search needs
+-- low, high and drop, each at all eight resolutions
+module _ (r : ℕ) (h : r < 8) where
+  low-held : highAt r - lowAt Rust r ≡ lowAt Held r
+  unfolding build highAt lowAt spectrumBits codePlace heldZ
+  low-held = build-agrees (λ i. highAt i - lowAt Rust i) (lowAt Held) 8 refl r h
 
-marked-requires-2 : tie.Need-marked-requires-2
-marked-requires-2 c κs = search needs
+  high-held : 0 ≡ highAt r - lowAt Held r
+  unfolding build highAt lowAt spectrumBits codePlace heldZ
+  high-held = build-agrees (λ i. 0) (λ i. highAt i - lowAt Held i) 8 refl r h
 
-marked-requires-3 : tie.Need-marked-requires-3
-marked-requires-3 c κs = search needs
+  drop-held : 0 ≡ dropAt Held r
+  unfolding build highAt dropAt spectrumBits codePlace heldZ
+  drop-held = build-agrees (λ i. 0) (dropAt Held) 8 refl r h
 
-marked-requires-4 : tie.Need-marked-requires-4
-marked-requires-4 c κs = search needs
+held-marks : (r : ℕ) (m : Marks) → r < 8 → m ≡ marksAt Rust r → marksOf (m .step) (m .near) (m .far) (m .past) (m .high) 0 0 ≡ marksAt Held r
+unfolding marksAt
+held-marks r m h e =
+    ap (λ (n : Marks). marksOf (n .step) (n .near) (n .far) (n .past) (n .high) 0 0) e
+    ∙ ap₃ (low-held r h) (high-held r h) (drop-held r h)
+  where
+    ap₃ : {a a' b b' c c' : ℕ} → a ≡ a' → b ≡ b' → c ≡ c'
+        → marksOf (marksAt Rust r .step) (marksAt Rust r .near) (marksAt Rust r .far) (marksAt Rust r .past) a b c
+        ≡ marksOf (marksAt Rust r .step) (marksAt Rust r .near) (marksAt Rust r .far) (marksAt Rust r .past) a' b' c'
+    ap₃ p q s = cc
 
-marked-requires-5 : tie.Need-marked-requires-5
-marked-requires-5 c κs = search needs
+rust-marks-requires : tie.Need-rust-marks-requires
+rust-marks-requires c κs = search needs
 
-marked-requires-6 : tie.Need-marked-requires-6
-marked-requires-6 c κs = search needs
+enum-told : tie.Need-enum-told
+enum-told c = search needs
 
-marked-requires-7 : tie.Need-marked-requires-7
-marked-requires-7 c κs = search needs
-
-marked-requires-8 : tie.Need-marked-requires-8
-marked-requires-8 c κs = search needs
+enum-told-2 : tie.Need-enum-told-2
+enum-told-2 c = search needs
 
 returns : tie.Need-returns
-unfolding marksAt nearAt farAt pastAt highAt dropAt stepOf stepTable ofBits ofInt
-returns c = c .marked .ensures ∙ rw (c .before .match .keys1)
+returns c = rw (c .enum-told .given .1) (c .before .before .rust-marks .ensures)
 
 returns-2 : tie.Need-returns-2
-unfolding marksAt nearAt farAt pastAt highAt dropAt stepOf stepTable ofBits ofInt
-returns-2 c = c .marked2 .ensures ∙ rw (c .before .match .keys2)
-
-returns-3 : tie.Need-returns-3
-unfolding marksAt nearAt farAt pastAt highAt dropAt stepOf stepTable ofBits ofInt
-returns-3 c = c .marked3 .ensures ∙ rw (c .before .match .keys3)
-
-returns-4 : tie.Need-returns-4
-unfolding marksAt nearAt farAt pastAt highAt dropAt stepOf stepTable ofBits ofInt
-returns-4 c = c .marked4 .ensures ∙ rw (c .before .match .keys4)
-
-returns-5 : tie.Need-returns-5
-unfolding marksAt nearAt farAt pastAt highAt dropAt stepOf stepTable ofBits ofInt
-returns-5 c = c .marked5 .ensures ∙ rw (c .before .match .keys5)
-
-returns-6 : tie.Need-returns-6
-unfolding marksAt nearAt farAt pastAt highAt dropAt stepOf stepTable ofBits ofInt
-returns-6 c = c .marked6 .ensures ∙ rw (c .before .match .keys6)
-
-returns-7 : tie.Need-returns-7
-unfolding marksAt nearAt farAt pastAt highAt dropAt stepOf stepTable ofBits ofInt
-returns-7 c = c .marked7 .ensures ∙ rw (c .before .match .keys7)
-
-returns-8 : tie.Need-returns-8
-unfolding marksAt nearAt farAt pastAt highAt dropAt stepOf stepTable ofBits ofInt
-returns-8 c =
-    let e : c .before .before .args .r ≡ 7 = last-arm 7 _ (le-of-suc-le-suc (c .before .before .pre)) (c .before .match .rest) in
-    c .marked8 .ensures ∙ rw e
+returns-2 c =
+    let s = c .before .before .before in
+    rw (c .enum-told2 .given .1) (held-marks (s .args .r) (c .before .before .rust-marks .result) (s .pre) (c .before .before .rust-marks .ensures))
 
 pub marks-of-spec : {M : Type 1} → statement M
-marks-of-spec =
-    tie.close
-    (tie.spec
-    marked-requires
-    marked-requires-2
-    marked-requires-3
-    marked-requires-4
-    marked-requires-5
-    marked-requires-6
-    marked-requires-7
-    marked-requires-8
-    returns
-    returns-2
-    returns-3
-    returns-4
-    returns-5
-    returns-6
-    returns-7
-    returns-8)
+marks-of-spec = tie.close (tie.spec rust-marks-requires enum-told enum-told-2 returns returns-2)

@@ -9,21 +9,27 @@ use Rattle.quantizer.proofs.Reaching.{value-counted, high-le}
 use Rattle.quantizer.proofs.counts.small_bits.Statement.{statement}
 use Rattle.quantizer.proofs.counts.small_bits.Tie as tie
 
+-- low and high are at most 4
+least : (c : tie.After-reached) → c .before .args .m .low + c .reached .result ≤ 4
+least c =
+    let s = c .before in
+    let h = high-le (s .args .mode) (s .args .r) (s .args .m) (s .pre .0) (s .pre .1) in
+    omega (arith, c .reached .ensures .1)
+
+some : (c : tie.After-reached2) → c .before .before .before .args .m .low + c .before .before .reached .result + c .reached2 .result ≤ 5
+some c = let h = least (c .before .before) in omega (arith, c .reached2 .ensures .1)
+
 reached-requires : tie.Need-reached-requires
 reached-requires c κs = search needs
+
+add-most : tie.Need-add-most
+add-most c = let h = least (c .before) in omega arith
 
 reached-requires-2 : tie.Need-reached-requires-2
 reached-requires-2 c κs = search needs
 
--- at most 4 and 1
-some : (c : tie.After-reached2) → c .before .reached .result + c .reached2 .result ≤ 5
-some c =
-    let s = c .before .before in
-    let h = high-le (s .args .r) (s .args .m) (s .pre .0) (s .pre .1) in
-    omega (arith, c .before .reached .ensures .1, c .reached2 .ensures .1)
-
-add-most : tie.Need-add-most
-add-most c = let h = some c in omega arith
+add-most-2 : tie.Need-add-most-2
+add-most-2 c = let h = some c in omega arith
 
 reached-requires-3 : tie.Need-reached-requires-3
 reached-requires-3 c κs = search needs
@@ -34,14 +40,15 @@ reached-requires-4 c κs = search needs
 -- what was added is the value's bits and what is taken off
 module _ (c : tie.After-reached4) where
   abbrev bits : ℕ
-  bits = valueBits (c .before .before .before .before .args .r) (c .before .before .before .before .args .scaled)
+  bits = let a = c .before .before .before .before .before .args in valueBits (a .mode) (a .r) (a .scaled)
 
-  whole : c .before .before .before .reached .result + c .before .before .reached2 .result ≡ bits + (c .before .reached3 .result + c .reached4 .result)
+  whole : c .before .before .before .before .before .args .m .low + c .before .before .before .before .reached .result + c .before .before .reached2 .result
+      ≡ bits + (c .before .reached3 .result + c .reached4 .result)
   unfolding ofBits
   whole =
-      let s = c .before .before .before .before in
-      ap₂ (λ (a b : ℕ). a + b) (c .before .before .before .reached .ensures .0) (c .before .before .reached2 .ensures .0)
-      ∙ value-counted (s .args .r) (s .args .scaled) (s .args .m) (s .pre .0) (s .pre .1)
+      let s = c .before .before .before .before .before in
+      ap₂ (λ (a b : ℕ). s .args .m .low + a + b) (c .before .before .before .before .reached .ensures .0) (c .before .before .reached2 .ensures .0)
+      ∙ value-counted (s .args .mode) (s .args .r) (s .args .scaled) (s .args .m) (s .pre .0) (s .pre .1)
       ∙ sym (ap₂ (λ (a b : ℕ). bits + (a + b)) (c .before .reached3 .ensures .0) (c .reached4 .ensures .0))
 
 add-result : tie.Need-add-result
@@ -58,8 +65,9 @@ small-bits-spec =
     tie.close
     (tie.spec
     reached-requires
-    reached-requires-2
     add-most
+    reached-requires-2
+    add-most-2
     reached-requires-3
     reached-requires-4
     add-result
