@@ -22,6 +22,8 @@ target/release/compare-records --held --small
 target/release/compare-header --small
 target/release/compare-header --pairs --small
 target/release/compare-header --held --small
+target/release/replay-vectors vec/header-back.vec
+target/release/compare-header-back --small
 target/release/compare-list --small
 target/release/compare-wav --small
 target/release/replay-vectors vec/stereo.vec

@@ -140,6 +140,11 @@ static uint32_t write_header(void) {
     return hca_write_header(SLICE(layout), SLICE(kinds), SLICE(stream), SLICE(points), SLICE(header));
 }
 
+static uint32_t read_header(void) {
+    struct slice header = bytes(), layout = lent(word(), 4), answer = lent(word(), 4);
+    return hca_read_header(SLICE(header), SLICE(layout), SLICE(answer));
+}
+
 static uint32_t list_write(void) {
     uint32_t frames = word();
     struct slice entries = words(), list = lent(word(), 1);
@@ -181,6 +186,7 @@ static uint32_t call(uint32_t kind) {
     case 10: return read_wav();
     case 11: return encode_frame(1);
     case 12: return encode_line();
+    case 13: return read_header();
     default: must(0); return 0;
     }
 }

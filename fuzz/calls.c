@@ -258,6 +258,10 @@ void one_call(struct source *s)
         hostile_header(s);
         return;
     }
+    if (one_in(s, 12)) {
+        hostile_header_back(s);
+        return;
+    }
     if (one_in(s, 8)) {
         hostile_list(s);
         return;

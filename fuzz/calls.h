@@ -17,6 +17,7 @@ enum function {
     WAV,
     STEREO,
     LINE,
+    HEADER_BACK,
     FUNCTIONS
 };
 

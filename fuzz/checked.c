@@ -29,6 +29,7 @@ const uint32_t can_give[FUNCTIONS] = {
     [WAV] = 0x43C00005,
     [STEREO] = 0x200BF,
     [LINE] = 0x400BF,
+    [HEADER_BACK] = 0x3C000005,
 };
 static const size_t delivered_places[FUNCTIONS] = {
     [ENCODE] = 4,

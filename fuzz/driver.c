@@ -86,6 +86,7 @@ static int report(void)
         [WAV] = "read_wav",
         [STEREO] = "encode_stereo_frame",
         [LINE] = "encode_line",
+        [HEADER_BACK] = "read_header",
     };
     int missing = 0;
     uint32_t some = 0;

@@ -212,6 +212,60 @@ uint32_t __wrap_hca_write_header(const uint32_t *layout, size_t layout_len, cons
     return number;
 }
 
+/* ---- the header reader */
+
+extern __typeof__(hca_read_header) __real_hca_read_header;
+
+/* The number that it would answer with one byte as it was meant: a fault that lets that byte pass. */
+static uint32_t passed(const uint8_t *header, size_t at, uint8_t byte, uint32_t *layout, uint32_t *answer)
+{
+    uint8_t other[96];
+    memcpy(other, header, 96);
+    other[at] = byte;
+    uint16_t check = __real_hca_checksum(other, 94);
+    other[94] = (uint8_t)(check >> 8), other[95] = (uint8_t)check;
+    return __real_hca_read_header(other, 96, layout, 7, answer, 8);
+}
+
+uint32_t __wrap_hca_read_header(const uint8_t *header, size_t header_len, uint32_t *layout, size_t layout_len, uint32_t *answer,
+                                size_t answer_len)
+{
+    uint32_t number = __real_hca_read_header(header, header_len, layout, layout_len, answer, answer_len);
+    if (is_fault("header-back-takes-any-group") && number == 28)
+        number = passed(header, 37, (uint8_t)((header[34] - header[35] - header[36] + 7) / 8), layout, answer);
+    if (is_fault("header-back-not-to-93") && number == 29)
+        number = passed(header, 93, 0, layout, answer);
+    if (is_fault("header-back-fields-before-names") && number == 27 && header[12] > 8)
+        number = 28;
+    if (is_fault("header-back-minimum-above-maximum") && number == 28 && header[30] > header[31])
+        number = passed(header, 30, header[31], layout, answer);
+    if (is_fault("header-back-in-the-order-of-the-bytes") && number == 0) {
+        uint32_t delay = answer[5];
+        answer[5] = answer[6];
+        answer[6] = delay;
+    }
+    if (is_fault("header-back-loop-without-one") && number == 0 && answer[3] == 0)
+        answer[7] = 1;
+    if (is_fault("header-back-base-for-stereo") && number == 0) {
+        uint32_t base = layout[1];
+        layout[1] = layout[2];
+        layout[2] = base;
+    }
+    if (is_fault("header-back-writes-the-mode") && number == 0 && layout_len > 7)
+        layout[7] = 0;
+    if (is_fault("header-back-writes-past-the-answer") && number == 0 && answer_len > 8)
+        answer[8] = 0;
+    if (is_fault("refusal-28-writes-the-layout") && number == 28)
+        layout[0] = header[12] ^ 0x100;
+    if (is_fault("refusal-26-leaves-the-answer") && number == 26)
+        answer[0] = 7;
+    if (is_fault("header-back-short-answer-written") && number == 2 && answer_len > 0 && answer_len < 8)
+        answer[0] ^= 1;
+    if (is_fault("header-back-reads-past-the-header") && number == 2 && header_len < 96)
+        sink = header[header_len];
+    return number;
+}
+
 /* ---- the list */
 
 extern __typeof__(hca_list_write) __real_hca_list_write;

@@ -9,6 +9,10 @@
 enum {
     SHORT_SLICE = 2,
     BAD_FILE_HEADER = 16,
+    WRONG_FILE_CHECK = 26,
+    WRONG_FILE_NAME = 27,
+    BAD_FILE_FIELD = 28,
+    FILE_NOT_ZERO = 29,
     BAD_MARK = 19,
     BAD_LENGTH = 20,
     BAD_ENTRY = 21,
@@ -40,6 +44,7 @@ void put_number(uint8_t *to, uint64_t value, unsigned width);
 uint64_t number_near(struct source *s, uint64_t limit, uint32_t past);
 
 void hostile_header(struct source *s);
+void hostile_header_back(struct source *s);
 void hostile_list(struct source *s);
 void hostile_wav(struct source *s);
 

@@ -10,7 +10,7 @@ cd "$(dirname "$0")"
 lib=${HCA_LIB_DIR:-../target/library}/libhca.a
 out=../target/fuzz
 shared="calls.c checked.c choices.c lend.c rules.c"
-shared="$shared files.c header.c"
+shared="$shared files.c header.c header_back.c"
 shared="$shared list.c"
 shared="$shared wav.c"
 shared="$shared stereo.c"
@@ -22,7 +22,7 @@ fi
 mkdir -p "$out"
 flags="-std=c99 -O2 -g -Wall -Wextra -Werror"
 wrap=-Wl,--wrap=hca_encode_frame,--wrap=hca_write_record,--wrap=hca_read_frame,--wrap=hca_checksum
-wrap=$wrap,--wrap=hca_write_header
+wrap=$wrap,--wrap=hca_write_header,--wrap=hca_read_header
 wrap=$wrap,--wrap=hca_list_write,--wrap=hca_list_read,--wrap=hca_list_lookup,--wrap=hca_list_summary
 wrap=$wrap,--wrap=hca_read_wav
 wrap=$wrap,--wrap=hca_encode_stereo_frame

@@ -26,6 +26,7 @@ static void say(void)
     printf(", hca_read_wav %zu", most[WAV]);
     printf(", hca_encode_stereo_frame %zu", most[STEREO]);
     printf(", hca_encode_line %zu", most[LINE]);
+    printf(", hca_read_header %zu", most[HEADER_BACK]);
     printf("\n");
 }
 
@@ -121,6 +122,19 @@ uint32_t __wrap_hca_write_header(const uint32_t *layout, size_t layout_len, cons
     uint32_t number = __real_hca_write_header(layout, layout_len, kinds, kinds_len, stream, stream_len, points, points_len, header,
                                               header_len);
     look(here, HEADER);
+    return number;
+}
+
+extern __typeof__(hca_read_header) __real_hca_read_header;
+
+uint32_t __wrap_hca_read_header(const uint8_t *header, size_t header_len, uint32_t *layout, size_t layout_len, uint32_t *answer,
+                                size_t answer_len)
+{
+    uint8_t *here;
+    STACK_POINTER(here);
+    paint(here);
+    uint32_t number = __real_hca_read_header(header, header_len, layout, layout_len, answer, answer_len);
+    look(here, HEADER_BACK);
     return number;
 }
 

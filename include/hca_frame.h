@@ -8,6 +8,7 @@
    hca_write_record   a record                            -> its frame
    hca_checksum       bytes                               -> their check
    hca_write_header   layout, rate, count, padding, loop  -> the 96 bytes in front of a file's frames
+   hca_read_header    the first 96 bytes of a file        -> its layout without kinds, rate, count, padding and loop
    hca_read_wav       a WAV file                          -> its samples, exact, and their level note
    hca_list_write     the stage's answers of a line       -> the list beside its frames
    hca_list_read      a list                              -> its entries; hca_list_lookup: one; hca_list_summary: the worst
@@ -74,6 +75,7 @@ extern "C" {
    hca_read_frame                5     C                               C x 1024 C x 128 C x 8      F                            4
    hca_write_header              5     C                                                              stream 3, points 0 or 2,
                                                                                                       header 96
+   hca_read_header               7                                                                    header 96                 8
    hca_read_wav                                                                                       samples of the file,      4
                                                                                                       note 2
    hca_list_write                                                                                     entries 4n, list 9 + 8n
@@ -122,8 +124,8 @@ enum hca_stream {
 };
 enum { HCA_HEADER_SIZE = 96 };
 
-/* answer: at least HCA_ANSWER_COUNT places, for each call that has one (hca_list_summary: HCA_SUMMARY_COUNT). In each enum of places
-   *_COUNT is a length that suffices, and no index.
+/* answer: at least HCA_ANSWER_COUNT places, for each call that has one (hca_list_summary: HCA_SUMMARY_COUNT, which is 3;
+   hca_read_header: HCA_FILE_COUNT, which is 8). In each enum of places *_COUNT is a length that suffices, and no index.
    Where a call delivered, the first places hold the numbers of its enum below, and the places after them stay as they were.
    Where it refused, answer[0] holds the number beside the refusal, and the other places stay as they were.
    An answer of fewer places is refusal 2 (after 1; before all others where there is no layout) and stays as it was. */
@@ -161,6 +163,21 @@ enum hca_record {
     HCA_RECORD_COUNT = 4        /* places that their answer needs; the fourth stays as it was */
 };
 
+/* What hca_read_header delivers beside the layout. The loop's four numbers are in this order, which is not that of the bytes; each is
+   0 where there is no loop. The points in samples of the input, as hca_write_header takes them, are in 64 bits
+   start = 1024 x frame + delay - 128 and end = 1024 x (end frame + 1) - padding - 128. */
+enum hca_file {
+    HCA_FILE_RATE = 0,          /* samples a second: 1 to 0x7FFFFF */
+    HCA_FILE_FRAMES = 1,        /* how many frames the header says, any; the call does not see whether they follow */
+    HCA_FILE_PADDING = 2,       /* samples of padding behind the last one: 0 to 65,535 */
+    HCA_FILE_LOOP = 3,          /* 1 for a loop, else 0 */
+    HCA_FILE_LOOP_FRAME = 4,    /* the frame where the loop starts: 0 to 4,194,303 */
+    HCA_FILE_LOOP_DELAY = 5,    /* samples of that frame before the start: 0 to 1,023 */
+    HCA_FILE_LOOP_END_FRAME = 6,    /* the frame where it ends: 0 to 4,194,303 */
+    HCA_FILE_LOOP_PADDING = 7,  /* samples of that frame behind the end: 0 to 1,023 */
+    HCA_FILE_COUNT = 8          /* how many numbers it delivers, and places that its answer needs */
+};
+
 /* What hca_read_wav delivers, and its note. */
 enum hca_take {
     HCA_TAKE_CHANNELS = 0,      /* as the file has them, 0 too */
@@ -196,9 +213,9 @@ enum hca_summary {
    The stereo stage refuses in the order 1, 2, 3, 4, 17, 5, 7 and leaves spectra and intensities as mixed after 5 and 7.
    A line's 18 comes between 1 and 2 and changes nothing; what its frames leave is said at hca_encode_line.
    The stage refuses in the order 1, 2, 3, 4, 5, 7, the writer 1, 2, 15, 7, the reader 1, 2, 8, 9, then the first fault in bit
-   order, 14 last, the file header's writer 1, 2, 16. The list's writer refuses in the order 2, 21, its reader 19, 20, 2, 21, the
-   lookup 19, 20, 21, 31, the summary 19, 20, 21. 6 and 10 are withdrawn and come from no call. A later version may add further
-   numbers. */
+   order, 14 last, the file header's writer 1, 2, 16, its reader 2, 26, 27, 28, 29. The list's writer refuses in the order 2, 21,
+   its reader 19, 20, 2, 21, the lookup 19, 20, 21, 31, the summary 19, 20, 21. 6 and 10 are withdrawn and come from no call. A later
+   version may add further numbers. */
 enum hca_refusal {
     HCA_OK = 0,             /* delivered */
     HCA_BAD_LAYOUT = 1,     /* layout outside its limits, a wrong pair of resolutions or a mode above 1 among them, under five
@@ -228,6 +245,10 @@ enum hca_refusal {
     HCA_NO_DATA = 23,       /* no data chunk found, or one whose size is 0; beside: 0 */
     HCA_BAD_DEPTH = 24,     /* samples of other than 16, 24 or 32 bits; beside: 0 */
     HCA_NOT_FINITE = 25,    /* a 32-bit float sample is NaN or infinite; beside: 0 */
+    HCA_WRONG_HEADER_CHECK = 26, /* bytes 94 and 95 are not the check of the 94 before them: damaged, or no header; beside: 0 */
+    HCA_WRONG_HEADER_NAME = 27, /* a chunk's name or the version is another than the writer writes, a masked name too; beside: 0 */
+    HCA_BAD_HEADER_FIELD = 28,  /* a field that the writer writes so for no layout and stream; beside: 0 */
+    HCA_HEADER_NOT_ZERO = 29,   /* a byte is not 0 where the writer stores nothing; beside: 0 */
     HCA_TOO_MANY = 30,      /* more than 16,777,216 whole samples; beside: 0 */
     HCA_NO_FRAME = 31       /* a lookup not below the count, of a good list; beside: 0 */
 };
@@ -265,6 +286,10 @@ static inline const char *hca_refusal_text(uint32_t refusal)
     case HCA_NO_DATA: return "the file has no data chunk, or an empty one";
     case HCA_BAD_DEPTH: return "samples have neither 16, 24 nor 32 bits";
     case HCA_NOT_FINITE: return "a float sample is NaN or infinite";
+    case HCA_WRONG_HEADER_CHECK: return "the header's check is wrong: damaged bytes, or no HCA file";
+    case HCA_WRONG_HEADER_NAME: return "a name or the version of the header is another than the writer writes";
+    case HCA_BAD_HEADER_FIELD: return "a field of the header is one that the writer never writes";
+    case HCA_HEADER_NOT_ZERO: return "the header is not 0 where the writer stores nothing";
     case HCA_TOO_MANY: return "the file has more than 16,777,216 samples";
     case HCA_NO_FRAME: return "the list has no frame of this number";
     default: return "a refusal that this header does not know";
@@ -378,6 +403,19 @@ uint32_t hca_write_header(
                                                            to 4,294,967,167; later ones are not looked at. Exactly one is
                                                            refusal 2 */
     uint8_t *header, size_t header_len);                /* written: 96 bytes, HCA_HEADER_SIZE */
+
+/* The file header back: accepts exactly what hca_write_header writes, byte for byte, and hands back what it was made from, but for the
+   kinds, which no header carries. Looks at the first 96 bytes; the frames may follow. Refuses with 2, 26, 27, 28 or 29, in this order and
+   each in a pass over the whole header: 2 for fewer than 96 bytes or a layout or an answer with too few places, 26 for the check, 27
+   for names and version, 28 for fields, judged against one another too, 29 for what the writer leaves 0. At a refusal layout stays as it
+   was, and answer but for answer[0], which is 0; an answer of fewer than 8 places stays as it was.
+   The seven numbers are those that hca_read_frame takes, with kinds of the caller's: 1 to 8 channels, and never refusal 1. Decoders
+   derive the kinds as is said at hca_write_header. */
+uint32_t hca_read_header(
+    const uint8_t *header, size_t header_len,           /* read: 96 bytes, HCA_HEADER_SIZE; a whole file may be lent */
+    uint32_t *layout, size_t layout_len,                /* written: 7 numbers, HCA_LAYOUT_FULL_COUNT, see enum hca_layout; those behind
+                                                           them stay as they were */
+    uint32_t *answer, size_t answer_len);               /* written: 8 places or more, HCA_FILE_COUNT, see enum hca_file */
 
 /* The WAV reader: a take's samples, exact, and their level note. Refuses with 2, 22, 23, 24, 30, 2 or 25 in this order: a
    note or an answer with too few places comes first. At a refusal samples and note stay as they were.

@@ -58,11 +58,13 @@ static void files(void)
     static const uint8_t wav[52] = {'R', 'I', 'F', 'F', 0, 0, 0, 0, 'W', 'A', 'V', 'E', 'f', 'm', 't', ' ', 16, 0, 0, 0, 1, 0, 1, 0,
         0, 32, 0, 0, 0, 64, 0, 0, 2, 0, 16, 0, 'd', 'a', 't', 'a', 8};
     const uint64_t stream[HCA_STREAM_COUNT] = {48000, 1, 0};
+    uint32_t handed[HCA_LAYOUT_FULL_COUNT], file[HCA_FILE_COUNT];
     uint32_t take[HCA_TAKE_COUNT], entries[HCA_LIST_ENTRIES_LENGTH(1)], answer[HCA_ANSWER_COUNT], entry[HCA_ENCODED_COUNT];
     uint64_t summary[HCA_SUMMARY_COUNT];
     float note[HCA_NOTE_COUNT];
     delivers("hca_write_header", hca_write_header(layout, HCA_LAYOUT_COUNT, kinds, 1, stream, HCA_STREAM_COUNT, NULL, 0, header,
         HCA_HEADER_SIZE));
+    delivers("hca_read_header", hca_read_header(header, HCA_HEADER_SIZE, handed, HCA_LAYOUT_FULL_COUNT, file, HCA_FILE_COUNT));
     delivers("hca_read_wav", hca_read_wav(wav, sizeof wav, samples, 4, note, HCA_NOTE_COUNT, take, HCA_TAKE_COUNT));
     if (take[HCA_TAKE_SAMPLES] != 4) {
         printf("hca_read_wav: other samples than four\n");

@@ -6,7 +6,7 @@ here=$(cd "$(dirname "$0")/.." && pwd)
 program=${1:-$here/target/hcaframe}
 case $program in /*) ;; *) program=$(pwd)/$program ;; esac
 [ $# -eq 0 ] || shift
-[ $# -ne 0 ] || set -- words encode read write check header wav list convert bank resolutions modes inputs outputs streams limits
+[ $# -ne 0 ] || set -- words encode read write check header inspect wav list convert bank resolutions modes inputs outputs streams limits
 work=$(mktemp -d)
 trap 'rm -rf "$work"' EXIT
 . "$here/scripts/hcaframe/common.sh"

@@ -3,7 +3,7 @@ use std::env;
 use std::path::PathBuf;
 use std::process::Command;
 
-const SOURCES: &[&str] = &["model.cpp", "header.cpp", "list.cpp", "wav.cpp", "stereo.cpp", "line.cpp"];
+const SOURCES: &[&str] = &["model.cpp", "header.cpp", "header_back.cpp", "list.cpp", "wav.cpp", "stereo.cpp", "line.cpp"];
 
 fn run(command: &mut Command) {
     let status = command.status().unwrap_or_else(|e| panic!("{command:?}: {e}"));

@@ -244,6 +244,9 @@ pub enum LayoutError {
     /// The lowest resolution is below 1 or above the highest, or that is above 15.
     #[allow(missing_docs)]
     Resolutions { minimum: u32, maximum: u32 },
+    /// Another number of kinds than the header has channels; [`FileHeader::layout`](crate::FileHeader::layout) alone gives it.
+    #[allow(missing_docs)]
+    Kinds { given: usize, channels: usize },
 }
 
 impl fmt::Display for LayoutError {
@@ -258,6 +261,7 @@ impl fmt::Display for LayoutError {
             LayoutError::Resolutions { minimum, maximum } => {
                 write!(f, "resolutions from {minimum} to {maximum}; they are within 1 to 15, the minimum at most the maximum")
             }
+            LayoutError::Kinds { given, channels } => write!(f, "kinds for {given} channels; the header has {channels}"),
         }
     }
 }

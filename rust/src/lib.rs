@@ -2,7 +2,7 @@
 //!
 //! An [`Encoder`] turns the spectra of one frame into the frame's bytes, and
 //! [`read_frame`] and [`write_record`] go from a frame to its record and back.
-//! [`write_header`] makes the 96 bytes in front of a file's frames.
+//! [`write_header`] makes the 96 bytes in front of a file's frames, and [`read_header`] reads them back.
 //! [`read_wav`] takes a WAV file's samples with their level note.
 //! [`write_list`] makes the list beside a line's frames, which says where it was starved.
 //! The library refuses what it cannot do by number; see [`Refusal`].
@@ -69,7 +69,7 @@ pub mod raw;
 mod refusal;
 mod wav;
 
-pub use file_header::{write_header, Stream, HEADER_SIZE};
+pub use file_header::{read_header, write_header, FileHeader, LoopFrames, Stream, HEADER_SIZE};
 pub use layout::{Kind, Layout, LayoutBuilder, LayoutError, Mode};
 pub use line::{LineRefusal, Tally};
 pub use list::{list_entry, list_summary, read_list, write_list, Summary};

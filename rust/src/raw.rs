@@ -17,7 +17,7 @@ mod stereo;
 mod version;
 mod wav;
 
-pub use file_header::write_header;
+pub use file_header::{read_header, write_header};
 pub use frame::{checksum, encode_frame};
 pub use line::encode_line;
 pub(crate) use line::numbers_of;

@@ -60,6 +60,14 @@ impl Refusal {
     pub const BAD_DEPTH: u32 = 24;
     /// A float sample is NaN or infinite.
     pub const NOT_FINITE: u32 = 25;
+    /// The check of a file header is wrong: damaged bytes, or no header; `place` is 0, as in all of a header's.
+    pub const WRONG_HEADER_CHECK: u32 = 26;
+    /// A chunk's name or the version is another than the writer writes.
+    pub const WRONG_HEADER_NAME: u32 = 27;
+    /// A field of a header that the writer writes so for no layout and stream.
+    pub const BAD_HEADER_FIELD: u32 = 28;
+    /// A header is not 0 where the writer stores nothing.
+    pub const HEADER_NOT_ZERO: u32 = 29;
     /// The file has more than 16,777,216 whole samples.
     pub const TOO_MANY: u32 = 30;
     /// A lookup of a frame that the list does not have.
@@ -128,6 +136,14 @@ pub enum RefusalKind {
     BadDepth,
     /// [`Refusal::NOT_FINITE`].
     NotFinite,
+    /// [`Refusal::WRONG_HEADER_CHECK`].
+    WrongHeaderCheck,
+    /// [`Refusal::WRONG_HEADER_NAME`].
+    WrongHeaderName,
+    /// [`Refusal::BAD_HEADER_FIELD`].
+    BadHeaderField,
+    /// [`Refusal::HEADER_NOT_ZERO`].
+    HeaderNotZero,
     /// [`Refusal::TOO_MANY`].
     TooMany,
     /// [`Refusal::NO_FRAME`].
@@ -169,6 +185,10 @@ impl Refusal {
             Self::NO_DATA => RefusalKind::NoData,
             Self::BAD_DEPTH => RefusalKind::BadDepth,
             Self::NOT_FINITE => RefusalKind::NotFinite,
+            Self::WRONG_HEADER_CHECK => RefusalKind::WrongHeaderCheck,
+            Self::WRONG_HEADER_NAME => RefusalKind::WrongHeaderName,
+            Self::BAD_HEADER_FIELD => RefusalKind::BadHeaderField,
+            Self::HEADER_NOT_ZERO => RefusalKind::HeaderNotZero,
             Self::TOO_MANY => RefusalKind::TooMany,
             Self::NO_FRAME => RefusalKind::NoFrame,
             _ => RefusalKind::Unknown,
@@ -208,6 +228,10 @@ impl fmt::Display for Refusal {
             Self::NO_DATA => write!(f, "the file has no data chunk, or an empty one"),
             Self::BAD_DEPTH => write!(f, "samples have neither 16, 24 nor 32 bits"),
             Self::NOT_FINITE => write!(f, "a float sample is NaN or infinite"),
+            Self::WRONG_HEADER_CHECK => write!(f, "the header's check is wrong: the bytes were damaged, or are no header"),
+            Self::WRONG_HEADER_NAME => write!(f, "a name or the version of the header is another than the writer writes"),
+            Self::BAD_HEADER_FIELD => write!(f, "a field of the header is one that the writer never writes"),
+            Self::HEADER_NOT_ZERO => write!(f, "the header is not 0 where the writer stores nothing"),
             Self::TOO_MANY => write!(f, "the file has more than 16,777,216 samples"),
             Self::NO_FRAME => write!(f, "the list has no frame of this number"),
             _ => write!(f, "unknown to this crate, with {at} beside it"),

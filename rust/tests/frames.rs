@@ -177,11 +177,11 @@ fn the_check_of_a_known_text() {
 
 #[test]
 fn every_number_has_a_text() {
-    for number in (1..=25).chain([30, 31]).filter(|n| ![6, 10].contains(n)) {
+    for number in (1..=31).filter(|n| ![6, 10].contains(n)) {
         let text = Refusal::new(number, 3).to_string();
         assert!(text.starts_with(&format!("refusal {number}: ")) && text.len() > 30, "{text}");
     }
-    for number in [6, 10, 26, 99] {
+    for number in [6, 10, 32, 99] {
         assert!(Refusal::new(number, 3).to_string().contains("unknown"));
     }
 }
@@ -213,6 +213,10 @@ fn every_number_has_its_kind() {
         (23, RefusalKind::NoData),
         (24, RefusalKind::BadDepth),
         (25, RefusalKind::NotFinite),
+        (26, RefusalKind::WrongHeaderCheck),
+        (27, RefusalKind::WrongHeaderName),
+        (28, RefusalKind::BadHeaderField),
+        (29, RefusalKind::HeaderNotZero),
         (30, RefusalKind::TooMany),
         (31, RefusalKind::NoFrame),
         (0, RefusalKind::Unknown),

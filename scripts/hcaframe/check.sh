@@ -19,7 +19,8 @@ good
 for command in check read; do
     status 2 "$command of a whole HCA file" $command $layout --frames whole.hca
     says err 'whole.hca is a whole HCA file, with a header of 96 bytes'
-    says err 'take them out with tail -c +97 FILE'
+    says err 'read and check take the whole file by --hca FILE'
+    says err 'tail -c +97 FILE takes the frames out'
     good
     want=2 name="$command of a whole HCA file as a stream"
     cat whole.hca | "$program" $command $layout --frames - >out 2>err

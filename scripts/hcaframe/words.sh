@@ -2,13 +2,13 @@
 # -- help
 for word in --help -h help; do
     status 0 "help by $word" $word
-    for command in encode read write check header wav list convert bank; do says out "usage: hcaframe $command"; done
+    for command in encode read write check header inspect wav list convert bank; do says out "usage: hcaframe $command"; done
     says out 'Status: 0 all is well'
     says out 'FILE.tmp-NUMBER'
     says out 'A closed pipe ends the text, not the work.'
     good
 done
-for command in encode read write check header wav list convert bank; do
+for command in encode read write check header inspect wav list convert bank; do
     status 0 "help of $command" "$command" --help
     says out "usage: hcaframe $command"
     good

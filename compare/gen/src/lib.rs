@@ -4,6 +4,7 @@ pub mod bands;
 pub mod convert;
 pub mod corners;
 pub mod header;
+pub mod header_back;
 pub mod limits;
 pub mod line;
 pub mod list;

@@ -8,6 +8,10 @@ include!("../../calls/header.rs");
 
 header_call!(model_write_header);
 
+include!("../../calls/header_back.rs");
+
+header_back_call!(model_read_header);
+
 include!("../../calls/list.rs");
 
 list_calls!(model_list_write, model_list_read, model_list_lookup, model_list_summary);

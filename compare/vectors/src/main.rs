@@ -1,6 +1,7 @@
 //! Writes the fixed vectors of VECTORS.md: `vectors FOLDER`. With `--check FOLDER`
 //! it writes nothing and says whether the files there are these.
 mod header;
+mod header_back;
 mod limits;
 mod line;
 mod list;
@@ -293,6 +294,7 @@ fn main() {
         ("stage", stage_file()),
         ("records", record_file()),
         ("header", header::file()),
+        ("header-back", header_back::file()),
         ("list", list::file()),
         ("wav", wav::file()),
         ("stereo", stereo::file()),

@@ -1,1 +1,2 @@
 mod Headers
+mod Readings

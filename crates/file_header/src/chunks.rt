@@ -16,7 +16,7 @@ use rules_files::header::Stream;
 const CHANNEL_MAPPING: [u8; 9] = [0, 1, 0, 4, 0, 1, 3, 7, 3];
 
 // The channel configuration of one track.
-fn channel_config(channels: usize) -> u8
+pub fn channel_config(channels: usize) -> u8
     requires { ⌜ channels ≤ 8 ⌝ }
     ensures { λ r. ⌜ r ≡ channelConfig channels ⌝ }
 {

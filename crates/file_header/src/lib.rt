@@ -1,9 +1,15 @@
-// The file header: 96 bytes in front of the frames, written into a lent buffer.
+// The file header: 96 bytes in front of the frames, written into a lent buffer, and read back.
 
 // Loop points as the fields of the loop chunk.
 pub mod loop_points;
 // The chunks, each put into the 96 bytes.
 pub mod chunks;
+// Whether a number of a header's, and a loop, are right: what its passes share.
+pub mod numbers_at;
+// The three passes over a header that is sealed: names, fields, the rest.
+pub mod judging;
+// The reader's call, the layout and the stream back.
+pub mod reading;
 
 ghost use mathlib.Core.Path.{_≡_};
 ghost use lib.ListN.{length};

@@ -1,1 +1,2 @@
 pub mod RoundTrips
+pub mod HeaderCalls

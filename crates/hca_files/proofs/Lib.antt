@@ -1,5 +1,6 @@
 -- header
 mod HeaderStores
+mod HeaderTakings
 -- lists
 mod ListRefusing
 mod ListStoring

@@ -1,5 +1,6 @@
 -- header
 pub mod WriteHeader
+pub mod HeaderTaken
 -- lists
 pub mod Lists
 -- wavs

@@ -1,6 +1,6 @@
 -- Request A1, **File header**: the 96 bytes in front of the frames, by byte offset; and its writer's whole call.
 use mathlib.Core.List.{List, [], _∷_, _++_}
-use mathlib.Core.Bool.{Bool, true, cond, not, _&&_}
+use mathlib.Core.Bool.{Bool, true, false, cond, not, _&&_}
 use Prim.Native.Nat.{ℕ, _+_, _-_, _/_, _%_, _≤_}
 use lib.Dec.{eqb, leb, ltb}
 use lib.ListN.{length, getD}
@@ -20,6 +20,10 @@ use Rattle.rules_files.specs.declared.header.HeaderAnswer.the-variants a
 
 abbrev pub headerSize : ℕ
 headerSize = 96
+
+-- what the check stands behind
+abbrev pub bodySize : ℕ
+bodySize = 94
 
 -- the encoder's delay, and the samples of a frame
 abbrev pub encoderDelay : ℕ
@@ -74,42 +78,127 @@ pub record Piece : Type 0 where
 abbrev pub piece : (offset width value : ℕ) → Piece
 piece offset width value = record { offset = offset; width = width; value = value }
 
+-- each piece by its name, so that the reader has its place from here too
+
+abbrev pub hcaName : Piece
+hcaName = piece 0 4 0x48434100
+
+abbrev pub versionPiece : Piece
+versionPiece = piece 4 2 0x0200
+
+abbrev pub sizePiece : Piece
+sizePiece = piece 6 2 headerSize
+
+abbrev pub formatName : Piece
+formatName = piece 8 4 0x666D7400
+
+abbrev pub channelsPiece : (channels : ℕ) → Piece
+channelsPiece channels = piece 12 1 channels
+
+abbrev pub ratePiece : (rate : ℕ) → Piece
+ratePiece rate = piece 13 3 rate
+
+abbrev pub countPiece : (frames : ℕ) → Piece
+countPiece frames = piece 16 4 frames
+
+abbrev pub delayPiece : Piece
+delayPiece = piece 20 2 encoderDelay
+
+abbrev pub paddingPiece : (padding : ℕ) → Piece
+paddingPiece padding = piece 22 2 padding
+
+abbrev pub compressionName : Piece
+compressionName = piece 24 4 0x636F6D70
+
+abbrev pub frameSizePiece : (size : ℕ) → Piece
+frameSizePiece size = piece 28 2 size
+
+abbrev pub minimumPiece : (minimum : ℕ) → Piece
+minimumPiece minimum = piece 30 1 minimum
+
+abbrev pub maximumPiece : (maximum : ℕ) → Piece
+maximumPiece maximum = piece 31 1 maximum
+
+abbrev pub trackPiece : Piece
+trackPiece = piece 32 1 1
+
+abbrev pub configPiece : (config : ℕ) → Piece
+configPiece config = piece 33 1 config
+
+abbrev pub totalPiece : (total : ℕ) → Piece
+totalPiece total = piece 34 1 total
+
+abbrev pub basePiece : (base : ℕ) → Piece
+basePiece base = piece 35 1 base
+
+abbrev pub stereoPiece : (stereo : ℕ) → Piece
+stereoPiece stereo = piece 36 1 stereo
+
+abbrev pub perGroupPiece : (perGroup : ℕ) → Piece
+perGroupPiece perGroup = piece 37 1 perGroup
+
+abbrev pub loopName : Piece
+loopName = piece 40 4 0x6C6F6F70
+
+abbrev pub startFramePiece : (frame : ℕ) → Piece
+startFramePiece frame = piece 44 4 frame
+
+abbrev pub endFramePiece : (frame : ℕ) → Piece
+endFramePiece frame = piece 48 4 frame
+
+abbrev pub startDelayPiece : (delay : ℕ) → Piece
+startDelayPiece delay = piece 52 2 delay
+
+abbrev pub endPaddingPiece : (padding : ℕ) → Piece
+endPaddingPiece padding = piece 54 2 padding
+
+-- P: where the next chunk stands, with a loop and without
+abbrev pub tailAt : (looped : Bool) → ℕ
+tailAt looped = cond looped 56 40
+
+abbrev pub cipherName : (at : ℕ) → Piece
+cipherName at = piece at 4 0x63697068
+
+abbrev pub cipherPiece : (at : ℕ) → Piece
+cipherPiece at = piece (at + 4) 2 0
+
+abbrev pub padName : (at : ℕ) → Piece
+padName at = piece (at + 6) 4 0x70616400
+
 -- HCA\0, version, header size
 abbrev pub magicPieces : List Piece
-magicPieces = piece 0 4 0x48434100 ∷ piece 4 2 0x0200 ∷ piece 6 2 headerSize ∷ []
+magicPieces = hcaName ∷ versionPiece ∷ sizePiece ∷ []
 
 -- fmt\0, channels, sample rate; frame count, delay, padding
 abbrev pub formatPieces : (channels : ℕ) (st : Stream) → List Piece
 formatPieces channels st =
-    piece 8 4 0x666D7400 ∷ piece 12 1 channels ∷ piece 13 3 (st .rate)
-    ∷ piece 16 4 (st .frames) ∷ piece 20 2 encoderDelay ∷ piece 22 2 (st .padding) ∷ []
+    formatName ∷ channelsPiece channels ∷ ratePiece (st .rate) ∷ countPiece (st .frames) ∷ delayPiece ∷ paddingPiece (st .padding) ∷ []
 
 -- comp, frame size, minimum and maximum resolution, track count
 abbrev pub framePieces : (l : Layout) → List Piece
-framePieces l = piece 24 4 0x636F6D70 ∷ piece 28 2 (frameSize l) ∷ piece 30 1 (l .minimum) ∷ piece 31 1 (l .maximum) ∷ piece 32 1 1 ∷ []
+framePieces l = compressionName ∷ frameSizePiece (frameSize l) ∷ minimumPiece (l .minimum) ∷ maximumPiece (l .maximum) ∷ trackPiece ∷ []
 
 -- channel configuration; total, base, stereo, bands per group
 abbrev pub bandPieces : (l : Layout) → List Piece
 bandPieces l =
-    piece 33 1 (channelConfig (l .channels)) ∷ piece 34 1 (l .total) ∷ piece 35 1 (l .base) ∷ piece 36 1 (l .stereo) ∷ piece 37 1 (bandsPerGroup l) ∷ []
+    configPiece (channelConfig (l .channels)) ∷ totalPiece (l .total) ∷ basePiece (l .base) ∷ stereoPiece (l .stereo) ∷ perGroupPiece (bandsPerGroup l) ∷ []
 
 -- only with a loop: loop, start frame, end frame, start delay, end padding
 abbrev pub fieldPieces : (f : LoopFields) → List Piece
 fieldPieces f =
-    piece 40 4 0x6C6F6F70 ∷ piece 44 4 (f .«start_frame») ∷ piece 48 4 (f .«end_frame») ∷ piece 52 2 (f .delay) ∷ piece 54 2 (f .padding) ∷ []
+    loopName ∷ startFramePiece (f .«start_frame») ∷ endFramePiece (f .«end_frame») ∷ startDelayPiece (f .delay) ∷ endPaddingPiece (f .padding) ∷ []
 
 unfoldable pub loopPieces : (points : LoopPoints) → List Piece
 loopPieces Absent = []
 loopPieces (Given start end) = fieldPieces (loopFields start end)
 
--- P: where the next chunk stands
 unfoldable pub afterLoop : (points : LoopPoints) → ℕ
-afterLoop Absent = 40
-afterLoop (Given start end) = 56
+afterLoop Absent = tailAt false
+afterLoop (Given start end) = tailAt true
 
 -- ciph, type 0, pad\0
 abbrev pub tailPieces : (at : ℕ) → List Piece
-tailPieces at = piece at 4 0x63697068 ∷ piece (at + 4) 2 0 ∷ piece (at + 6) 4 0x70616400 ∷ []
+tailPieces at = cipherName at ∷ cipherPiece at ∷ padName at ∷ []
 
 abbrev pub piecesWith : (l : Layout) (st : Stream) (points : LoopPoints) → List Piece
 piecesWith l st points =
@@ -135,7 +224,7 @@ headerByte l st i = byteOf (pieces l st) i 0
 
 -- 94 bytes, and the check of these behind them
 unfoldable pub headerOf : (l : Layout) (st : Stream) → List ℕ
-headerOf l st = sealed (build (headerByte l st) 94)
+headerOf l st = sealed (build (headerByte l st) bodySize)
 
 -- the pieces put over a list, one after the other: what each part of the writer does
 unfoldable pub stamped : (ps : List Piece) (s : List ℕ) → List ℕ

@@ -1,4 +1,4 @@
-// What the file header is made from, and what its writer answers.
+// What the file header is made from, and what its writer and its reader answer.
 
 // A loop's start and end in samples of the input, before the delay is added; or none.
 pub enum LoopPoints {
@@ -27,4 +27,35 @@ pub enum HeaderAnswer {
     BadLayout,
     ShortBuffer,
     BadHeader,
+}
+
+// A loop as the header's reader hands it out: frame, delay, end frame, padding. This is not the order of the bytes.
+pub enum LoopFrames {
+    Absent,
+    Given(u64, u64, u64, u64),
+}
+
+// What a header says: the layout without its kinds, and the stream with the loop as it stands there.
+pub struct FileHeader {
+    pub channels: usize,
+    pub base: usize,
+    pub stereo: usize,
+    pub total: usize,
+    pub frame_size: usize,
+    pub minimum: usize,
+    pub maximum: usize,
+    pub rate: u64,
+    pub frames: u64,
+    pub padding: u64,
+    pub points: LoopFrames,
+}
+
+// What the header's reader answers: the fields, or a refusal.
+pub enum HeaderReadAnswer {
+    Read(FileHeader),
+    ShortBuffer,
+    WrongCheck,
+    WrongName,
+    BadField,
+    NotZero,
 }

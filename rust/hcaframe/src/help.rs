@@ -5,7 +5,7 @@ use std::fmt::Write;
 /// What all commands do, in short.
 const COMMANDS: &str = "\
 encode makes frames from spectra, read tells what frames hold, write makes frames from records,
-check tells which frames are good, header makes the header of an HCA file or the whole file,
+check tells which frames are good, header makes the header of an HCA file or the whole file, inspect tells what a header says,
 wav reads a WAV file, list tells what a list of frames holds, convert makes an HCA file of a WAV file, bank makes one of
 each WAV file in a folder. More: hcaframe COMMAND --help; hcaframe --version
 ";
@@ -32,7 +32,7 @@ before a refusal stays written.
 An output is a new file or takes the place of a regular file, never of a link, a folder or a device, and none of the
 call's files may be another one of them. It is written as FILE.tmp-NUMBER, the process's or the next free one, and takes
 its name, with the mode of a new file, when it is whole. A run that is ended from outside can leave FILE.tmp-NUMBER behind.
-Status: 0 all is well, 1 a frame, a record, a WAV file or a list was refused, 2 the words or a file were wrong.
+Status: 0 all is well, 1 a frame, a record, a header, a WAV file or a list was refused, 2 the words or a file were wrong.
 A closed pipe ends the text, not the work. Where standard output is full or closed, the status is 2, and what is whole is said.
 ";
 
@@ -70,6 +70,10 @@ fn purpose(command: Command) -> &'static str {
             "Makes the header of an HCA file, 96 bytes; with --frames the whole file. A header has at most 8 channels. It carries\n\
              no kinds: decoders derive them, so the layout's kinds are D for one channel; with stereo bands PS, PSD, PSPS, PSDPS,\n\
              PSDDPS, PSDDPSD and PSDDPSPS for 2 to 8 channels; without them D for each.\n"
+        }
+        Command::Inspect => {
+            "Reads the header of an HCA file strictly and tells its fields, a loop as frames and as samples of the input. Taken is\n\
+             what hcaframe header and convert write, and nothing else. A header carries no kinds; those that decoders derive are told.\n"
         }
         Command::Wav => {
             "Reads a WAV file of up to 1073741824 bytes and tells its channels, rate, depth and samples, and the peak and the mean\n\
@@ -158,13 +162,19 @@ pub fn usage(command: Option<Command>) -> String {
         return format!("usage: hcaframe {} .. ; hcaframe --help\n", words.join(" | "));
     };
     let mut line = format!("usage: hcaframe {}", command.word());
-    if command.takes_layout() {
+    let is_whole = Name::Hca.of_command(command).is_some();
+    if is_whole {
+        line.push_str(" (LAYOUT --frames FILE | --hca FILE [--kinds KINDS])");
+    } else if command.takes_layout() {
         line.push_str(" LAYOUT");
     }
     if let Some(name) = command.bare() {
         let _ = write!(line, " [{}] FILE", name.word());
     }
-    for row in OPTIONS.iter().filter(|row| !is_in_layout(command, row.name) && command.bare() != Some(row.name)) {
+    let is_said = |name| {
+        is_in_layout(command, name) || command.bare() == Some(name) || (is_whole && [Name::Frames, Name::Hca].contains(&name))
+    };
+    for row in OPTIONS.iter().filter(|row| !is_said(row.name)) {
         if let Some(text) = row.of(command).and_then(|one| piece(command, row, one)) {
             let _ = write!(line, " {text}");
         }
@@ -221,11 +231,12 @@ mod tests {
         let all: String = Command::ALL.iter().map(|&command| usage(Some(command))).collect();
         let expected = "\
 usage: hcaframe encode LAYOUT (--spectra FILE | --unmixed FILE) [--intensities FILE] --out FILE [--list FILE] [--allow-empty] [--quiet]
-usage: hcaframe read LAYOUT --frames FILE [--records FILE] [--allow-empty] [--quiet]
+usage: hcaframe read (LAYOUT --frames FILE | --hca FILE [--kinds KINDS]) [--records FILE] [--allow-empty] [--quiet]
 usage: hcaframe write LAYOUT --records FILE --out FILE [--allow-empty] [--quiet]
-usage: hcaframe check LAYOUT --frames FILE [--allow-empty] [--quiet]
+usage: hcaframe check (LAYOUT --frames FILE | --hca FILE [--kinds KINDS]) [--allow-empty] [--quiet]
 usage: hcaframe header LAYOUT --rate N --count N --padding N [--loop-start N --loop-end N] [--any-kinds] \
 [--frames FILE [--unchecked]] --out FILE [--quiet]
+usage: hcaframe inspect [--kinds KINDS --layout-out FILE] [--mode rust|held] --in FILE [--quiet]
 usage: hcaframe wav --in FILE [--samples FILE] [--quiet]
 usage: hcaframe list --list FILE [--frame N] [--svg FILE [--frame-size N]] [--quiet]
 usage: hcaframe convert [--in] FILE --bitrate N [--minimum N] [--maximum N] [--mode rust|held] [--loop-start N --loop-end N] \

@@ -66,8 +66,9 @@ pub fn not_whole_hca(name: &str, head: &[u8]) -> Result<(), Stop> {
     }
     let n = u32::from(u16::from_be_bytes([head[6], head[7]]));
     Err(Stop::wrong(format_args!(
-        "{name} is a whole HCA file, with a header of {n} bytes; hcaframe takes the frames alone.\n\
-         hcaframe: take them out with tail -c +{} FILE; the layout's numbers stand in the header.",
+        "{name} is a whole HCA file, with a header of {n} bytes; --frames takes the frames alone.\n\
+         hcaframe: read and check take the whole file by --hca FILE, and hcaframe inspect --in FILE tells its layout;\n\
+         hcaframe: tail -c +{} FILE takes the frames out.",
         n + 1
     )))
 }
@@ -110,6 +111,8 @@ pub struct Blocks {
     pub size: usize,
     /// As many as the file had when it was opened.
     pub known: Option<u64>,
+    /// Said by a header, and not by the file's length.
+    pub is_counted: bool,
     /// As many as were read.
     pub done: u64,
 }
@@ -125,7 +128,12 @@ impl Blocks {
                 n % size as u64
             )));
         }
-        Ok(Blocks { input, size, known, done: 0 })
+        Ok(Blocks { input, size, known, is_counted: false, done: 0 })
+    }
+
+    /// Those behind a header that has been read: exactly as many as it says.
+    pub fn counted(input: Input, size: usize, count: u64) -> Blocks {
+        Blocks { input, size, known: Some(count), is_counted: true, done: 0 }
     }
 
     /// Reads as many blocks as the buffer has room for; says how many, and what follows them.
@@ -163,6 +171,10 @@ impl Blocks {
             (Rest::Unknown, _) => Ok(true),
             (Rest::End, None) => Ok(false),
             (Rest::End, Some(all)) if self.done == all => Ok(false),
+            (Rest::End | Rest::Cut(_) | Rest::Grown, Some(all)) if self.is_counted => Err(Stop::wrong(format_args!(
+                "{name}: its header counts {all} frames of {} bytes, and it has another size",
+                self.size
+            ))),
             (Rest::End | Rest::Cut(_), Some(all)) => {
                 Err(Stop::wrong(format_args!("{name}: {} of {all} frames; it became shorter while it was read", self.done)))
             }

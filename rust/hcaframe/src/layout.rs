@@ -93,6 +93,16 @@ pub fn side_count(layout: &Layout, channel: usize) -> usize {
     }
 }
 
+/// The kinds of the letters that decoders derive.
+pub fn derived(channels: usize, stereo_bands: usize) -> Vec<Kind> {
+    let kind = |letter: char| match letter {
+        'P' => Kind::StereoPrimary,
+        'S' => Kind::StereoSecondary,
+        _ => Kind::Discrete,
+    };
+    derived_kinds(channels, stereo_bands).chars().map(kind).collect()
+}
+
 /// A letter a channel.
 pub fn letters(kinds: &[Kind]) -> String {
     let letter = |kind: &Kind| match kind {
@@ -124,6 +134,7 @@ mod tests {
         assert_eq!(derived_kinds(8, 9), "PSDDPSPS");
         for channels in 2..=8 {
             assert_eq!(derived_kinds(channels, 3).len(), channels);
+            assert_eq!(letters(&super::derived(channels, 3)), derived_kinds(channels, 3));
         }
     }
 

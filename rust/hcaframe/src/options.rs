@@ -1,5 +1,5 @@
 //! The commands and their options. One table: the parser and the help are both made from it.
-use Command::{Bank, Check, Convert, Encode, Header, List, Read, Wav, Write};
+use Command::{Bank, Check, Convert, Encode, Header, Inspect, List, Read, Wav, Write};
 use Need::{Either, Needed, Optional, With};
 use Value::{Folder, Input, Kinds, Nothing, Number, Output, Shard};
 
@@ -11,6 +11,7 @@ pub enum Command {
     Write,
     Check,
     Header,
+    Inspect,
     Wav,
     List,
     Convert,
@@ -18,7 +19,7 @@ pub enum Command {
 }
 
 impl Command {
-    pub const ALL: [Command; 9] = [Encode, Read, Write, Check, Header, Wav, List, Convert, Bank];
+    pub const ALL: [Command; 10] = [Encode, Read, Write, Check, Header, Inspect, Wav, List, Convert, Bank];
 
     pub fn word(self) -> &'static str {
         match self {
@@ -27,6 +28,7 @@ impl Command {
             Write => "write",
             Check => "check",
             Header => "header",
+            Inspect => "inspect",
             Wav => "wav",
             List => "list",
             Convert => "convert",
@@ -61,6 +63,7 @@ pub enum Name {
     Total,
     FrameSize,
     Layout,
+    LayoutOut,
     Spectra,
     Unmixed,
     Intensities,
@@ -77,6 +80,7 @@ pub enum Name {
     In,
     Samples,
     Frames,
+    Hca,
     Unchecked,
     Records,
     Out,
@@ -146,8 +150,12 @@ const FRAMES: &[Command] = &[Encode, Read, Write, Check, Header];
 
 // The words of a layout have a text of their own in the help.
 #[rustfmt::skip]
-pub const OPTIONS: [Row; 34] = [
-    row(Name::Kinds, "--kinds", &[taken(FRAMES, Kinds, Needed, "")]),
+pub const OPTIONS: [Row; 36] = [
+    row(Name::Kinds, "--kinds", &[
+        taken(FRAMES, Kinds, Needed, ""),
+        taken(&[Inspect], Kinds, With(Name::LayoutOut),
+            "a letter a channel, and the file that takes them with the header's numbers, as the words of a layout"),
+    ]),
     row(Name::Base, "--base", &[taken(FRAMES, Number, Needed, "")]),
     row(Name::Stereo, "--stereo", &[taken(FRAMES, Number, Needed, "")]),
     row(Name::Total, "--total", &[taken(FRAMES, Number, Needed, "")]),
@@ -156,6 +164,7 @@ pub const OPTIONS: [Row; 34] = [
         taken(&[List], Number, With(Name::Svg), "bytes of a frame, 8 to 65535"),
     ]),
     row(Name::Layout, "--layout", &[taken(FRAMES, Input, Optional, "")]),
+    row(Name::LayoutOut, "--layout-out", &[taken(&[Inspect], Output, With(Name::Kinds), "")]),
     row(Name::Spectra, "--spectra", &[
         taken(&[Encode], Input, Either(Name::Unmixed),
             "f32, low byte first, frame after frame: channel, subframe, band (channels x 8 x 128)"),
@@ -185,6 +194,7 @@ pub const OPTIONS: [Row; 34] = [
     ]),
     row(Name::Mode, "--mode", &[
         taken(FRAMES, Value::Mode, Optional, ""),
+        taken(&[Inspect], Value::Mode, Optional, "the mode for --layout-out, rust or held; a header does not say it"),
         taken(&[Convert, Bank], Value::Mode, Optional,
             "rust: bytes as of the published encoder, the default; held: no code leaves its range, so that frames decode as they were\n\
              meant. The file does not say which"),
@@ -199,15 +209,21 @@ pub const OPTIONS: [Row; 34] = [
     ]),
     row(Name::In, "--in", &[
         taken(&[Wav, Convert], Input, Needed, "a WAV file with samples of 16, 24 or 32 bits; those of 32 bits are floats"),
+        taken(&[Inspect], Input, Needed, "an HCA file, or its header alone; what follows the first 96 bytes is not looked at"),
         taken(&[Bank], Folder, Needed, "each file below it whose name ends with .wav, in letters of any case, is a take"),
     ]),
     row(Name::Samples, "--samples", &[
         taken(&[Wav], Output, Optional, "the samples in the file's order: f32, low byte first"),
     ]),
     row(Name::Frames, "--frames", &[
-        taken(&[Read, Check], Input, Needed, "frames, one after the other"),
+        taken(&[Read, Check], Input, Either(Name::Hca), "frames, one after the other"),
         taken(&[Header], Input, Optional,
             "the frames behind the header, one after the other, as many as --count says; each is read strictly"),
+    ]),
+    row(Name::Hca, "--hca", &[
+        taken(&[Read, Check], Input, Either(Name::Frames),
+            "in place of LAYOUT and --frames: a whole HCA file, its header and exactly the frames that it counts. Of the layout's\n\
+             words --kinds alone is taken; without it the kinds are those that decoders derive"),
     ]),
     row(Name::Unchecked, "--unchecked", &[
         taken(&[Header], Nothing, With(Name::Frames), "the frames are not read, but taken as they stand"),
@@ -260,6 +276,11 @@ impl Name {
     /// How the command takes it, if it does.
     pub fn of_command(self, command: Command) -> Option<&'static Use> {
         OPTIONS[self as usize].uses.iter().find(|one| one.by.contains(&command))
+    }
+
+    /// Is it said by the header of a whole HCA file?
+    pub fn is_in_header(self) -> bool {
+        self == Name::Layout || (self.is_of_layout() && !matches!(self, Name::Kinds | Name::Mode))
     }
 
     /// Is it of the eight that say a layout, and may stand in a layout file?

@@ -314,8 +314,13 @@ fn spelt_kinds(word: &[u8]) -> Result<Vec<Kind>, &'static str> {
 
 /// Everything that the command needs must be there, and nothing without what belongs to it.
 fn complete(options: &Options) -> Result<(), Stop> {
+    let is_whole = options.is_given(Name::Hca);
     for row in &OPTIONS {
+        if is_whole && row.name.is_in_header() && options.is_given(row.name) {
+            return Err(options.fault(row.name, " is given, and --hca in its place too"));
+        }
         let is_needed = row.name.of_command(options.command).is_some_and(|one| one.need == Need::Needed);
+        let is_needed = is_needed && !(is_whole && row.name.is_of_layout());
         if is_needed && !options.is_given(row.name) {
             let is_bare = row.name.is_of_layout() && !options.is_given(Name::Layout);
             let more = if is_bare { "; a file with the words of a layout is --layout FILE" } else { "" };

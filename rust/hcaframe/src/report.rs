@@ -30,6 +30,10 @@ pub fn refusal(told: Refusal) -> String {
         23 => format!("refusal {number}: it has no data chunk, or an empty one"),
         24 => format!("refusal {number}: its samples are not of 16, 24 or 32 bits"),
         25 => format!("refusal {number}: a sample is NaN or infinite"),
+        26 => format!("refusal {number}: the header's check is wrong: damaged bytes, or no HCA file"),
+        27 => format!("refusal {number}: a name or the version in the header is another than the writer's"),
+        28 => format!("refusal {number}: a field of the header is one that the writer never writes"),
+        29 => format!("refusal {number}: the header is not 0 where the writer stores nothing"),
         30 => format!("refusal {number}: it has more than 16777216 samples"),
         31 => format!("refusal {number}: it has no such frame"),
         _ => format!("refusal {number}: unknown"),
@@ -136,7 +140,7 @@ mod tests {
 
     #[test]
     fn refusals_have_texts() {
-        for number in [1, 2, 3, 4, 5, 7, 8, 9, 11, 12, 13, 14, 15, 16, 17, 19, 20, 21, 22, 23, 24, 25, 30, 31] {
+        for number in [1, 2, 3, 4, 5, 7, 8, 9, 11, 12, 13, 14, 15, 16, 17, 19, 20, 21, 22, 23, 24, 25, 26, 27, 28, 29, 30, 31] {
             assert!(!refusal(Refusal::new(number, 0)).contains("unknown"), "{number}");
         }
         assert_eq!(refused_frame(2, Refusal::new(4, 9)), "frame 2: refusal 4 at 9: a spectrum value is NaN or infinite\n");

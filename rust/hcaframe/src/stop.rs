@@ -12,7 +12,7 @@ pub struct Stop {
 }
 
 impl Stop {
-    /// A frame, a record, a WAV file or a list was refused; the lines are whole.
+    /// A frame, a record, a header, a WAV file or a list was refused; the lines are whole.
     pub fn refused(text: String) -> Stop {
         Stop { status: 1, text }
     }

@@ -1,4 +1,4 @@
-//! The file header's C function.
+//! The file header's C functions.
 
 mod c {
     extern "C" {
@@ -13,6 +13,14 @@ mod c {
             points_len: usize,
             header: *mut u8,
             header_len: usize,
+        ) -> u32;
+        pub fn hca_read_header(
+            header: *const u8,
+            header_len: usize,
+            layout: *mut u32,
+            layout_len: usize,
+            answer: *mut u32,
+            answer_len: usize,
         ) -> u32;
     }
 }
@@ -35,5 +43,14 @@ pub fn write_header(layout: &[u32], kinds: &[u8], stream: &[u64], points: &[u64]
             header.as_mut_ptr(),
             header.len(),
         )
+    }
+}
+
+/// The file header back. `layout` takes its seven numbers, `answer` rate, frame count, padding, 1 for a loop, and the loop's
+/// frame, delay, end frame and padding; it needs eight places.
+pub fn read_header(header: &[u8], layout: &mut [u32], answer: &mut [u32]) -> u32 {
+    // SAFETY: as above; the borrows keep the two written slices apart.
+    unsafe {
+        c::hca_read_header(header.as_ptr(), header.len(), layout.as_mut_ptr(), layout.len(), answer.as_mut_ptr(), answer.len())
     }
 }

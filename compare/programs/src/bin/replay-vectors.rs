@@ -1,6 +1,8 @@
 //! Replays the fixed vectors of VECTORS.md on the library: `replay-vectors FILE..`.
 #[path = "replay-vectors/header.rs"]
 mod header;
+#[path = "replay-vectors/header_back.rs"]
+mod header_back;
 #[path = "replay-vectors/line.rs"]
 mod line;
 #[path = "replay-vectors/list.rs"]
@@ -125,6 +127,7 @@ fn replay(file: &[u8]) -> (u32, Vec<u32>) {
             10 => wav::replay(&mut b),
             11 | 111 => stereo::replay(&mut b, numbers),
             12 | 112 => line::replay(&mut b, numbers),
+            13 => header_back::replay(&mut b),
             _ => panic!("case {k} is of no kind"),
         };
         good && b.0.is_empty()

@@ -34,7 +34,7 @@ pub fn each_frame(
     loop {
         let (count, rest) = frames.read(&mut bytes);
         for frame in bytes.chunks_exact(frames.size).take(count) {
-            if done == 0 {
+            if done == 0 && !frames.is_counted {
                 not_whole_hca("the input", frame)?;
             }
             tell(text, done, read_frame_into(layout, frame, &mut record), &record)?;
@@ -52,6 +52,11 @@ pub fn each_frame(
 pub fn run(options: &Options, layout: &Layout, text: &mut Text) -> Result<Ended, Stop> {
     let mut files = Files::new(options, text);
     let frames = frames_of(&mut files, layout)?;
+    tell(options, layout, text, files, frames)
+}
+
+/// Tells what the frames hold, wherever they come from.
+pub fn tell(options: &Options, layout: &Layout, text: &mut Text, mut files: Files, frames: Blocks) -> Result<Ended, Stop> {
     files.inputs_are_apart()?;
     files.output(Name::Records)?;
     let mut outputs = files.outputs();

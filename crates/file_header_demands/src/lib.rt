@@ -1,0 +1,1 @@
+// The theorems of the file header there and back; no code.
