@@ -6,10 +6,10 @@ use mathlib.Core.List.{List, [], _∷_, _++_}
 use lib.Dec.{eqb}
 use lib.ListN.{length, getD, take, drop, replicate}
 
-abbrev pub odd : ℕ → Bool
-odd n = eqb (n % 2) 1
+abbrev pub odd : (number : ℕ) → Bool
+odd number = eqb (number % 2) 1
 
-abbrev pub digit : Bool → ℕ
+abbrev pub digit : (bit : Bool) → ℕ
 digit false = 0
 digit true = 1
 
@@ -19,12 +19,12 @@ bits zero number = []
 bits (suc k) number = odd (number / 2 ^ k) ∷ bits k number
 
 -- the number whose bits these are, high bit first
-unfoldable pub value : List Bool → ℕ
+unfoldable pub value : (bs : List Bool) → ℕ
 value [] = 0
 value (b ∷ bs) = digit b * 2 ^ length bs + value bs
 
 -- the bits of a list of bytes, the first byte's high bit first
-unfoldable pub bitsOf : List ℕ → List Bool
+unfoldable pub bitsOf : (s : List ℕ) → List Bool
 bitsOf [] = []
 bitsOf (b ∷ s) = bits 8 b ++ bitsOf s
 
@@ -34,13 +34,13 @@ pack zero bs = []
 pack (suc n) bs = value (take 8 bs) ∷ pack n (drop 8 bs)
 
 -- each number is a byte
-abbrev pub Bytes : List ℕ → Type 0
+abbrev pub Bytes : (s : List ℕ) → Type 0
 Bytes [] = Unit {0}
 Bytes (b ∷ s) = (b < 256) × Bytes s
 
--- n zero bits
-abbrev pub zeros : ℕ → List Bool
-zeros n = replicate n false
+-- so many zero bits
+abbrev pub zeros : (count : ℕ) → List Bool
+zeros count = replicate count false
 
 -- the three bytes of s from byte i on as one number, a byte past the end being 0
 unfoldable pub wordAt : (s : List ℕ) (i : ℕ) → ℕ

@@ -1,6 +1,7 @@
-// Clearing of lent buffers.
+// Clearing of lent buffers; the lesser of two numbers.
 ghost use mathlib.Core.Path.{_≡_};
 ghost use mathlib.Core.Bool.{false};
+ghost use Prim.Native.Nat.{min};
 ghost use lib.IntN.{pos};
 ghost use lib.Ieee.{fin};
 ghost use lib.ListN.{length, replicate};
@@ -34,4 +35,10 @@ pub fn clear_i32(s: &mut [i32])
         s[k] = 0;
         k += 1;
     }
+}
+
+pub fn lesser(a: usize, b: usize) -> usize
+    ensures { λ r. ⌜ r ≡ min a b ⌝ }
+{
+    if a < b { a } else { b }
 }

@@ -14,5 +14,5 @@ divisor =
     ∷ false ∷ false ∷ false ∷ false ∷ false ∷ true ∷ false ∷ true ∷ []
 
 -- the checksum of a list of bytes. Their bits are taken high bit first, and nothing stands before them: the start is 0
-unfoldable pub checksum : List ℕ → ℕ
-checksum m = value (remainder divisor (bitsOf m ++ zeros 16))
+unfoldable pub checksum : (message : List ℕ) → ℕ
+checksum message = value (remainder divisor (bitsOf message ++ zeros 16))

@@ -30,7 +30,7 @@ scale b [] = []
 scale b (c ∷ p) = (b && c) ∷ scale b p
 
 -- the degree of a polynomial whose leading coefficient is not 0
-abbrev pub degree : Poly → ℕ
+abbrev pub degree : (d : Poly) → ℕ
 degree [] = 0
 degree (a ∷ d) = length d
 

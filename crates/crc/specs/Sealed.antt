@@ -8,17 +8,17 @@ use lib.ListN.{length, getD, take}
 use Rattle.crc.specs.Check.{checksum}
 
 -- what stands before the last two bytes
-abbrev pub body : List ℕ → List ℕ
-body f = take (length f - 2) f
+abbrev pub body : (frame : List ℕ) → List ℕ
+body frame = take (length frame - 2) frame
 
 -- the check of a body in two bytes, the high byte first
-abbrev pub check : List ℕ → List ℕ
-check m = checksum m / 256 ∷ checksum m % 256 ∷ []
+abbrev pub check : (message : List ℕ) → List ℕ
+check message = checksum message / 256 ∷ checksum message % 256 ∷ []
 
 -- a body with its check behind it
-abbrev pub sealed : List ℕ → List ℕ
-sealed m = m ++ check m
+abbrev pub sealed : (message : List ℕ) → List ℕ
+sealed message = message ++ check message
 
 -- are the last two bytes the check of the body?
-unfoldable pub isSealed : List ℕ → Bool
-isSealed f = eqb (getD f (length f - 2) 0 * 256 + getD f (length f - 1) 0) (checksum (body f))
+unfoldable pub isSealed : (frame : List ℕ) → Bool
+isSealed frame = eqb (getD frame (length frame - 2) 0 * 256 + getD frame (length frame - 1) 0) (checksum (body frame))

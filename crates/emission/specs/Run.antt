@@ -61,9 +61,9 @@ pub record Joined (a b r : Piece) : Type 0 where
 
 -- words in as many bits as their lengths say
 abbrev pub fieldBits : (lengths words : List ℕ) → List Bool
-fieldBits [] ws = []
-fieldBits (l ∷ ls) [] = []
-fieldBits (l ∷ ls) (w ∷ ws) = bits l w ++ fieldBits ls ws
+fieldBits [] words = []
+fieldBits (length ∷ lengths) [] = []
+fieldBits (length ∷ lengths) (word ∷ words) = bits length word ++ fieldBits lengths words
 
 -- the first n of them fit
 abbrev pub AllFit : (m : ℕ) (lengths words : List ℕ) (n : ℕ) → Type 0

@@ -9,12 +9,12 @@ use Rattle.rules.specs.Refusals.{Outcome, delivered, refused}
 use Rattle.rules.specs.Lent.{overwrite}
 
 -- what is returned: 0 for a delivery
-unfoldable pub resultOf : Outcome → ℕ
+unfoldable pub resultOf : (o : Outcome) → ℕ
 resultOf (delivered ns) = 0
 resultOf (refused number beside) = number
 
 -- what stands at the front of the answer
-unfoldable pub numbersOf : Outcome → List ℕ
+unfoldable pub numbersOf : (o : Outcome) → List ℕ
 numbersOf (delivered ns) = ns
 numbersOf (refused number beside) = beside ∷ []
 

@@ -25,7 +25,7 @@ pub record Filled (part : List ℕ) (x : Option ℕ) (r : Fill) : Type 0 where
   pub within : FillEnds part r
 
 -- what is found after the last code, by the fill: a frame's bit is the part's and the sync's 16
-abbrev pub FillIn : Fill → Type 0
+abbrev pub FillIn : (r : Fill) → Type 0
 FillIn fill.Zero = Unit {0}
 FillIn (fill.One b) = b ≤ 8 * 65535
 

@@ -22,7 +22,7 @@ abbrev pub headRead : (s : List ℕ) (rest : (level boundary : ℕ) → Reader R
 headRead s rest (head.Of level boundary q) = rest level boundary (leftAt s (q .at))
 headRead s rest (head.Refused f) = refusal s f
 
-abbrev pub headPlace : Head → ℕ
+abbrev pub headPlace : (r : Head) → ℕ
 headPlace (head.Of level boundary q) = q .at
 headPlace (head.Refused f) = faultBit f
 

@@ -16,12 +16,12 @@ pub record Inside (s : List ℕ) (at : ℕ) : Type 0 where
   pub short : length s ≤ 65535
 
 -- **Refusal numbers**: the number of a refusal, and the bit that it names
-abbrev pub faultNumber : Fault → ℕ
+abbrev pub faultNumber : (f : Fault) → ℕ
 faultNumber (fault.BadWidth bit) = 11
 faultNumber (fault.BadFactor bit) = 12
 faultNumber (fault.PastEnd bit) = 13
 
-abbrev pub faultBit : Fault → ℕ
+abbrev pub faultBit : (f : Fault) → ℕ
 faultBit (fault.BadWidth bit) = bit
 faultBit (fault.BadFactor bit) = bit
 faultBit (fault.PastEnd bit) = bit
@@ -34,7 +34,7 @@ abbrev pub stepRead : {A : Type 0} → (s : List ℕ) (stored : A) (r : Step) �
 stepRead s stored (step.At q) = ok stored (leftAt s (q .at))
 stepRead s stored (step.Refused f) = refusal s f
 
-abbrev pub stepPlace : Step → ℕ
+abbrev pub stepPlace : (r : Step) → ℕ
 stepPlace (step.At q) = q .at
 stepPlace (step.Refused f) = faultBit f
 

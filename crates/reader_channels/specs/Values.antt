@@ -21,7 +21,7 @@ abbrev pub valueRead : (s : List ℕ) (r : Value) → Read ℕ
 valueRead s (value.Of v q) = ok v (leftAt s (q .at))
 valueRead s (value.Refused f) = refusal s f
 
-abbrev pub valuePlace : Value → ℕ
+abbrev pub valuePlace : (r : Value) → ℕ
 valuePlace (value.Of v q) = q .at
 valuePlace (value.Refused f) = faultBit f
 
@@ -35,7 +35,7 @@ pub record ValueAgrees (s : List ℕ) (x : Read ℕ) (bound : ℕ) (r : Value) :
   pub small : valueBelow bound r
 
 -- an answer without its value
-abbrev pub valueless : Value → Step
+abbrev pub valueless : (r : Value) → Step
 valueless (value.Of v q) = step.At q
 valueless (value.Refused f) = step.Refused f
 

@@ -20,11 +20,11 @@ abbrev pub wordBits : (r : ℕ) → ℕ
 wordBits r = getD maxBitTable r 0
 
 -- the code that was read, and the bits left after it
-abbrev pub codeOfRead : Read ℤ → ℤ
+abbrev pub codeOfRead : (x : Read ℤ) → ℤ
 codeOfRead (ok c t) = c
 codeOfRead (bad n l) = pos 0
 
-abbrev pub leftOfRead : Read ℤ → List Bool
+abbrev pub leftOfRead : (x : Read ℤ) → List Bool
 leftOfRead (ok c t) = t
 leftOfRead (bad n l) = []
 

@@ -1,21 +1,16 @@
 // Document 01, **Estimate**, from one boundary to a higher one: only the bands that it passes change their noise, so that the others are not summed again.
 ghost use mathlib.Core.Path.{_≡_};
-ghost use Prim.Native.Nat.{_+_, _*_, _≤_, _<_, min};
+ghost use Prim.Native.Nat.{_+_, _*_, _≤_, _<_};
 ghost use lib.ListN.{length};
 ghost use Rattle.buffers.specs.Walk.{AtMost};
 ghost use Rattle.rules.specs.Layout.{LegalLayout, frameSize, spectrumLength, factorLength};
 ghost use Rattle.rules.specs.Estimate.{channelBits, usedBits};
 ghost use Rattle.resolutions.specs.Stretched.{IsStretched};
 ghost use Rattle.band_counts.specs.Counts.{ChannelCounted, Counted};
+use buffers::lesser;
 use estimate::band_bits;
 use layouts::coded_count;
 use rules::Layout;
-
-fn smaller(a: usize, b: usize) -> usize
-    ensures { λ r. ⌜ r ≡ min a b ⌝ }
-{
-    if b < a { b } else { a }
-}
 
 // What the bands that were passed take at the finer noise, and what they took at the level's.
 struct Change {
@@ -41,7 +36,7 @@ fn channel_change(
     ensures { λ r. ⌜ (channelBits layout (now (scaled .entry)) (now (factors .entry)) coded level to + r .fall
         ≡ channelBits layout (now (scaled .entry)) (now (factors .entry)) coded level from + r .rise) × (r .rise ≤ 12288) × (r .fall ≤ 12288) ⌝ }
 {
-    let end = smaller(to, coded);
+    let end = lesser(to, coded);
     let finer = level - 1;
     let mut rise: usize = 0;
     let mut fall: usize = 0;

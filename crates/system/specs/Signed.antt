@@ -2,6 +2,6 @@
 use lib.IntN.{ℤ, pos, negsuc}
 
 -- the number whose bits are those of z, each turned over
-abbrev pub flipped : ℤ → ℤ
+abbrev pub flipped : (z : ℤ) → ℤ
 flipped (pos n) = negsuc n
 flipped (negsuc n) = pos n

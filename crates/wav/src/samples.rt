@@ -4,23 +4,18 @@ pub mod values;
 
 ghost use mathlib.Core.Path.{_≡_};
 ghost use mathlib.Core.Bool.{true};
-ghost use Prim.Native.Nat.{_+_, _*_, _≤_, min};
+ghost use Prim.Native.Nat.{_+_, _*_, _≤_};
 ghost use lib.ListN.{length};
 ghost use Rattle.buffers.specs.Walk.{build};
 ghost use Rattle.rules_files.specs.Wav.{isDepth, sampleWidth, wholeSamples, sampleAt, allFinite, noteOf};
 ghost use Rattle.wav.specs.Inside.{SamplesInside};
+use buffers::lesser;
 use crate::samples::loudness::Loudness;
 use crate::samples::values::is_finite_pattern;
 use crate::samples::values::sample;
 use numbers::low::get_low;
 use rules_files::wav::LevelNote;
 use rules_files::wav::WavData;
-
-fn lesser(a: usize, b: usize) -> usize
-    ensures { λ r. ⌜ r ≡ min a b ⌝ }
-{
-    if a < b { a } else { b }
-}
 
 pub fn is_depth(depth: usize) -> bool
     ensures { λ r. ⌜ r ≡ isDepth depth ⌝ }

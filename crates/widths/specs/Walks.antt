@@ -16,7 +16,7 @@ pub record EachWidth (P : ℕ → ℕ → Type 0) (l : Lengths) : Type 0 where
   pub five : P 5 (l .five)
 
 -- a factor more, of at most 11 bits, makes no length longer than 9 + 11 x 127
-abbrev pub Short : Lengths → Type 0
+abbrev pub Short : (l : Lengths) → Type 0
 Short l = EachWidth (λ (d m : ℕ). m ≤ 9 + 11 * 126) l
 
 -- a later band: d bits if its delta is near, else an escape and 6 bits

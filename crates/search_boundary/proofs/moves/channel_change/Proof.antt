@@ -27,8 +27,8 @@ module _ (x y z rise fall coarse fine b : ℕ) (even : x + fall ≡ y + rise) (p
 coded-band : (b to coded end : ℕ) → b < end → end ≡ min to coded → b < coded
 coded-band b to coded end h e = omega arith
 
-smaller-requires : tie.Need-smaller-requires Inv-loop μ-loop
-smaller-requires c κs = search needs
+lesser-requires : tie.Need-lesser-requires Inv-loop μ-loop
+lesser-requires c κs = search needs
 
 sub-finer : tie.Need-sub-finer Inv-loop μ-loop
 sub-finer c = search needs
@@ -43,7 +43,7 @@ band-bits-requires : tie.Need-band-bits-requires Inv-loop μ-loop
 band-bits-requires c κs =
     let s = c .before .before .before .before .before .before in
     let b = c .before .before .loop .b in (
-      (s .pre .0 .0, s .pre .0 .1 b (coded-band _ _ _ _ (c .before .loop-test .taken) (c .before .before .before .smaller .ensures))),
+      (s .pre .0 .0, s .pre .0 .1 b (coded-band _ _ _ _ (c .before .loop-test .taken) (c .before .before .before .lesser .ensures))),
       (s .pre .1 .0 .0, search needs, s .pre .0 .2 b, search needs),
     )
 
@@ -54,7 +54,7 @@ band-bits-requires-2 : tie.Need-band-bits-requires-2 Inv-loop μ-loop
 band-bits-requires-2 c κs =
     let s = c .before .before .before .before .before .before .before in
     let b = c .before .before .before .loop .b in (
-      (s .pre .0 .0, s .pre .0 .1 b (coded-band _ _ _ _ (c .before .before .loop-test .taken) (c .before .before .before .before .smaller .ensures))),
+      (s .pre .0 .0, s .pre .0 .1 b (coded-band _ _ _ _ (c .before .before .loop-test .taken) (c .before .before .before .before .lesser .ensures))),
       (s .pre .1 .0 .0, search needs, s .pre .0 .2 b, search needs),
     )
 
@@ -73,7 +73,7 @@ loop-again c =
     let a = c .before .before .before .before .before .before .before .before .args in
     let b = s .loop .b in
     let i = s .loop .inv in
-    let k = coded-band _ _ _ _ (c .before .before .before .loop-test .taken) (c .before .before .before .before .before .smaller .ensures) in
+    let k = coded-band _ _ _ _ (c .before .before .before .loop-test .taken) (c .before .before .before .before .before .lesser .ensures) in
     let p = passes (a .layout) (a .scaled .now) (a .factors .now) (a .coded) (a .level) b k in
     let turn = changed _ _ _ _ _ _ _ b (i .4) p (i .2) (i .3) _ _ (c .before .band-bits .ensures .0) (c .band-bits2 .ensures .0)
     (c .before .band-bits .ensures .1) (c .band-bits2 .ensures .1) in
@@ -97,7 +97,7 @@ channel-change-spec =
     (tie.spec
     Inv-loop
     μ-loop
-    smaller-requires
+    lesser-requires
     sub-finer
     loop-holds
     shared-slice-read-factor
