@@ -25,7 +25,7 @@ use Rattle.rules_files.specs.FileHeader.{minimumPiece, maximumPiece, trackPiece
 use Rattle.rules_files.specs.FileHeader.{startFramePiece, endFramePiece, startDelayPiece, endPaddingPiece, cipherPiece, channelConfig}
 use Rattle.rules_files.specs.FileHeader.{hcaName, versionPiece, formatName, compressionName, cipherName, padName}
 use Rattle.rules_files.specs.HeaderReading.{fieldAt, allStand, tailOf, loopAt, fieldsOf, layoutWith, limitsRight, givenPieces, loopRight, zeroBytes}
-use Rattle.rules_files.specs.HeaderReading.{namesRight, fieldsRight, restZero, pointsBack, exactRead, headerRead}
+use Rattle.rules_files.specs.HeaderReading.{namesRight, fieldsRight, restZero, pointsBack, exactRead, readHeader}
 use Rattle.rules_files.proofs.HeaderJudging.{stand-append, LoopIs, loop-facts, Limits, legal-any, sizes-any, limits-facts}
 
 -- ---- the numbers
@@ -203,10 +203,10 @@ module _ (h : List ℕ) (a : Bool) (p : a ≡ isSealed h) where
         read-whole w = rw (sym p ∙ not-false a t, sym q ∙ not-false b u, sym r ∙ not-false c v, sym s ∙ not-false d w, k)
 
 module _ (h : List ℕ) where
-  pub read-short : length h < 96 → answers.ShortBuffer ≡ headerRead h
-  unfolding headerRead
+  pub read-short : length h < 96 → answers.ShortBuffer ≡ readHeader h
+  unfolding readHeader
   read-short l = rw (lt-ltb _ _ l)
 
-  pub read-long : 96 ≤ length h → exactRead (take 96 h) ≡ headerRead h
-  unfolding headerRead
+  pub read-long : 96 ≤ length h → exactRead (take 96 h) ≡ readHeader h
+  unfolding readHeader
   read-long l = rw (le-ltb _ _ l)

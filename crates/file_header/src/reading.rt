@@ -1,7 +1,7 @@
 // The file header read back: request A14. Takes any bytes, changes none.
 ghost use mathlib.Core.Path.{_≡_};
 ghost use lib.ListN.{length};
-ghost use Rattle.rules_files.specs.HeaderReading.{pointsBack, streamBack, exactRead, headerRead};
+ghost use Rattle.rules_files.specs.HeaderReading.{pointsBack, streamBack, exactRead, readHeader};
 ghost use Rattle.rules_files.specs.HeaderReadFits.{ReadFits};
 use crate::judging::fields_right;
 use crate::judging::loop_right;
@@ -38,7 +38,7 @@ fn read_exact(header: &[u8]) -> HeaderReadAnswer
 
 // Refusal 2, and those of the first 96 bytes. What stands behind them is not looked at.
 pub fn read_file_header(header: &[u8]) -> HeaderReadAnswer
-    ensures { λ r. ⌜ (r ≡ headerRead (now (header .entry))) × ReadFits r ⌝ }
+    ensures { λ r. ⌜ (r ≡ readHeader (now (header .entry))) × ReadFits r ⌝ }
 {
     if header.len() < 96 {
         return HeaderReadAnswer::ShortBuffer;

@@ -31,7 +31,7 @@ use Rattle.rules_files.specs.FileHeader.{byteOf, pieces, piecesWith, totalPiece
 use Rattle.rules_files.specs.FileHeader.{channelsPiece, ratePiece, countPiece, paddingPiece, frameSizePiece, minimumPiece, maximumPiece}
 use Rattle.rules_files.specs.FileHeader.{loopName, headerByte, headerOf, fitsHeader, writeHeader}
 use Rattle.rules_files.specs.HeaderReading.{numberAt, fieldAt, allStand, looped, tailOf, namePieces, namesRight, loopAt, fieldsOf, layoutWith, limitsRight}
-use Rattle.rules_files.specs.HeaderReading.{givenPieces, fieldsRight, zeroBytes, restZero, streamBack, loopFrames, fieldsFor, exactRead, headerRead}
+use Rattle.rules_files.specs.HeaderReading.{givenPieces, fieldsRight, zeroBytes, restZero, streamBack, loopFrames, fieldsFor, exactRead, readHeader}
 use Rattle.rules_files.proofs.Pieces.{within}
 use Rattle.rules_files.proofs.HeaderFitting.{fits-facts}
 use Rattle.rules_files.proofs.HeaderTheorems.{header-bytes, header-case}
@@ -210,8 +210,8 @@ module _ (l : Layout) (st : Stream) where
     exact-back = rw (header-bytes l st .2, names-written, right-written, rest-written (t .place), fields-written)
 
     -- and so is a longer buffer that begins with them
-    pub laid-back : (rest : List ℕ) → headerRead (h ++ rest) ≡ answers.Read (fieldsFor l st)
-    unfolding headerRead
+    pub laid-back : (rest : List ℕ) → readHeader (h ++ rest) ≡ answers.Read (fieldsFor l st)
+    unfolding readHeader
     laid-back rest =
         let n : length h ≡ 96 = header-bytes l st .0 in
         let k : 96 ≤ length (h ++ rest) = rw (length-append h rest) (omega arith) in
@@ -227,11 +227,11 @@ module _ (l : Layout) (st : Stream) where
 
 -- what the writer delivers is read as its layout's and its stream's fields; with the layout's kinds and mode they give both back
 pub header-back : (l : Layout) (st : Stream) (h : List ℕ) → writeHeader l st h .outcome ≡ delivered []
-    → (headerRead (writeHeader l st h .header) ≡ answers.Read (fieldsFor l st))
+    → (readHeader (writeHeader l st h .header) ≡ answers.Read (fieldsFor l st))
     × (layoutWith (fieldsFor l st) (l .kinds) (l .mode) ≡ l) × (streamBack (fieldsFor l st) ≡ st)
 header-back l st h =
     header-case l st h
-    (λ x. x .outcome ≡ delivered [] → (headerRead (x .header) ≡ answers.Read (fieldsFor l st))
+    (λ x. x .outcome ≡ delivered [] → (readHeader (x .header) ≡ answers.Read (fieldsFor l st))
     × (layoutWith (fieldsFor l st) (l .kinds) (l .mode) ≡ l) × (streamBack (fieldsFor l st) ≡ st))
     (λ _ e. never (sym e)) (λ _ _ e. never (sym e)) (λ _ _ _ e. never (sym e))
     (λ a _ f _. let (x, y) = fields-back l st a f in (laid-back l st a f _, x, y))

@@ -38,7 +38,7 @@ use Rattle.rules_files.specs.FileHeader.{tailAt, afterLoop, tailPieces}
 use Rattle.rules_files.specs.FileHeader.{countPiece, paddingPiece, loopFields, pieces, piecesWith, headerOf, fitsHeader, HeaderLeft, writeHeader}
 use Rattle.rules_files.specs.FileHeader.{startFramePiece, endFramePiece, startDelayPiece, endPaddingPiece}
 use Rattle.rules_files.specs.HeaderReading.{numberAt, fieldAt, allStand, looped, tailOf, namePieces, namesRight, loopAt, fieldsOf, layoutWith, limitsRight}
-use Rattle.rules_files.specs.HeaderReading.{givenPieces, loopRight, fieldsRight, zeroBytes, restZero, pointsBack, streamBack, exactRead, headerRead}
+use Rattle.rules_files.specs.HeaderReading.{givenPieces, loopRight, fieldsRight, zeroBytes, restZero, pointsBack, streamBack, exactRead, readHeader}
 use Rattle.rules_demands.proofs.ReaderExactly.{read-one-exactly}
 use Rattle.rules_files.proofs.HeaderFitting.{fits-true}
 use Rattle.rules_files.proofs.HeaderTheorems.{header-bytes, header-case}
@@ -211,15 +211,15 @@ exact-accepted h f =
     (λ a b c d e. record { closed = a; names = b; right = c; rest = d; fields = cc e })
 
 -- a header that is read has 96 bytes, and those are accepted
-pub read-accepted : (h : List ℕ) (f : FileHeader) → headerRead h ≡ answers.Read f → (96 ≤ length h) × Accepted (take 96 h) f
-unfolding headerRead
+pub read-accepted : (h : List ℕ) (f : FileHeader) → readHeader h ≡ answers.Read f → (96 ≤ length h) × Accepted (take 96 h) f
+unfolding readHeader
 read-accepted h f =
     cond-both (λ a. a ≡ answers.Read f → (96 ≤ length h) × Accepted (take 96 h) f) (ltb (length h) 96)
     (λ _ e. let z : _≡_ {A = ℕ} 0 1 = cc e in absurd (omega arith)) (λ k e. (ltb-false _ _ k, exact-accepted (take 96 h) f e))
 
 -- ---- the theorems
 
-module _ (h : List ℕ) (b : Bytes h) (f : FileHeader) (e : headerRead h ≡ answers.Read f) (kinds : List Channel) (mode : Mode) where
+module _ (h : List ℕ) (b : Bytes h) (f : FileHeader) (e : readHeader h ≡ answers.Read f) (kinds : List Channel) (mode : Mode) where
   -- the layout handed out is legal with any kinds and mode, and has at most eight channels
   pub handed-legal : (legalLayout (layoutWith f kinds mode) ≡ true) × (f .channels ≤ 8)
   unfolding fieldsRight
@@ -257,7 +257,7 @@ module _ (h : List ℕ) (b : Bytes h) (f : FileHeader) (e : headerRead h ≡ ans
 
 pub record IsRead (h : List ℕ) : Type 0 where
   pub fields : FileHeader
-  pub read : headerRead h ≡ answers.Read fields
+  pub read : readHeader h ≡ answers.Read fields
 
 pub record IsWritten (h : List ℕ) : Type 0 where
   pub layout : Layout
@@ -281,4 +281,4 @@ header-accepted h b = (there, back)
     back : IsWritten h → IsRead h
     back w =
         let (r, _, _) = header-back (w .layout) (w .stream) h (ap (λ (x : HeaderLeft). x .outcome) (w .written)) in
-        record { fields = _; read = ap (λ (x : HeaderLeft). headerRead (x .header)) (sym (w .written)) ∙ r }
+        record { fields = _; read = ap (λ (x : HeaderLeft). readHeader (x .header)) (sym (w .written)) ∙ r }

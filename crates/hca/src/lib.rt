@@ -10,7 +10,7 @@ ghost use Rattle.hca_encode.specs.EncodeLine.{cLineLeft, cEncodeLine};
 ghost use Rattle.hca_records.specs.ReadFrame.{cReaderLeft, cReadFrame};
 ghost use Rattle.hca_records.specs.WriteRecord.{cWriterLeft, cWriteRecord};
 ghost use Rattle.hca_files.specs.WriteHeader.{cHeaderLeft, cWriteHeader};
-ghost use Rattle.hca_files.specs.HeaderTaken.{headerTakenAs, headerTook};
+ghost use Rattle.hca_files.specs.ReadHeader.{cHeaderReadLeft, cReadHeader};
 ghost use Rattle.hca_files.specs.ReadWav.{cWavLeft, cReadWav};
 ghost use Rattle.hca_files.specs.Lists.{cListLeft, cWriteList, cEntriesLeft, cReadList, cAnswerLeft, cListEntry, cListSummary};
 ghost use Rattle.hca.specs.Version.{version};
@@ -188,8 +188,8 @@ pub extern "C" fn hca_write_header(
 // The file header back. layout: seven numbers; answer: rate, count, padding, loop or none, frame, delay, end frame, padding of the loop.
 #[no_mangle]
 pub extern "C" fn hca_read_header(header: &[u8], layout: &mut [u32], answer: &mut [u32]) -> u32
-    ensures { λ r. ⌜ headerTakenAs r (now (layout .exit)) (now (answer .exit))
-        ≡ headerTook (now (header .entry)) (now (layout .entry)) (now (answer .entry)) ⌝ }
+    ensures { λ r. ⌜ cHeaderReadLeft r (now (layout .exit)) (now (answer .exit))
+        ≡ cReadHeader (now (header .entry)) (now (layout .entry)) (now (answer .entry)) ⌝ }
 {
     read_header(header, layout, answer)
 }

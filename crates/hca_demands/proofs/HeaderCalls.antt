@@ -20,7 +20,7 @@ use Rattle.rules_files.specs.declared.header.Stream.{Stream}
 use Rattle.rules_files.specs.declared.header.FileHeader.{FileHeader}
 use Rattle.rules_files.specs.declared.header.HeaderReadAnswer.the-variants as answers
 use Rattle.rules_files.specs.FileHeader.{HeaderLeft, writeHeader}
-use Rattle.rules_files.specs.HeaderReading.{pointsBack, loopNumbers, layoutNumbers, loopFrames, headerRead, headerReadOutcome, headerLayout}
+use Rattle.rules_files.specs.HeaderReading.{pointsBack, loopNumbers, layoutNumbers, loopFrames, readHeader, headerReadOutcome, headerLayout}
 use Rattle.rules_files.proofs.HeaderTheorems.{header-case}
 use Rattle.file_header_demands.proofs.Back.{header-back}
 use Rattle.file_header_demands.proofs.Restored.{header-restored}
@@ -28,7 +28,7 @@ use Rattle.refusals.specs.Refusals.{refusalOf}
 use Rattle.hca_layout.specs.Layouts.{modeOf, channelAt, layoutOf, isLayout}
 use Rattle.hca_answers.specs.Outcomes.{resultOf, numbersOf, answerAfter}
 use Rattle.hca_files.specs.WriteHeader.{CHeaderLeft, cHeaderLeft, pointsOf, streamOf, cHeaderFrom, cWriteHeader}
-use Rattle.hca_files.specs.HeaderTaken.{headerTakenAs, headerTaken, headerTook}
+use Rattle.hca_files.specs.ReadHeader.{cHeaderReadLeft, cHeaderReadFrom, cReadHeader}
 
 -- ---- there
 
@@ -57,12 +57,12 @@ module _ (numbers kinds stream points header : List ℕ) where
 
   -- the same seven numbers, the three of the stream, and the loop
   pub c-header-back : (layout answer : List ℕ) → 7 ≤ length layout → 8 ≤ length answer → cWriteHeader numbers kinds stream points header .result ≡ 0
-      → headerTook (cWriteHeader numbers kinds stream points header .header) layout answer
-      ≡ headerTakenAs 0
+      → cReadHeader (cWriteHeader numbers kinds stream points header .header) layout answer
+      ≡ cHeaderReadLeft 0
       (overwrite (getD numbers 0 0 ∷ getD numbers 1 0 ∷ getD numbers 2 0 ∷ getD numbers 3 0 ∷ getD numbers 4 0 ∷ getD numbers 5 1 ∷ getD numbers 6 15 ∷ [])
       layout)
       (overwrite (getD stream 0 0 ∷ getD stream 1 0 ∷ getD stream 2 0 ∷ loopNumbers (loopFrames (pointsOf points))) answer)
-  unfolding headerTook headerTaken headerReadOutcome headerLayout resultOf numbersOf answerAfter layoutOf streamOf
+  unfolding cReadHeader cHeaderReadFrom headerReadOutcome headerLayout resultOf numbersOf answerAfter layoutOf streamOf
   c-header-back layout answer k m e =
       let (d, same) = record-zero e in
       let (r, _, _) = header-back (layoutOf numbers kinds) (streamOf stream points) header d in
@@ -87,7 +87,7 @@ two-or-none Absent = refl
 two-or-none (Given start end) = refl
 
 -- the numbers of a header that is read, with any kinds, give the same 96 bytes
-pub c-header-again : (h : List ℕ) → Bytes h → (f : FileHeader) → headerRead h ≡ answers.Read f → (kinds header : List ℕ)
+pub c-header-again : (h : List ℕ) → Bytes h → (f : FileHeader) → readHeader h ≡ answers.Read f → (kinds header : List ℕ)
     → isLayout (layoutNumbers f) kinds ≡ true → 96 ≤ length header
     → cWriteHeader (layoutNumbers f) kinds (f .rate ∷ f .frames ∷ f .padding ∷ []) (pointNumbers (pointsBack (f .points))) header
     ≡ cHeaderLeft 0 (take 96 h ++ drop 96 header)

@@ -1,6 +1,6 @@
 -- header
 mod HeaderStores
-mod HeaderTakings
+mod HeaderReadStores
 -- lists
 mod ListRefusing
 mod ListStoring

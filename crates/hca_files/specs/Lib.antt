@@ -1,6 +1,6 @@
 -- header
 pub mod WriteHeader
-pub mod HeaderTaken
+pub mod ReadHeader
 -- lists
 pub mod Lists
 -- wavs

@@ -7,7 +7,7 @@ ghost use Rattle.rules.specs.Refusals.{delivered};
 ghost use Rattle.rules_files.specs.HeaderReading.{layoutNumbers, streamNumbers, headerReadOutcome, headerLayout};
 ghost use Rattle.rules_files.specs.HeaderReadFits.{LoopFits, FieldsFit, ReadFits};
 ghost use Rattle.hca_answers.specs.Outcomes.{AnswerStored};
-ghost use Rattle.hca_files.specs.HeaderTaken.{headerTakenAs, headerTook, loopFlag, loopOr, LoopWords};
+ghost use Rattle.hca_files.specs.ReadHeader.{cHeaderReadLeft, cReadHeader, loopFlag, loopOr, LoopWords};
 use file_header::reading::read_file_header;
 use hca_answers::refuse;
 use refusals::header::header_read_refusal;
@@ -83,7 +83,7 @@ fn deliver_header(fields: FileHeader, answer: &mut [u32]) -> u32
 }
 
 // An answer as numbers; the layout stays at a refusal.
-fn tell_header(a: HeaderReadAnswer, layout: &mut [u32], answer: &mut [u32]) -> u32
+fn store_header(a: HeaderReadAnswer, layout: &mut [u32], answer: &mut [u32]) -> u32
     requires { ⌜ ReadFits a ⌝ }
     requires { ⌜ (7 ≤ length (now layout)) × (8 ≤ length (now answer)) ⌝ }
     ensures { λ r. ⌜ (now (layout .exit) ≡ overwrite (headerLayout a) (now (layout .entry)))
@@ -99,8 +99,8 @@ fn tell_header(a: HeaderReadAnswer, layout: &mut [u32], answer: &mut [u32]) -> u
 
 // The header's reader. layout: seven numbers; answer: rate, count, padding, loop or none, frame, delay, end frame, padding of the loop.
 pub fn read_header(header: &[u8], layout: &mut [u32], answer: &mut [u32]) -> u32
-    ensures { λ r. ⌜ headerTakenAs r (now (layout .exit)) (now (answer .exit))
-        ≡ headerTook (now (header .entry)) (now (layout .entry)) (now (answer .entry)) ⌝ }
+    ensures { λ r. ⌜ cHeaderReadLeft r (now (layout .exit)) (now (answer .exit))
+        ≡ cReadHeader (now (header .entry)) (now (layout .entry)) (now (answer .entry)) ⌝ }
 {
     if answer.len() < 8 {
         return 2;
@@ -109,5 +109,5 @@ pub fn read_header(header: &[u8], layout: &mut [u32], answer: &mut [u32]) -> u32
         return refuse(2, 0, answer);
     }
     let a = read_file_header(header);
-    tell_header(a, layout, answer)
+    store_header(a, layout, answer)
 }

@@ -19,7 +19,7 @@ use Rattle.rules_files.specs.declared.header.Stream.{Stream}
 use Rattle.rules_files.specs.declared.header.HeaderReadAnswer.the-variants as answers
 use Rattle.rules_files.specs.FileHeader.{channelMapping, loopFields, loopPieces, afterLoop, pieces, byteOf, headerOf}
 use Rattle.rules_files.specs.HeaderReading.{numberAt, allStand, zeroBytes, namesRight, loopAt, fieldsOf, limitsRight, loopRight, fieldsRight, restZero}
-use Rattle.rules_files.specs.HeaderReading.{pointsBack, streamBack, exactRead, headerRead, headerReadOutcome}
+use Rattle.rules_files.specs.HeaderReading.{pointsBack, streamBack, exactRead, readHeader, headerReadOutcome}
 
 -- C 2, base 52, stereo 52, total 128, F 417; 44,100 Hz, 40 frames, padding 832, a loop from 5,000 to 40,000: 94 bytes, then the check
 abbrev sample : List ℕ
@@ -47,7 +47,7 @@ pub sample-written : sample ≡ headerOf (record {
 unfolding headerOf pieces byteOf build highFirst channelMapping bandsPerGroup groupCount ceilDiv loopPieces afterLoop loopFields checksum value bitsOf bits
 sample-written = refl
 
-pub sample-read : headerRead sample ≡ answers.Read (record {
+pub sample-read : readHeader sample ≡ answers.Read (record {
   channels = 2;
   base = 52;
   stereo = 52;
@@ -60,7 +60,7 @@ pub sample-read : headerRead sample ≡ answers.Read (record {
   padding = 832;
   points = Given 5 8 39 832;
 })
-unfolding headerRead exactRead isSealed checksum value bitsOf bits namesRight allStand numberAt ofHigh fieldsRight limitsRight legalLayout
+unfolding readHeader exactRead isSealed checksum value bitsOf bits namesRight allStand numberAt ofHigh fieldsRight limitsRight legalLayout
     fieldsOf
     loopAt loopRight
     restZero zeroBytes every bandsPerGroup ceilDiv channelMapping
@@ -75,7 +75,7 @@ abbrev mended : (check : ℕ) (header : List ℕ) → List ℕ
 mended check header = set (set header 94 (check / 256)) 95 (check % 256)
 
 abbrev answerTo : (header : List ℕ) → Outcome
-answerTo header = headerReadOutcome (headerRead header)
+answerTo header = headerReadOutcome (readHeader header)
 
 pub nine-rows :
     (answerTo (set sample 95 0x92) ≡ refused 26 0)
@@ -87,14 +87,14 @@ pub nine-rows :
     × (answerTo (mended 0xF39D (set (set sample 54 4) 55 0)) ≡ refused 28 0)
     × (answerTo (mended 0xDB6D (set (set sample 33 4) 93 1)) ≡ refused 28 0)
     × (answerTo (mended 0xF12C (set sample 38 1)) ≡ refused 29 0)
-unfolding headerReadOutcome headerRead exactRead isSealed checksum value bitsOf bits namesRight allStand numberAt ofHigh fieldsRight limitsRight legalLayout
+unfolding headerReadOutcome readHeader exactRead isSealed checksum value bitsOf bits namesRight allStand numberAt ofHigh fieldsRight limitsRight legalLayout
     fieldsOf
     loopAt loopRight restZero zeroBytes every bandsPerGroup ceilDiv channelMapping
 nine-rows = (refl, refl, refl, refl, refl, refl, refl, refl, refl)
 
 -- the last byte before the check is looked at
 pub last-byte : answerTo (mended 0x5A96 (set sample 93 1)) ≡ refused 29 0
-unfolding headerReadOutcome headerRead exactRead isSealed checksum value bitsOf bits namesRight allStand numberAt ofHigh fieldsRight limitsRight legalLayout
+unfolding headerReadOutcome readHeader exactRead isSealed checksum value bitsOf bits namesRight allStand numberAt ofHigh fieldsRight limitsRight legalLayout
     fieldsOf
     loopAt loopRight restZero zeroBytes every bandsPerGroup ceilDiv channelMapping
 last-byte = refl

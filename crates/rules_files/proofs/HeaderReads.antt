@@ -13,7 +13,7 @@ use Rattle.rules.specs.Refusals.{Outcome, refused}
 use Rattle.rules.proofs.Answers.{never, Numbered, numbered, unnumbered}
 use Rattle.rules_files.specs.declared.header.HeaderReadAnswer.{HeaderReadAnswer}
 use Rattle.rules_files.specs.declared.header.HeaderReadAnswer.the-variants as answers
-use Rattle.rules_files.specs.HeaderReading.{namesRight, fieldsRight, restZero, fieldsOf, exactRead, headerRead, headerReadOutcome, headerLayout}
+use Rattle.rules_files.specs.HeaderReading.{namesRight, fieldsRight, restZero, fieldsOf, exactRead, readHeader, headerReadOutcome, headerLayout}
 
 other : {A : Type 0} {a b n k : ℕ} → refused a b ≡ refused n k → eqb a n ≡ false → A
 other {A} {a} {b} {n} {k} e d = let z : a ≡ n = cc e in absurd (eqb-false a n d z)
@@ -36,7 +36,7 @@ exact-case h P check name field zero done =
 
 module _ (h : List ℕ) where
   abbrev pub outcome : Outcome
-  outcome = headerReadOutcome (headerRead h)
+  outcome = headerReadOutcome (readHeader h)
 
   abbrev pub front : List ℕ
   front = take 96 h
@@ -49,8 +49,8 @@ module _ (h : List ℕ) where
       → (96 ≤ length h → isSealed front ≡ true → namesRight front ≡ true → fieldsRight front ≡ true → restZero front ≡ false → P answers.NotZero)
       → (96 ≤ length h → isSealed front ≡ true → namesRight front ≡ true → fieldsRight front ≡ true → restZero front ≡ true
       → P (answers.Read (fieldsOf front)))
-      → P (headerRead h)
-  unfolding headerRead
+      → P (readHeader h)
+  unfolding readHeader
   read-case P short check name field zero done =
       cond-both P (ltb (length h) 96) (λ k. short (ltb-true _ _ k))
       (λ k. let n : 96 ≤ length h = ltb-false _ _ k in exact-case front P (check n) (name n) (field n) (zero n) (done n))
@@ -65,7 +65,7 @@ module _ (h : List ℕ) where
       (λ _ _ _ _ _. numbered (2 ∷ 26 ∷ 27 ∷ 28 ∷ 29 ∷ []) 29 0 tt) (λ _ _ _ _ _. unnumbered (2 ∷ 26 ∷ 27 ∷ 28 ∷ 29 ∷ []) _)
 
   -- beside a refusal stands 0, and no layout is handed out
-  pub header-read-refused : (n k : ℕ) → outcome ≡ refused n k → (k ≡ 0) × (headerLayout (headerRead h) ≡ [])
+  pub header-read-refused : (n k : ℕ) → outcome ≡ refused n k → (k ≡ 0) × (headerLayout (readHeader h) ≡ [])
   unfolding headerReadOutcome headerLayout
   header-read-refused =
       read-case (λ a. (n k : ℕ) → headerReadOutcome a ≡ refused n k → (k ≡ 0) × (headerLayout a ≡ []))
@@ -74,7 +74,7 @@ module _ (h : List ℕ) where
 
   -- 2 exactly where there are under 96 bytes
   pub header-read-two-exactly : (outcome ≡ refused 2 0) ↔ (length h < 96)
-  unfolding headerReadOutcome headerRead
+  unfolding headerReadOutcome readHeader
   header-read-two-exactly = (
     read-case (λ a. headerReadOutcome a ≡ refused 2 0 → length h < 96)
         (λ k _. k) (λ _ _ e. other e refl) (λ _ _ _ e. other e refl) (λ _ _ _ _ e. other e refl) (λ _ _ _ _ _ e. other e refl) (λ _ _ _ _ _ e. never e),
@@ -83,7 +83,7 @@ module _ (h : List ℕ) where
 
   -- 26 exactly where there are 96 and the check is wrong
   pub header-read-twenty-six-exactly : (outcome ≡ refused 26 0) ↔ ((96 ≤ length h) × (isSealed front ≡ false))
-  unfolding headerReadOutcome headerRead exactRead
+  unfolding headerReadOutcome readHeader exactRead
   header-read-twenty-six-exactly = (
     read-case (λ a. headerReadOutcome a ≡ refused 26 0 → (96 ≤ length h) × (isSealed front ≡ false))
         (λ _ e. other e refl) (λ n a _. (n, a)) (λ _ _ _ e. other e refl) (λ _ _ _ _ e. other e refl) (λ _ _ _ _ _ e. other e refl) (λ _ _ _ _ _ e. never e),
@@ -92,7 +92,7 @@ module _ (h : List ℕ) where
 
   -- 27 exactly where the check is right and a name or the version is wrong
   pub header-read-twenty-seven-exactly : (outcome ≡ refused 27 0) ↔ ((96 ≤ length h) × (isSealed front ≡ true) × (namesRight front ≡ false))
-  unfolding headerReadOutcome headerRead exactRead
+  unfolding headerReadOutcome readHeader exactRead
   header-read-twenty-seven-exactly = (
     read-case (λ a. headerReadOutcome a ≡ refused 27 0 → (96 ≤ length h) × (isSealed front ≡ true) × (namesRight front ≡ false))
         (λ _ e. other e refl) (λ _ _ e. other e refl) (λ n a b _. (n, a, b)) (λ _ _ _ _ e. other e refl) (λ _ _ _ _ _ e. other e refl)
@@ -103,7 +103,7 @@ module _ (h : List ℕ) where
   -- 28 exactly where these are right and a field is wrong
   pub header-read-twenty-eight-exactly : (outcome ≡ refused 28 0)
       ↔ ((96 ≤ length h) × (isSealed front ≡ true) × (namesRight front ≡ true) × (fieldsRight front ≡ false))
-  unfolding headerReadOutcome headerRead exactRead
+  unfolding headerReadOutcome readHeader exactRead
   header-read-twenty-eight-exactly = (
     read-case (λ a. headerReadOutcome a ≡ refused 28 0 → (96 ≤ length h) × (isSealed front ≡ true) × (namesRight front ≡ true) × (fieldsRight front ≡ false))
         (λ _ e. other e refl) (λ _ _ e. other e refl) (λ _ _ _ e. other e refl) (λ n a b c _. (n, a, b, c)) (λ _ _ _ _ _ e. other e refl)
@@ -114,7 +114,7 @@ module _ (h : List ℕ) where
   -- 29 exactly where all these are right and a byte of the rest is not 0
   pub header-read-twenty-nine-exactly : (outcome ≡ refused 29 0)
       ↔ ((96 ≤ length h) × (isSealed front ≡ true) × (namesRight front ≡ true) × (fieldsRight front ≡ true) × (restZero front ≡ false))
-  unfolding headerReadOutcome headerRead exactRead
+  unfolding headerReadOutcome readHeader exactRead
   header-read-twenty-nine-exactly = (
     read-case (λ a. headerReadOutcome a ≡ refused 29 0
         → (96 ≤ length h) × (isSealed front ≡ true) × (namesRight front ≡ true) × (fieldsRight front ≡ true) × (restZero front ≡ false))
@@ -124,5 +124,5 @@ module _ (h : List ℕ) where
   )
 
 -- two outcomes that the contract allows coincide
-pub header-read-once : (h : List ℕ) (a b : HeaderReadAnswer) → a ≡ headerRead h → b ≡ headerRead h → a ≡ b
+pub header-read-once : (h : List ℕ) (a b : HeaderReadAnswer) → a ≡ readHeader h → b ≡ readHeader h → a ≡ b
 header-read-once h a b p q = p ∙ sym q

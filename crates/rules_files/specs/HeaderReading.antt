@@ -189,8 +189,8 @@ exactRead header =
     (cond (not (restZero header)) answers.NotZero (answers.Read (fieldsOf header)))))
 
 -- 2 first; what stands behind 96 bytes is not looked at
-unfoldable pub headerRead : (header : List ℕ) → HeaderReadAnswer
-headerRead header = cond (ltb (length header) headerSize) answers.ShortBuffer (exactRead (take headerSize header))
+unfoldable pub readHeader : (header : List ℕ) → HeaderReadAnswer
+readHeader header = cond (ltb (length header) headerSize) answers.ShortBuffer (exactRead (take headerSize header))
 
 -- ---- an answer as numbers
 

@@ -3,7 +3,7 @@ use mathlib.Core.Path.{refl}
 use native.Mathlib.Omega.{arith}
 use lib.ListN.{length-set}
 use Rattle.hca_answers.specs.Outcomes.{resultOf}
-use Rattle.hca_files.proofs.HeaderTakings.{header-stored}
+use Rattle.hca_files.proofs.HeaderReadStores.{header-stored}
 use borrow.Author.Needs.{needs}
 use Rattle.hca_files.proofs.header_reading.deliver_header.Statement.{statement}
 use Rattle.hca_files.proofs.header_reading.deliver_header.Tie as tie

@@ -1,5 +1,5 @@
 -- `hca_files::header_reading::loop_flag` meets its contract. Assumes nothing.
-use Rattle.hca_files.specs.HeaderTaken.{loopFlag}
+use Rattle.hca_files.specs.ReadHeader.{loopFlag}
 use borrow.Author.Needs.{needs}
 use Rattle.hca_files.proofs.header_reading.loop_flag.Statement.{statement}
 use Rattle.hca_files.proofs.header_reading.loop_flag.Tie as tie

@@ -1,5 +1,5 @@
 -- `hca_files::header_reading::loop_or` meets its contract. Assumes nothing.
-use Rattle.hca_files.proofs.HeaderTakings.{no-loop, some-loop}
+use Rattle.hca_files.proofs.HeaderReadStores.{no-loop, some-loop}
 use borrow.Author.Needs.{needs}
 use Rattle.hca_files.proofs.header_reading.loop_or.Statement.{statement}
 use Rattle.hca_files.proofs.header_reading.loop_or.Tie as tie

@@ -1,5 +1,5 @@
 -- `hca_files::header_reading::read_header` meets its contract. Assumes nothing.
-use Rattle.hca_files.proofs.HeaderTakings.{answer-short, layout-short, header-done}
+use Rattle.hca_files.proofs.HeaderReadStores.{answer-short, layout-short, header-done}
 use borrow.Author.Needs.{needs}
 use Rattle.hca_files.proofs.header_reading.read_header.Statement.{statement}
 use Rattle.hca_files.proofs.header_reading.read_header.Tie as tie
@@ -24,8 +24,8 @@ returns-2 c =
 read-file-header-requires : tie.Need-read-file-header-requires
 read-file-header-requires c κs = search needs
 
-tell-header-requires : tie.Need-tell-header-requires
-tell-header-requires c κs = search needs
+store-header-requires : tie.Need-store-header-requires
+store-header-requires c κs = search needs
 
 same-length-2 : tie.Need-same-length-2
 same-length-2 c = search needs
@@ -40,7 +40,7 @@ returns-3 c =
     let s = x .before .before .before .before .before .args in
     header-done (s .header .now) (s .layout .now) (s .answer .now) (x .before .if1 .left) (x .if2 .left) _ _ _ _
     (t .before .before .before .read-file-header .ensures .0)
-    (t .tell-header .ensures .0) (t .tell-header .ensures .1)
+    (t .store-header .ensures .0) (t .store-header .ensures .1)
 
 pub read-header-spec : {M : Type 1} → statement M
 read-header-spec =
@@ -51,7 +51,7 @@ read-header-spec =
     same-length
     returns-2
     read-file-header-requires
-    tell-header-requires
+    store-header-requires
     same-length-2
     same-length-3
     returns-3)

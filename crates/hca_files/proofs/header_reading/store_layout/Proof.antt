@@ -1,7 +1,7 @@
 -- `hca_files::header_reading::store_layout` meets its contract. Assumes nothing.
 use native.Mathlib.Omega.{arith}
 use lib.ListN.{length-set}
-use Rattle.hca_files.proofs.HeaderTakings.{over-seven}
+use Rattle.hca_files.proofs.HeaderReadStores.{over-seven}
 use borrow.Author.Needs.{needs}
 use Rattle.hca_files.proofs.header_reading.store_layout.Statement.{statement}
 use Rattle.hca_files.proofs.header_reading.store_layout.Tie as tie

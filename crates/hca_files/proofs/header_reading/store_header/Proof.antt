@@ -1,8 +1,8 @@
--- `hca_files::header_reading::tell_header` meets its contract. Assumes nothing.
-use Rattle.hca_files.proofs.HeaderTakings.{refusal-fits, refusal-stored, read-fits, read-stored}
+-- `hca_files::header_reading::store_header` meets its contract. Assumes nothing.
+use Rattle.hca_files.proofs.HeaderReadStores.{refusal-fits, refusal-stored, read-fits, read-stored}
 use borrow.Author.Needs.{needs}
-use Rattle.hca_files.proofs.header_reading.tell_header.Statement.{statement}
-use Rattle.hca_files.proofs.header_reading.tell_header.Tie as tie
+use Rattle.hca_files.proofs.header_reading.store_header.Statement.{statement}
+use Rattle.hca_files.proofs.header_reading.store_header.Tie as tie
 
 enum-known-a : tie.Need-enum-known-a
 enum-known-a c = search needs
@@ -44,8 +44,8 @@ returns-2 c =
     let y = c .before .before .before .before .before .before in
     read-stored _ _ (y .before .before .before .a .given .1) _ _ _ _ _ (y .store-layout .ensures) (c .before .before .deliver-header .ensures)
 
-pub tell-header-spec : {M : Type 1} → statement M
-tell-header-spec =
+pub store-header-spec : {M : Type 1} → statement M
+store-header-spec =
     tie.close
     (tie.spec
     enum-known-a

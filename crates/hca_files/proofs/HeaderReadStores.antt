@@ -10,7 +10,7 @@ use denote.Enum.Declared.{tagOf}
 use lib.ListN.{length, set}
 use Rattle.rules.specs.Lent.{overwrite}
 use Rattle.rules.specs.Refusals.{Outcome, delivered, refused}
-use Rattle.rules_files.specs.HeaderReading.{loopNumbers, layoutNumbers, streamNumbers, headerRead, headerReadOutcome, headerLayout}
+use Rattle.rules_files.specs.HeaderReading.{loopNumbers, layoutNumbers, streamNumbers, readHeader, headerReadOutcome, headerLayout}
 use Rattle.rules_files.specs.HeaderReadFits.{LoopFits, FieldsFit, ReadFits}
 use Rattle.rules_files.specs.declared.header.FileHeader.{FileHeader}
 use Rattle.rules_files.specs.declared.header.HeaderReadAnswer.{HeaderReadAnswer}
@@ -22,7 +22,7 @@ use Rattle.rules_files.proofs.header.HeaderReadAnswer as Answer
 use Rattle.refusals.specs.Refusals.{refusalOf}
 use Rattle.refusals.specs.declared.Refusal.{Refusal}
 use Rattle.hca_answers.specs.Outcomes.{resultOf, numbersOf, answerAfter, AnswerStored}
-use Rattle.hca_files.specs.HeaderTaken.{HeaderTaken, headerTakenAs, headerTaken, headerTook, loopFlag, loopOr, LoopWords}
+use Rattle.hca_files.specs.ReadHeader.{CHeaderReadLeft, cHeaderReadLeft, cHeaderReadFrom, cReadHeader, loopFlag, loopOr, LoopWords}
 
 -- ---- places
 
@@ -133,18 +133,18 @@ module _ (a : HeaderReadAnswer) (f : FileHeader) (e : a ≡ answers.Read f) wher
 -- ---- the whole call
 
 module _ (header layout answer : List ℕ) where
-  pub answer-short : length answer < 8 → headerTakenAs 2 layout answer ≡ headerTook header layout answer
-  unfolding headerTook
+  pub answer-short : length answer < 8 → cHeaderReadLeft 2 layout answer ≡ cReadHeader header layout answer
+  unfolding cReadHeader
   answer-short h = rw (lt-ltb _ _ h)
 
   module _ (h : 8 ≤ length answer) where
     pub layout-short : length layout < 7 → (r : ℕ) (after : List ℕ) → AnswerStored (refused 2 0) r answer after
-        → headerTakenAs r layout after ≡ headerTook header layout answer
-    unfolding headerTook headerTaken headerReadOutcome headerLayout
+        → cHeaderReadLeft r layout after ≡ cReadHeader header layout answer
+    unfolding cReadHeader cHeaderReadFrom headerReadOutcome headerLayout
     layout-short k r after t = rw (le-ltb _ _ h, lt-ltb _ _ k, t .answered, t .shown)
 
-    pub header-done : 7 ≤ length layout → (a : HeaderReadAnswer) (r : ℕ) (laid-out stored : List ℕ) → a ≡ headerRead header
-        → laid-out ≡ overwrite (headerLayout a) layout → AnswerStored (headerReadOutcome a) r answer stored → headerTakenAs r laid-out stored
-        ≡ headerTook header layout answer
-    unfolding headerTook headerTaken
+    pub header-done : 7 ≤ length layout → (a : HeaderReadAnswer) (r : ℕ) (laid-out stored : List ℕ) → a ≡ readHeader header
+        → laid-out ≡ overwrite (headerLayout a) layout → AnswerStored (headerReadOutcome a) r answer stored → cHeaderReadLeft r laid-out stored
+        ≡ cReadHeader header layout answer
+    unfolding cReadHeader cHeaderReadFrom
     header-done k a r laid-out stored e p t = rw (p, t .answered, t .shown, le-ltb _ _ h, le-ltb _ _ k, e)

@@ -5,7 +5,7 @@ use Prim.Native.Nat.{ℕ}
 use lib.Dec.{ltb}
 use lib.ListN.{length}
 use Rattle.rules.specs.Lent.{overwrite}
-use Rattle.rules_files.specs.HeaderReading.{headerRead, headerReadOutcome, headerLayout}
+use Rattle.rules_files.specs.HeaderReading.{readHeader, headerReadOutcome, headerLayout}
 use Rattle.rules_files.specs.HeaderReadFits.{Word}
 use Rattle.rules_files.specs.declared.header.HeaderReadAnswer.{HeaderReadAnswer}
 use Rattle.rules_files.specs.declared.header.HeaderReadAnswer.the-variants.{ShortBuffer}
@@ -14,23 +14,23 @@ use Rattle.rules_files.specs.declared.header.LoopFrames.{LoopFrames}
 use Rattle.rules_files.specs.declared.header.LoopFrames.the-variants.{Absent, Given}
 use Rattle.hca_answers.specs.Outcomes.{resultOf, answerAfter}
 
-pub record HeaderTaken : Type 0 where
+pub record CHeaderReadLeft : Type 0 where
   pub result : ℕ
   pub layout : List ℕ
   pub answer : List ℕ
 
-abbrev pub headerTakenAs : (result : ℕ) (layout answer : List ℕ) → HeaderTaken
-headerTakenAs result layout answer = record { result = result; layout = layout; answer = answer }
+abbrev pub cHeaderReadLeft : (result : ℕ) (layout answer : List ℕ) → CHeaderReadLeft
+cHeaderReadLeft result layout answer = record { result = result; layout = layout; answer = answer }
 
 -- the layout's numbers over the lent one's front, the stream's over the answer's; a refusal has none of the first, and 0 for the second
-unfoldable pub headerTaken : (a : HeaderReadAnswer) (layout answer : List ℕ) → HeaderTaken
-headerTaken a layout answer = headerTakenAs (resultOf (headerReadOutcome a)) (overwrite (headerLayout a) layout) (answerAfter (headerReadOutcome a) answer)
+unfoldable pub cHeaderReadFrom : (a : HeaderReadAnswer) (layout answer : List ℕ) → CHeaderReadLeft
+cHeaderReadFrom a layout answer = cHeaderReadLeft (resultOf (headerReadOutcome a)) (overwrite (headerLayout a) layout) (answerAfter (headerReadOutcome a) answer)
 
 -- refusal 2 first where the answer has under eight places, which stays as it was, or the layout under seven
-unfoldable pub headerTook : (header layout answer : List ℕ) → HeaderTaken
-headerTook header layout answer =
-    cond (ltb (length answer) 8) (headerTakenAs 2 layout answer)
-    (cond (ltb (length layout) 7) (headerTaken ShortBuffer layout answer) (headerTaken (headerRead header) layout answer))
+unfoldable pub cReadHeader : (header layout answer : List ℕ) → CHeaderReadLeft
+cReadHeader header layout answer =
+    cond (ltb (length answer) 8) (cHeaderReadLeft 2 layout answer)
+    (cond (ltb (length layout) 7) (cHeaderReadFrom ShortBuffer layout answer) (cHeaderReadFrom (readHeader header) layout answer))
 
 -- a loop's numbers, 0 without one
 unfoldable pub loopFlag : (loop : LoopFrames) → ℕ
