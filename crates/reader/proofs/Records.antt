@@ -1,4 +1,4 @@
--- The codes and the fill after the header, and what the scan of the part then leaves. Assumes nothing.
+-- The codes and the fill after the channels, and what the scan of the part then leaves. Assumes nothing.
 use mathlib.Core.Path.{_≡_, refl, sym, _∙_, ap, subst}
 use mathlib.Core.List.{List}
 use mathlib.Core.Option.{Option}
@@ -64,7 +64,7 @@ unfolding scannedLeft
 refused-left l a e h = rw (e, h) refl
 
 module _ (l : Layout) (s F S : List ℕ) (C : List ℤ) where
-  -- THE CODES after the header
+  -- THE CODES after the channels
   module _ {v b : ℕ} {q : Place} (h : Headed l s F S (head.Of v b q)) (z : LegalLayout l) (n : length F ≡ factorLength l) (m : length S ≡ sideLength l) where
     abbrev CodesRead : Step → Type 0
     CodesRead r = Subframes l s (readSubframes l (allResolutions l v b F) (leftAt s (q .at))) C r

@@ -15,7 +15,7 @@ use crate::fill::first_one;
 use bits::Place;
 use reader_channels::level_and_boundary::Head;
 use reader_channels::level_and_boundary::head_after;
-use reader_channels::read_header;
+use reader_channels::read_head_and_channels;
 use reader_channels::values::faults::Step;
 use reader_codes::read_all_codes;
 use resolutions::RESOLUTION_ROOM;
@@ -89,7 +89,7 @@ fn read_fields(
     requires { ⌜ ReaderLengths layout (length (now factors)) (length (now side)) (length (now codes)) ⌝ }
     ensures { λ r. ⌜ FieldsRead layout (now (part .entry)) (now (factors .exit)) (now (side .exit)) (now (codes .exit)) r ⌝ }
 {
-    let head = read_header(layout, part, factors, side);
+    let head = read_head_and_channels(layout, part, factors, side);
     let Head::Of(level, boundary, place) = head else {
         return head;
     };

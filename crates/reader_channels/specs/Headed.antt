@@ -1,4 +1,4 @@
--- THE HEADER was read. `s` is the part of a frame between its sync and its check; F and S are the factors' and the side's buffers.
+-- LEVEL, BOUNDARY AND CHANNELS were read. `s` is the part of a frame between its sync and its check; F and S are the factors' and the side's buffers.
 use mathlib.Core.List.{List}
 use Prim.Native.Nat.{ℕ, _≤_}
 use Rattle.buffers.specs.Walk.{build}

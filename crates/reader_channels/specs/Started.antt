@@ -36,7 +36,7 @@ pub record HeadAgrees (l : Layout) (s : List ℕ) (rest : (level boundary : ℕ)
   pub within : headPlace r ≤ 8 * length s
   pub holds : ifHead r P
 
--- the codes after a header; the channels, and the codes after them
+-- the codes after the channels; the channels, and the codes after them
 abbrev pub codesThen : (l : Layout) (level boundary : ℕ) (chans : List Chan) → Reader Rec
 codesThen l level boundary chans =
     each (λ _. each (each readCode) (resolutions l level boundary chans)) (times 8)

@@ -1,4 +1,4 @@
--- A row of the header, and what reading it tells of a reader's result x. `s` are the bytes after the sync.
+-- A row of a channel, and what reading it tells of a reader's result x. `s` are the bytes after the sync.
 use mathlib.Core.Path.{_≡_}
 use mathlib.Core.List.{List}
 use Prim.Native.Nat.{ℕ, _<_}

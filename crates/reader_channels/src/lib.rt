@@ -93,7 +93,12 @@ fn read_channels(
 }
 
 // Level, boundary and every channel's factors and side values.
-pub fn read_header(layout: Layout, part: &[u8], factors: &mut [u8], side: &mut [u8]) -> Head
+pub fn read_head_and_channels(
+    layout: Layout,
+    part: &[u8],
+    factors: &mut [u8],
+    side: &mut [u8],
+) -> Head
     requires { ⌜ LegalLayout layout ⌝ }
     requires { ⌜ (length (now part) ≤ 65535) × (length (now factors) ≡ factorLength layout) × (length (now side) ≡ sideLength layout) ⌝ }
     ensures { λ r. ⌜ Headed layout (now (part .entry)) (now (factors .exit)) (now (side .exit)) r ⌝ }

@@ -1,4 +1,4 @@
--- `reader::record::read_fields` reads the header and the codes, or hands on the first refusal. Assumes nothing.
+-- `reader::record::read_fields` reads level, boundary, channels and codes, or hands on the first refusal. Assumes nothing.
 use mathlib.Core.Path.{_∙_}
 use native.Mathlib.Omega.{arith}
 use Rattle.reader_channels.proofs.Heads.{head-of, head-refused}
@@ -7,8 +7,8 @@ use borrow.Author.Needs.{needs}
 use Rattle.reader.proofs.record.read_fields.Statement.{statement}
 use Rattle.reader.proofs.record.read_fields.Tie as tie
 
-read-header-requires : tie.Need-read-header-requires
-read-header-requires c κs = search needs
+read-head-and-channels-requires : tie.Need-read-head-and-channels-requires
+read-head-and-channels-requires c κs = search needs
 
 enum-known-head : tie.Need-enum-known-head
 enum-known-head c = search needs
@@ -23,11 +23,11 @@ same-length-2 : tie.Need-same-length-2
 same-length-2 c = search needs
 
 returns : tie.Need-returns
-returns c = head-refused (c .before .before .before .before .before .before .read-header .ensures) (c .enum-told .given .1)
+returns c = head-refused (c .before .before .before .before .before .before .read-head-and-channels .ensures) (c .enum-told .given .1)
 
 read-codes-requires : tie.Need-read-codes-requires
 read-codes-requires c κs =
-    let h = head-of (c .before .before .before .before .before .before .before .before .before .read-header .ensures)
+    let h = head-of (c .before .before .before .before .before .before .before .before .before .read-head-and-channels .ensures)
     (c .before .before .before .head .given .1) in
     (search needs, ((omega (arith, h .holds .0), search needs, h .within), (search needs, search needs)))
 
@@ -48,7 +48,7 @@ returns-2 c =
     let c15 = c .before .before .before .before .before .before .before .before .before .before .before .before .before .before .before in
     let a = c15 .before .before .before .args in
     let p = c15 .before .before .before .pre in
-    let r = c .before .before .before .before .before .before .before .before .before .before .before .before .read-header in
+    let r = c .before .before .before .before .before .before .before .before .before .before .before .before .read-head-and-channels in
     fields-after (a .layout) (a .part .now) _ _ _ (head-of (r .ensures) (c .before .before .before .before .before .before .head .given .1)) (p .0)
     (r .kept .1 .1 .0 ∙ p .1 .1 .factors) (r .kept .1 .1 .1 .0 ∙ p .1 .1 .side)
     (c .before .before .read-codes .result) (c .before .before .read-codes .ensures) (c .head-after .ensures)
@@ -57,7 +57,7 @@ pub read-fields-spec : {M : Type 1} → statement M
 read-fields-spec =
     tie.close
     (tie.spec
-    read-header-requires
+    read-head-and-channels-requires
     enum-known-head
     enum-told
     same-length

@@ -1,10 +1,10 @@
--- `read_header` reads level, boundary and channels, or hands on the first refusal. Assumes nothing.
+-- `read_head_and_channels` reads level, boundary and channels, or hands on the first refusal. Assumes nothing.
 use native.Mathlib.Omega.{arith}
 use Rattle.reader_channels.proofs.Heads.{head-of, head-refused}
 use Rattle.reader_channels.proofs.Headed.{headed-after}
 use borrow.Author.Needs.{needs}
-use Rattle.reader_channels.proofs.read_header.Statement.{statement}
-use Rattle.reader_channels.proofs.read_header.Tie as tie
+use Rattle.reader_channels.proofs.read_head_and_channels.Statement.{statement}
+use Rattle.reader_channels.proofs.read_head_and_channels.Tie as tie
 
 read-head-requires : tie.Need-read-head-requires
 read-head-requires c κs = search needs
@@ -41,8 +41,8 @@ returns-2 c =
     headed-after (a .layout) (a .part .now) _ _ t (c .before .before .before .before .before .read-channels .result)
     (c .before .before .before .before .before .read-channels .ensures) (c .head-after .ensures)
 
-pub read-header-spec : {M : Type 1} → statement M
-read-header-spec =
+pub read-head-and-channels-spec : {M : Type 1} → statement M
+read-head-and-channels-spec =
     tie.close
     (tie.spec
     read-head-requires
