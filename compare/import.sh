@@ -1,10 +1,10 @@
 #!/bin/sh
-# Makes the test copy of the published Rust (docs/src) in published/src/hca.
+# Makes the test copy of the published Rust (cridecoder) in published/src/hca.
 # Visibility changes and nothing else, in encoder.rs alone; the last lines check
 # that: with every "pub " taken out, copy and original are equal byte for byte.
 set -eu
 here=$(cd "$(dirname "$0")" && pwd)
-from=${1:-$here/../docs/src/src/hca}
+from=${1:-$here/cridecoder/src/hca}
 to=$here/published/src/hca
 work=$(mktemp -d)
 trap 'rm -rf "$work"' EXIT

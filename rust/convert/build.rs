@@ -1,4 +1,4 @@
-//! Takes the front end out of the published encoder's source (docs/src): each item by its name, word for word. Nothing of it is
+//! Takes the front end out of the published encoder's source (compare/cridecoder): each item by its name, word for word. Nothing of it is
 //! written here by hand, and nothing that is taken is kept in the repository.
 use std::path::{Path, PathBuf};
 use std::{env, fs};
@@ -118,7 +118,7 @@ fn tabulated(encoder: &Source) -> String {
 
 fn main() {
     let here = PathBuf::from(env::var_os("CARGO_MANIFEST_DIR").expect("cargo sets CARGO_MANIFEST_DIR"));
-    let folder = here.join("../../docs/src/src/hca");
+    let folder = here.join("../../compare/cridecoder/src/hca");
     let [encoder, decoder, tables] = ["encoder.rs", "decoder.rs", "tables.rs"].map(|name| Source::read(&folder, name));
     let mut out = String::new();
     for name in ["HCA_SUBFRAMES", "HCA_SAMPLES_PER_SUBFRAME", "HCA_SAMPLES_PER_FRAME", "HCA_MAX_CHANNELS"] {

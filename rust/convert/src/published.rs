@@ -1,4 +1,4 @@
-//! The published encoder's own front end, as build.rs takes it out of docs/src: the layout for a bit rate, the number of frames and the
+//! The published encoder's own front end, as build.rs takes it out of compare/cridecoder: the layout for a bit rate, the number of frames and the
 //! padding, the MDCT. Not proved; whole files are compared with the published encoder's by compare/.
 #![allow(dead_code, clippy::all)]
 
