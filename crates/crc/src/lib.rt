@@ -5,13 +5,13 @@ ghost use mathlib.Core.List.{[], _∷_};
 ghost use Rattle.crc.specs.Check.{checksum};
 ghost use Rattle.crc.specs.Table.{IsTable, fed, feed};
 
-mod numbers;
+mod entries;
 
 // The table, with its rule. It is taken once and lent to each step: an array in a constant is written out anew wherever it is read.
 pub fn table() -> [u16; 256]
     ensures { λ r. ⌜ IsTable r ⌝ }
 {
-    numbers::CRC16_TABLE
+    entries::CRC16_TABLE
 }
 
 // The checksum of the byte n.

@@ -7,13 +7,13 @@ ghost use Rattle.crc.specs.Check.{checksum};
 ghost use Rattle.crc.specs.Table.{feed};
 ghost use Rattle.crc_sliced.specs.Slices.{IsSlices};
 
-mod numbers;
+mod entries;
 
 // The slices, with their rule. They are taken once and lent to each step, as crc's table is.
 pub fn slices() -> [u16; 2048]
     ensures { λ r. ⌜ IsSlices r ⌝ }
 {
-    numbers::CRC16_SLICES
+    entries::CRC16_SLICES
 }
 
 // The checksum of the byte n with k zero bytes behind it.

@@ -4,6 +4,7 @@ ghost use Rattle.rules_files.specs.FileHeader.{headerOutcome};
 ghost use Rattle.rules_files.specs.HeaderReading.{headerReadOutcome};
 ghost use Rattle.refusals.specs.Refusals.{refusalOf};
 use crate::Refusal;
+use crate::not_refused;
 use crate::refused;
 use rules_files::header::HeaderAnswer;
 use rules_files::header::HeaderReadAnswer;
@@ -12,7 +13,7 @@ pub fn header_refusal(answer: HeaderAnswer) -> Refusal
     ensures { λ r. ⌜ r ≡ refusalOf (headerOutcome answer) ⌝ }
 {
     match answer {
-        HeaderAnswer::Delivered => refused(0, 0),
+        HeaderAnswer::Delivered => not_refused(),
         HeaderAnswer::BadLayout => refused(1, 0),
         HeaderAnswer::ShortBuffer => refused(2, 0),
         HeaderAnswer::BadHeader => refused(16, 0),
@@ -23,7 +24,7 @@ pub fn header_read_refusal(answer: HeaderReadAnswer) -> Refusal
     ensures { λ r. ⌜ r ≡ refusalOf (headerReadOutcome answer) ⌝ }
 {
     match answer {
-        HeaderReadAnswer::Read(_) => refused(0, 0),
+        HeaderReadAnswer::Read(_) => not_refused(),
         HeaderReadAnswer::ShortBuffer => refused(2, 0),
         HeaderReadAnswer::WrongCheck => refused(26, 0),
         HeaderReadAnswer::WrongName => refused(27, 0),

@@ -12,7 +12,8 @@ pub mod list;
 pub mod wav;
 
 ghost use mathlib.Core.Path.{_≡_};
-ghost use Rattle.rules.specs.Refusals.{refused, stageOutcome, writerOutcome, readerOutcome};
+ghost use mathlib.Core.List.{[]};
+ghost use Rattle.rules.specs.Refusals.{delivered, refused, stageOutcome, writerOutcome, readerOutcome};
 ghost use Rattle.refusals.specs.Refusals.{refusalOf};
 use rules::ReadAnswer;
 use rules::StageAnswer;
@@ -33,11 +34,20 @@ pub fn refused(number: usize, beside: usize) -> Refusal
     }
 }
 
+pub fn not_refused() -> Refusal
+    ensures { λ r. ⌜ r ≡ refusalOf (delivered []) ⌝ }
+{
+    Refusal {
+        number: 0,
+        beside: 0,
+    }
+}
+
 pub fn stage_refusal(answer: StageAnswer) -> Refusal
     ensures { λ r. ⌜ r ≡ refusalOf (stageOutcome answer) ⌝ }
 {
     match answer {
-        StageAnswer::Delivered(_, _, _, _) => refused(0, 0),
+        StageAnswer::Delivered(_, _, _, _) => not_refused(),
         StageAnswer::BadLayout => refused(1, 0),
         StageAnswer::ShortBuffer => refused(2, 0),
         StageAnswer::BadIntensity(i) => refused(3, i),
@@ -51,7 +61,7 @@ pub fn read_refusal(answer: ReadAnswer) -> Refusal
     ensures { λ r. ⌜ r ≡ refusalOf (readerOutcome answer) ⌝ }
 {
     match answer {
-        ReadAnswer::Delivered(_, _, _) => refused(0, 0),
+        ReadAnswer::Delivered(_, _, _) => not_refused(),
         ReadAnswer::BadLayout => refused(1, 0),
         ReadAnswer::ShortBuffer => refused(2, 0),
         ReadAnswer::WrongCheck => refused(8, 0),
@@ -67,7 +77,7 @@ pub fn write_refusal(answer: WriteAnswer) -> Refusal
     ensures { λ r. ⌜ r ≡ refusalOf (writerOutcome answer) ⌝ }
 {
     match answer {
-        WriteAnswer::Delivered(_, _, _) => refused(0, 0),
+        WriteAnswer::Delivered(_, _, _) => not_refused(),
         WriteAnswer::BadLayout => refused(1, 0),
         WriteAnswer::ShortBuffer => refused(2, 0),
         WriteAnswer::NotLegal => refused(15, 0),

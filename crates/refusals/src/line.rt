@@ -3,6 +3,7 @@ ghost use mathlib.Core.Path.{_≡_};
 ghost use Rattle.rules_line.specs.Line.{lineOutcome};
 ghost use Rattle.refusals.specs.Refusals.{refusalOf};
 use crate::Refusal;
+use crate::not_refused;
 use crate::refused;
 use crate::stage_refusal;
 use rules_line::LineAnswer;
@@ -11,7 +12,7 @@ pub fn line_refusal(answer: LineAnswer) -> Refusal
     ensures { λ r. ⌜ r ≡ refusalOf (lineOutcome answer) ⌝ }
 {
     match answer {
-        LineAnswer::Delivered => refused(0, 0),
+        LineAnswer::Delivered => not_refused(),
         LineAnswer::BadLayout => refused(1, 0),
         LineAnswer::BadBatch => refused(18, 0),
         LineAnswer::ShortBuffer => refused(2, 0),

@@ -3,6 +3,7 @@ ghost use mathlib.Core.Path.{_≡_};
 ghost use Rattle.rules_files.specs.List.{listWrittenOutcome, listReadOutcome, entryOutcome, summaryOutcome};
 ghost use Rattle.refusals.specs.Refusals.{refusalOf};
 use crate::Refusal;
+use crate::not_refused;
 use crate::refused;
 use rules_files::list::EntryAnswer;
 use rules_files::list::ListAnswer;
@@ -13,7 +14,7 @@ pub fn list_write_refusal(answer: ListWritten) -> Refusal
     ensures { λ r. ⌜ r ≡ refusalOf (listWrittenOutcome answer) ⌝ }
 {
     match answer {
-        ListWritten::Delivered => refused(0, 0),
+        ListWritten::Delivered => not_refused(),
         ListWritten::ShortBuffer => refused(2, 0),
         ListWritten::BadEntry => refused(21, 0),
     }
@@ -23,7 +24,7 @@ pub fn list_read_refusal(answer: ListAnswer) -> Refusal
     ensures { λ r. ⌜ r ≡ refusalOf (listReadOutcome answer) ⌝ }
 {
     match answer {
-        ListAnswer::Delivered(_) => refused(0, 0),
+        ListAnswer::Delivered(_) => not_refused(),
         ListAnswer::ShortBuffer => refused(2, 0),
         ListAnswer::BadMark => refused(19, 0),
         ListAnswer::BadLength => refused(20, 0),
@@ -35,7 +36,7 @@ pub fn entry_refusal(answer: EntryAnswer) -> Refusal
     ensures { λ r. ⌜ r ≡ refusalOf (entryOutcome answer) ⌝ }
 {
     match answer {
-        EntryAnswer::Found(_) => refused(0, 0),
+        EntryAnswer::Found(_) => not_refused(),
         EntryAnswer::BadMark => refused(19, 0),
         EntryAnswer::BadLength => refused(20, 0),
         EntryAnswer::BadEntry => refused(21, 0),
@@ -47,7 +48,7 @@ pub fn summary_refusal(answer: SummaryAnswer) -> Refusal
     ensures { λ r. ⌜ r ≡ refusalOf (summaryOutcome answer) ⌝ }
 {
     match answer {
-        SummaryAnswer::Summed(_) => refused(0, 0),
+        SummaryAnswer::Summed(_) => not_refused(),
         SummaryAnswer::BadMark => refused(19, 0),
         SummaryAnswer::BadLength => refused(20, 0),
         SummaryAnswer::BadEntry => refused(21, 0),

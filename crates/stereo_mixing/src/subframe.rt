@@ -9,7 +9,7 @@ use floats::magnitudes::add_magnitude;
 use rules_stereo::Energies;
 use rules_stereo::Mixing;
 
-mod numbers;
+mod entries;
 
 // The energies of `count` bands of a pair from `at` on, of its 2,048 values, the left's first.
 pub fn stereo_energy(pair: &[f32], at: usize, count: usize) -> Energies
@@ -39,7 +39,7 @@ pub fn stereo_energy(pair: &[f32], at: usize, count: usize) -> Energies
 fn ratio_bounds() -> [f32; 14]
     ensures { λ r. ⌜ IsBounds r ⌝ }
 {
-    numbers::RATIO_BOUNDS
+    entries::RATIO_BOUNDS
 }
 
 // 1, and one more while it is below 13 and its bound is at least what is stored.
