@@ -9,11 +9,50 @@ ghost use lib.ListN.{length};
 ghost use Rattle.buffers.specs.Walk.{AtMost};
 ghost use Rattle.rules.specs.Layout.{LegalLayout, frameSize, spectrumLength, factorLength};
 ghost use Rattle.rules.specs.Estimate.{usedBits, exceeds};
-ghost use Rattle.rules.specs.Boundary.{searchBoundary, boundaryOf};
+ghost use Rattle.rules.specs.Boundary.{lastOf, searchBoundary, boundaryOf};
 ghost use Rattle.resolutions.specs.Stretched.{IsStretched};
 ghost use Rattle.band_counts.specs.Counts.{Counted};
 use crate::moves::move_boundary;
 use rules::Layout;
+
+// Where the search stops: one is left, or the higher of two is probed.
+fn higher_or_lower(
+    layout: Layout,
+    curve: &[u8; 688],
+    scaled: &[f32],
+    counts: &[i32],
+    factors: &[u8],
+    level: usize,
+    used: usize,
+    low: usize,
+    high: usize,
+) -> usize
+    requires { ⌜ LegalLayout layout ⌝ }
+    requires { ⌜ IsStretched layout (now curve) × Counted layout (now scaled) (now counts) × AtMost 63 (now factors) ⌝ }
+    requires { ⌜ (length (now scaled) ≡ spectrumLength layout) × (length (now factors) ≡ factorLength layout) ⌝ }
+    requires { ⌜ (0 < level) × (level ≤ 254) × (low ≤ high) × (high ≤ 127) ⌝ }
+    requires { ⌜ (used ≡ usedBits layout (now scaled) (now factors) level low) × (used ≤ 8 * frameSize layout) ⌝ }
+    ensures { λ r. ⌜ (r ≡ lastOf (exceeds layout (now (scaled .entry)) (now (factors .entry)) level) low high) × (r ≤ 127) ⌝ }
+{
+    if low == high {
+        return low;
+    }
+    let probed = move_boundary(
+        layout,
+        curve,
+        scaled,
+        counts,
+        factors,
+        level,
+        used,
+        low,
+        high,
+    );
+    if 8 * layout.frame_size < probed {
+        return low;
+    }
+    high
+}
 
 // It always answers: low moves only to a probe below high. The bits of low are at hand, and a probe's are counted from them.
 fn binary_search_boundary(
@@ -55,25 +94,17 @@ fn binary_search_boundary(
             bits = probed;
         }
     }
-    if low == high {
-        return low;
-    }
-    if available
-        < move_boundary(
-            layout,
-            curve,
-            scaled,
-            counts,
-            factors,
-            level,
-            bits,
-            low,
-            high,
-        )
-    {
-        return low;
-    }
-    high
+    higher_or_lower(
+        layout,
+        curve,
+        scaled,
+        counts,
+        factors,
+        level,
+        bits,
+        low,
+        high,
+    )
 }
 
 // 0 at level 0, with no probe. The level search has counted the bits of boundary 0.

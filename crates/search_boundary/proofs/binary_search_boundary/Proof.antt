@@ -4,10 +4,9 @@ use mathlib.Core.Path.{_≡_, sym, _∙_}
 use Prim.Native.Nat.{ℕ, _≤_, _<_, _+_, _-_, _*_, _/_}
 use native.Mathlib.Omega.{arith}
 use borrow.Author.Needs.{needs}
-use borrow.Author.Tests.{eq-eqb, ne-eqb}
 use Rattle.rules.specs.Layout.{frameSize}
 use Rattle.rules.specs.Estimate.{usedBits, exceeds}
-use Rattle.rules.specs.Boundary.{lastOf, narrow, searchBoundary}
+use Rattle.rules.specs.Boundary.{narrow, searchBoundary}
 use Rattle.rules.proofs.Boundaries.{boundary-start, narrow-up, narrow-down, narrow-end}
 use Rattle.estimate.proofs.Probes.{probe-over, probe-fits}
 use Rattle.search_boundary.proofs.binary_search_boundary.Statement.{statement}
@@ -92,42 +91,16 @@ loop-again-2 c =
       c .if1 .left,
     )
 
+higher-or-lower-requires : tie.Need-higher-or-lower-requires Inv-loop μ-loop
+higher-or-lower-requires c κs =
+    let p = c .before .before .before .before .before .pre in
+    let i = c .before .loop .inv in
+    (p .0, (p .1 .0, ((p .1 .1 .0 .0, p .1 .1 .0 .1), ((p .1 .1 .0 .2, p .1 .1 .0 .3, i .0, i .1), (i .4, i .5)))))
+
 returns : tie.Need-returns Inv-loop μ-loop
-unfolding lastOf
 returns c =
-    let s = c .before .before in
-    (sym (s .loop .inv .3 ∙ (narrow-end _ _ _ _ (c .before .loop-test .left) ∙ rw (eq-eqb _ _ (c .if2 .taken)))), omega arith)
-
-move-boundary-requires-2 : tie.Need-move-boundary-requires-2 Inv-loop μ-loop
-move-boundary-requires-2 c κs =
-    let s = c .before .before .before .before .before .before in (
-      s .pre .0,
-      (
-        s .pre .1 .0,
-        (
-          (s .pre .1 .1 .0 .0, s .pre .1 .1 .0 .1),
-          ((s .pre .1 .1 .0 .2, s .pre .1 .1 .0 .3, search needs, search needs), (search needs, search needs)),
-        ),
-      ),
-    )
-
-returns-2 : tie.Need-returns-2 Inv-loop μ-loop
-unfolding lastOf
-returns-2 c =
-    let s = c .before .before .before .before in (
-      sym (s .loop .inv .3 ∙ (narrow-end _ _ _ _ (c .before .before .before .loop-test .left)
-          ∙ rw (ne-eqb _ _ (c .before .before .if2 .left), probe-over _ _ _ _ _ _ (c .before .move-boundary2 .ensures) (c .if3 .taken)))),
-      omega arith,
-    )
-
-returns-3 : tie.Need-returns-3 Inv-loop μ-loop
-unfolding lastOf
-returns-3 c =
-    let s = c .before .before .before .before in (
-      sym (s .loop .inv .3 ∙ (narrow-end _ _ _ _ (c .before .before .before .loop-test .left)
-          ∙ rw (ne-eqb _ _ (c .before .before .if2 .left), probe-fits _ _ _ _ _ _ (c .before .move-boundary2 .ensures) (c .if3 .left)))),
-      omega arith,
-    )
+    let e = c .higher-or-lower .ensures in
+    (e .0 ∙ sym (c .before .before .loop .inv .3 ∙ narrow-end _ _ _ _ (c .before .loop-test .left)), e .1)
 
 pub binary-search-boundary-spec : {M : Type 1} → statement M
 binary-search-boundary-spec =
@@ -145,7 +118,5 @@ binary-search-boundary-spec =
     loop-again
     loop-less-2
     loop-again-2
-    returns
-    move-boundary-requires-2
-    returns-2
-    returns-3)
+    higher-or-lower-requires
+    returns)
