@@ -11,8 +11,8 @@ use Rattle.search_boundary.proofs.moves.channel_change.Tie as tie
 
 abbrev Inv-loop : tie.InvT-loop
 Inv-loop layout curve scaled counts factors coded level from to end finer rise₀ fall₀ b₀ rise fall b =
-    (from ≤ b) × (b ≤ to) × (rise ≤ 96 * b) × (fall ≤ 96 * b)
-    × (channelBits layout scaled factors coded level b + fall ≡ channelBits layout scaled factors coded level from + rise)
+    (channelBits layout scaled factors coded level b + fall ≡ channelBits layout scaled factors coded level from + rise)
+    × (from ≤ b) × (b ≤ to) × (rise ≤ 96 * b) × (fall ≤ 96 * b)
 
 abbrev μ-loop : tie.MeasureT-loop
 μ-loop layout curve scaled counts factors coded level from to end finer rise₀ fall₀ b₀ rise fall b = end - b
@@ -34,7 +34,7 @@ sub-finer : tie.Need-sub-finer Inv-loop μ-loop
 sub-finer c = search needs
 
 loop-holds : tie.Need-loop-holds Inv-loop μ-loop
-loop-holds c = (search needs, search needs, search needs, search needs, refl)
+loop-holds c = (refl, search needs, search needs, search needs, search needs)
 
 shared-slice-read-factor : tie.Need-shared-slice-read-factor Inv-loop μ-loop
 shared-slice-read-factor c = search needs
@@ -75,15 +75,15 @@ loop-again c =
     let i = s .loop .inv in
     let k = coded-band _ _ _ _ (c .before .before .before .loop-test .taken) (c .before .before .before .before .before .lesser .ensures) in
     let p = passes (a .layout) (a .scaled .now) (a .factors .now) (a .coded) (a .level) b k in
-    let turn = changed _ _ _ _ _ _ _ b (i .4) p (i .2) (i .3) _ _ (c .before .band-bits .ensures .0) (c .band-bits2 .ensures .0)
+    let turn = changed _ _ _ _ _ _ _ b (i .0) p (i .3) (i .4) _ _ (c .before .band-bits .ensures .0) (c .band-bits2 .ensures .0)
     (c .before .band-bits .ensures .1) (c .band-bits2 .ensures .1) in
-    (search needs, search needs, turn .0, turn .1, turn .2)
+    (turn .2, search needs, search needs, turn .0, turn .1)
 
 returns : tie.Need-returns Inv-loop μ-loop
 returns c =
     let s = c .before in
     let a = c .before .before .before .before .before .args in
-    let e = s .loop .inv .4 in
+    let e = s .loop .inv .0 in
     let same : channelBits (a .layout) (a .scaled .now) (a .factors .now) (a .coded) (a .level) (a .to)
     ≡ channelBits (a .layout) (a .scaled .now) (a .factors .now) (a .coded) (a .level) (s .loop .b) =
     by-order (s .loop .b) (a .to)
