@@ -36,7 +36,7 @@ from mutants_text import Source, file_of, module_of, mutants_of, with_imports, w
 # because they take long, and how many seconds of CPU a copy may take on average (twice what most take), beside ten for each check
 
 GROUPS = {
-    'rules_files': {'above': ['list_demands', 'wav_demands'], 'slow': [], 'late': ['worked-header', 'plain-header'], 'seconds': 1},
+    'rules_files': {'above': ['file_header_demands', 'list_demands', 'wav_demands'], 'slow': [], 'late': ['worked-header', 'plain-header'], 'seconds': 1},
     'rules_stereo': {
         'above': ['stereo_demands'],
         'slow': ['stereo_demands/proofs/WorkedStereo'],

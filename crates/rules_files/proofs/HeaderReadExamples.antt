@@ -14,12 +14,14 @@ use Rattle.rules.specs.declared.ChannelType.the-variants.{Discrete}
 use Rattle.rules.specs.declared.Mode.the-variants.{Rust}
 use Rattle.rules.specs.declared.Layout.{Layout}
 use Rattle.rules_files.specs.declared.header.LoopPoints.the-variants as points
-use Rattle.rules_files.specs.declared.header.LoopFrames.the-variants.{Given}
+use Rattle.rules_files.specs.declared.header.LoopFrames.{LoopFrames}
+use Rattle.rules_files.specs.declared.header.LoopFrames.the-variants.{Absent, Given}
 use Rattle.rules_files.specs.declared.header.Stream.{Stream}
+use Rattle.rules_files.specs.declared.header.FileHeader.{FileHeader}
 use Rattle.rules_files.specs.declared.header.HeaderReadAnswer.the-variants as answers
 use Rattle.rules_files.specs.FileHeader.{channelMapping, loopFields, loopPieces, afterLoop, pieces, byteOf, headerOf}
 use Rattle.rules_files.specs.HeaderReading.{numberAt, allStand, zeroBytes, namesRight, loopAt, fieldsOf, limitsRight, loopRight, fieldsRight, restZero}
-use Rattle.rules_files.specs.HeaderReading.{pointsBack, streamBack, exactRead, readHeader, headerReadOutcome}
+use Rattle.rules_files.specs.HeaderReading.{pointsBack, streamBack, exactRead, readHeader, headerReadOutcome, loopNumbers, headerLayout}
 
 -- C 2, base 52, stereo 52, total 128, F 417; 44,100 Hz, 40 frames, padding 832, a loop from 5,000 to 40,000: 94 bytes, then the check
 abbrev sample : List ℕ
@@ -98,3 +100,30 @@ unfolding headerReadOutcome readHeader exactRead isSealed checksum value bitsOf 
     fieldsOf
     loopAt loopRight restZero zeroBytes every bandsPerGroup ceilDiv channelMapping
 last-byte = refl
+
+-- each field under its own place, none like another: the stream's and the loop's eight numbers, the layout's seven, and none beside a refusal
+abbrev fieldsWith : (points : LoopFrames) → FileHeader
+fieldsWith points = record {
+  channels = 2;
+  base = 52;
+  stereo = 53;
+  total = 128;
+  «frame_size» = 417;
+  minimum = 3;
+  maximum = 15;
+  rate = 44100;
+  frames = 40;
+  padding = 832;
+  points = points;
+}
+
+pub answered-numbers :
+    (headerReadOutcome (answers.Read (fieldsWith (Given 5 8 39 831))) ≡ delivered (44100 ∷ 40 ∷ 832 ∷ 1 ∷ 5 ∷ 8 ∷ 39 ∷ 831 ∷ []))
+    × (headerReadOutcome (answers.Read (fieldsWith Absent)) ≡ delivered (44100 ∷ 40 ∷ 832 ∷ 0 ∷ 0 ∷ 0 ∷ 0 ∷ 0 ∷ []))
+    × (headerLayout (answers.Read (fieldsWith Absent)) ≡ 2 ∷ 52 ∷ 53 ∷ 128 ∷ 417 ∷ 3 ∷ 15 ∷ [])
+    × (map headerLayout (answers.ShortBuffer ∷ answers.WrongCheck ∷ answers.WrongName ∷ answers.BadField ∷ answers.NotZero ∷ [])
+    ≡ [] ∷ [] ∷ [] ∷ [] ∷ [] ∷ [])
+    × (map headerReadOutcome (answers.ShortBuffer ∷ answers.WrongCheck ∷ answers.WrongName ∷ answers.BadField ∷ answers.NotZero ∷ [])
+    ≡ refused 2 0 ∷ refused 26 0 ∷ refused 27 0 ∷ refused 28 0 ∷ refused 29 0 ∷ [])
+unfolding headerReadOutcome loopNumbers headerLayout
+answered-numbers = (refl, refl, refl, refl, refl)
