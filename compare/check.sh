@@ -16,6 +16,7 @@ target/release/compare-stage --pairs --small
 target/release/compare-pairs
 target/release/compare-stage --held --small
 target/release/compare-modes
+target/release/compare-finest --small
 target/release/compare-records --small
 target/release/compare-records --pairs --small
 target/release/compare-records --held --small

@@ -133,7 +133,7 @@ enum { HCA_ANSWER_COUNT = 4 };
 
 /* What hca_encode_frame and hca_encode_stereo_frame deliver. */
 enum hca_encoded {
-    HCA_ENCODED_LEVEL = 0,      /* noise level, 0 to 254 */
+    HCA_ENCODED_LEVEL = 0,      /* noise level, 0 to 254; with HCA_MODE_HELD the least that fits, and the boundary the largest */
     HCA_ENCODED_BOUNDARY = 1,   /* bands below it are coded one level finer; 0 to 127, 0 at level 0 */
     HCA_ENCODED_PAIRS = 2,      /* pairs of bands removed before a level was found */
     HCA_ENCODED_BITS = 3,       /* bits of all fields, those before the fill */

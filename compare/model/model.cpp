@@ -463,6 +463,17 @@ bool find_level(const Work &w, u32 &level) {
     return true;
 }
 
+// Pairs of bands are removed, the highest first, until there is a level; false where there is none without them either.
+bool find_level_and_pairs(Work &w, u32 &level, u32 &pairs) {
+    int highest = int(w.l.start()) - 1;
+    for (pairs = 0; !find_level(w, level); pairs++) {
+        highest -= 2;
+        if (highest < 0) return false;
+        for (u32 c = 0; c < w.l.channels; c++) w.factors[c][highest + 1] = 0, w.factors[c][highest + 2] = 0;
+    }
+    return true;
+}
+
 // The search over 0..127, whatever is over.
 template <class Over> u32 search_boundary(Over over) {
     u32 low = 0, high = 127;
@@ -563,16 +574,7 @@ extern "C" std::uint32_t model_encode_frame(const u32 *layout, std::size_t layou
     find_factors(w, spectra);
     find_sides(w, spectra, intensities);
     u32 level = 0, boundary = 0, pairs = 0, bits = 0, number = 0, beside = 0;
-    int highest = int(l.start()) - 1;
-    while (number == 0 && !find_level(w, level)) {
-        highest -= 2;
-        if (highest < 0) {
-            number = 5, beside = pairs;
-            break;
-        }
-        for (u32 c = 0; c < n; c++) w.factors[c][highest + 1] = 0, w.factors[c][highest + 2] = 0;
-        pairs += 1;
-    }
+    if (!find_level_and_pairs(w, level, pairs)) number = 5, beside = pairs;
     if (number == 0) {
         boundary = find_boundary(w, level);
         find_codes(w, level, boundary);
@@ -589,4 +591,32 @@ extern "C" std::uint32_t model_encode_frame(const u32 *layout, std::size_t layou
     if (number != 0) return refuse(number, beside, answer, answer_len);
     answer[0] = level, answer[1] = boundary, answer[2] = pairs, answer[3] = bits;
     return 0;
+}
+
+// For compare-finest, over buffers of the stated lengths and a legal layout; false where it is none.
+
+// The scaled values and factors of finite spectra before any removal; found: level (255: none), boundary, pairs.
+extern "C" bool model_searched(const u32 *layout, std::size_t layout_len, const u8 *kinds, std::size_t kinds_len, const float *spectra,
+                               float *scaled, u8 *factors, u32 *found) {
+    static thread_local Work w;
+    std::memset(&w, 0, sizeof w);
+    if (!layout_of(w.l, layout, layout_len, kinds, kinds_len)) return false;
+    find_factors(w, spectra);
+    std::memcpy(scaled, w.scaled, w.l.channels * 1024 * sizeof(float));
+    std::memcpy(factors, w.factors, w.l.channels * 128);
+    bool some = find_level_and_pairs(w, found[0], found[2]);
+    found[0] = some ? found[0] : 255;
+    found[1] = some ? find_boundary(w, found[0]) : 0;
+    return true;
+}
+
+// The estimate at each of the levels 0 to 254 with boundary 0, or at each of the boundaries 0 to 127 with one level.
+extern "C" bool model_estimates(const u32 *layout, std::size_t layout_len, const u8 *kinds, std::size_t kinds_len, const float *scaled,
+                                const u8 *factors, u32 level, u32 *estimates, std::size_t estimates_len) {
+    static thread_local Work w;
+    if (!layout_of(w.l, layout, layout_len, kinds, kinds_len)) return false;
+    std::memcpy(w.scaled, scaled, w.l.channels * 1024 * sizeof(float));
+    std::memcpy(w.factors, factors, w.l.channels * 128);
+    for (u32 i = 0; i < estimates_len; i++) estimates[i] = estimates_len == 255 ? estimate(w, i, 0) : estimate(w, level, i);
+    return true;
 }

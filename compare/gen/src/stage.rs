@@ -61,6 +61,25 @@ pub fn is_clipped(index: u64) -> bool {
     index % 3 == 0
 }
 
+/// For what the searches leave unused: both modes in turn, under pairs of limits, half of the cases rich in values at and next to the upper clip.
+pub fn finest(seed: u64, index: u64) -> StageCall {
+    let other = seed ^ 0xA10A_0003;
+    let behind = if index % 2 == 0 { behind(other, index) } else { behind_held(other, index) };
+    let mut r = Rng::of_case(other, index).under(behind);
+    if !is_clipped_finest(index) {
+        return made(r, index);
+    }
+    let mut call = clipped_case(&mut r);
+    call.pattern = r.word() as u32;
+    r.complete(&mut call.layout);
+    call
+}
+
+/// Whether a case of `finest` is one of the clipped half.
+pub fn is_clipped_finest(index: u64) -> bool {
+    index % 4 < 2
+}
+
 pub(crate) fn made(mut r: Rng, index: u64) -> StageCall {
     let (kind, nth) = kind_of(index);
     let mut call = of_kind(&mut r, KINDS[kind].0, nth);

@@ -157,7 +157,7 @@ module _ (l : Layout) (count : ℕ) (t : LineLent) (a : Admits l count t) where
       let s = with-work l t count granted (frameWith l t k sc co fa si) k (g .below) refl refl refl r in
       (s .outcome ∙ g .outcome ∙ ap delivered (sym (g .answers)), s .frame ∙ sym (g .bytes))
 
-  -- ---- in held mode a delivered frame is read back
+  -- ---- a delivered frame, by the four numbers of its answers
 
   four : (ns : List ℕ) → length ns ≡ 4 → ns ≡ getD ns 0 0 ∷ getD ns 1 0 ∷ getD ns 2 0 ∷ getD ns 3 0 ∷ []
   four (x ∷ y ∷ z ∷ w ∷ []) e = refl
@@ -167,6 +167,17 @@ module _ (l : Layout) (count : ℕ) (t : LineLent) (a : Admits l count t) where
   four (x ∷ y ∷ z ∷ []) e = absurd (omega arith)
   four (x ∷ y ∷ z ∷ w ∷ v ∷ ns) e = absurd (omega arith)
 
+  pub line-single : (k : ℕ) → k < framesDone l count t
+      → let said : List ℕ = part 4 (encodeLine l count t .answers) k in
+      single l t k .outcome ≡ delivered (getD said 0 0 ∷ getD said 1 0 ∷ getD said 2 0 ∷ getD said 3 0 ∷ [])
+  line-single k h =
+      let said : List ℕ = part 4 (encodeLine l count t .answers) k in
+      let g = given (encodeLine l count t) standing k h in
+      let n : length said ≡ 4 = ap length (g .answers) ∙ answers-long l t count granted k (g .outcome) in
+      g .outcome ∙ ap delivered (sym (g .answers) ∙ four said n)
+
+  -- ---- in held mode a delivered frame is read back
+
   -- The strict reader, lent a delivered frame's bytes, hands back what the single call on that frame leaves, with the frame's level, boundary and bits.
   pub line-held-read : l .mode ≡ Held → (k : ℕ) → k < framesDone l count t
       → (u : ReaderLent) → readerHasRoom l u ≡ true → take (frameSize l) (u .frame) ≡ part (frameSize l) (encodeLine l count t .frames) k
@@ -175,12 +186,8 @@ module _ (l : Layout) (count : ℕ) (t : LineLent) (a : Admits l count t) where
   line-held-read mode k h u room q =
       let said : List ℕ = part 4 (encodeLine l count t .answers) k in
       let g = given (encodeLine l count t) standing k h in
-      let w = granted .room in
-      let (o, f) = line-frame k h (t .scaled) (t .codes) (t .factors) (t .side)
-      (record { scaled = w .scaled; codes = w .codes; factors = w .factors; side = w .side }) in
-      let n : length said ≡ 4 = ap length (g .answers) ∙ answers-long l t count granted k (g .outcome) in
-      held-read l (frameLent l k (allLent t)) (getD said 0 0) (getD said 1 0) (getD said 2 0) (getD said 3 0) (o ∙ ap delivered (four said n)) mode u room
-      (q ∙ sym f ∙ sym (take-all (frameSize l) (single l t k .frame) (omega (arith, bytes-long l t count granted k (g .below)))))
+      held-read l (frameLent l k (allLent t)) (getD said 0 0) (getD said 1 0) (getD said 2 0) (getD said 3 0) (line-single k h) mode u room
+      (q ∙ g .bytes ∙ sym (take-all (frameSize l) (single l t k .frame) (omega (arith, bytes-long l t count granted k (g .below)))))
 
   -- ---- the tally
 

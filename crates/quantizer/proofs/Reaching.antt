@@ -86,7 +86,7 @@ odd-twos : (k : ℕ) → k ≤ 16 → oddOf k * 2 ^ twosOf k ≡ k
 unfolding build oddOf twosOf
 odd-twos k h = build-agrees (λ (i : ℕ). oddOf i * 2 ^ twosOf i) (λ (i : ℕ). i) 17 refl k (omega arith)
 
-reaches-whole : (k : ℕ) (y : Float) → 1 ≤ k → k ≤ 16 → le (wholeF k) y ≡ leb k (wholeN (toSigned 31 y))
+pub reaches-whole : (k : ℕ) (y : Float) → 1 ≤ k → k ≤ 16 → le (wholeF k) y ≡ leb k (wholeN (toSigned 31 y))
 reaches-whole k y h l =
     let e = odd-twos k l in
     ap (λ (x : Float). le x y) (whole-form k l)

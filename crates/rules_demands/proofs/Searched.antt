@@ -22,7 +22,7 @@ use Rattle.rules_demands.proofs.Pairs.{factorsOf, scaledOf, pairs-least
 abbrev pub exceedsAfter : Layout → StageLent → ℕ → ℕ → ℕ → Bool
 exceedsAfter l t pairs = exceeds l (scaledOf l t) (afterPairs l (factorsOf l t) pairs)
 
-made-boundary : (l : Layout) (t : StageLent) → boundaryBy l t ≡ boundaryOf (levelBy l t) (exceedsAfter l t (pairsBy l t) (levelBy l t))
+pub made-boundary : (l : Layout) (t : StageLent) → boundaryBy l t ≡ boundaryOf (levelBy l t) (exceedsAfter l t (pairsBy l t) (levelBy l t))
 unfolding analysis analysisFrom
 made-boundary l t =
     ap (λ fs. boundaryOf (levelBy l t) (exceeds l (scaledOf l t) fs (levelBy l t)))

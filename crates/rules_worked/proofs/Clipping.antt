@@ -40,15 +40,15 @@ use Rattle.rules.specs.declared.Layout.{Layout}
 use Rattle.rules_worked.proofs.Runs.{halving, narrowing, removalStep, removing, allFinite, Example, Right, run-outcome, run-frame}
 use Rattle.rules_worked.proofs.Worked.{left}
 
--- one Discrete channel of one band, F = 10, resolutions 1 to 15
-abbrev alone : (mode : Mode) → Layout
-alone mode = record {
+-- one Discrete channel of so many bands, resolutions 1 to 15
+abbrev pub discrete : (mode : Mode) (bands size : ℕ) → Layout
+discrete mode bands size = record {
   channels = 1;
   kinds = replicate 16 (record { kind = Discrete });
-  base = 1;
+  base = bands;
   stereo = 0;
-  total = 1;
-  «frame_size» = 10;
+  total = bands;
+  «frame_size» = size;
   minimum = 1;
   maximum = 15;
   mode = mode;
@@ -61,7 +61,7 @@ alternating even odd = blocks (λ _. even ∷ replicate 127 (pos 0) ++ (odd ∷ 
 -- 1000.0 in even and -6.0 in odd subframes: the one is scaled to the clip, the other to about -0.53
 abbrev clipping : (mode : Mode) (even : ℤ) (n : ℕ) → Example
 clipping mode even n = record {
-  layout = alone mode;
+  layout = discrete mode 1 10;
   spectra = blocks (λ _. ofBits binary32 0x447A0000 ∷ replicate 127 zeroF ++ (ofBits binary32 0xC0C00000 ∷ replicate 127 zeroF)) 4;
   factors = 63 ∷ replicate 127 0;
   analysis = record {

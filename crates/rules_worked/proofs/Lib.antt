@@ -2,6 +2,7 @@ pub mod Runs
 pub mod Inputs
 pub mod Worked
 pub mod Clipping
+pub mod Unordered
 pub mod Empty
 pub mod Refusal7
 pub mod Pinned

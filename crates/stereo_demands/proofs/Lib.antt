@@ -12,4 +12,5 @@ pub mod StereoAnswers
 pub mod StereoCalls
 pub mod StereoExactly
 pub mod StereoKept
+pub mod StereoFinest
 pub mod WorkedStereo

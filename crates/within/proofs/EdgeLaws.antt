@@ -18,7 +18,7 @@ use Rattle.within.proofs.HeldLaws.{up-to, down-to, apart}
 both-zero : (a b : ℕ) → a ≡ 0 → b ≡ 0 → T (eqb a b && eqb a 0)
 both-zero a b p q = rw (p, q) tt
 
-ord→le : (t u : Bool) (m : ℕ) (e : ℤ) (n : ℕ) (d : ℤ) → Ord t (m * up e) (down e) u (n * up d) (down d) → T (le (fin t m e) (fin u n d))
+pub ord→le : (t u : Bool) (m : ℕ) (e : ℤ) (n : ℕ) (d : ℤ) → Ord t (m * up e) (down e) u (n * up d) (down d) → T (le (fin t m e) (fin u n d))
 unfolding le
 ord→le false false m e n d h = up-to (m * up e * down d) (n * up d * down e) (le-ltb (n * up d * down e) (m * up e * down d) h)
 ord→le true true m e n d h = down-to (m * up e * down d) (n * up d * down e) (le-ltb (m * up e * down d) (n * up d * down e) h)

@@ -1,6 +1,6 @@
 -- What the stage counts is within the clip: of a call that refusals 1 to 4 let pass, every scaled value. Assumes nothing.
-use mathlib.Core.Path.{_≡_, refl, sym, ap, _∙_, subst}
-use mathlib.Core.Bool.{Bool, true, false, not, cond}
+use mathlib.Core.Path.{_≡_, sym, ap, _∙_, subst}
+use mathlib.Core.Bool.{false, not, cond}
 use mathlib.Core.List.{List}
 use Prim.Native.Nat.{ℕ, _+_, _*_, _≤_, _<_}
 use native.Mathlib.Omega.{arith}
@@ -12,6 +12,7 @@ use lib.ListN.{length, getD, take, drop}
 use lib.Seq.{getD-take, getD-drop}
 use Rattle.buffers.specs.Walk.{build, blocks}
 use Rattle.buffers.proofs.Build.{length-build, build-at}
+use Rattle.buffers.proofs.Tests.{cond-both}
 use Rattle.floats.specs.Single.{zeroF}
 use Rattle.rules.specs.Layout.{spectrumLength, codedCountAt, part}
 use Rattle.rules.specs.Factor.{allFactors, channelFactors, bandFactor}
@@ -59,15 +60,16 @@ module _ (l : Layout) (t : StageLent) (good : Good l t) (c b s : ℕ) (h : c < l
       ∙ build-at (bandFactor (part 1024 spectra c) (codedCountAt l c)) 128 b 0 g in
       rw e (band-held (part 1024 spectra c) (codedCountAt l c) b)
 
-  -- so a band of the stage is counted by zones, never by the quantizer's marks
-  pub stage-within : Within (getD (part 1024 (scaledOf l t) c) (b * 8 + s) nan)
+  -- what 0.0 and the scaled values of finite spectra have, every value of the stage has
+  pub stage-value : (P : Float → Type 0) → P zeroF → ((f : ℕ) → f ≤ 63 → (x : Float) → T (finite x) → P (scaledValue f x))
+      → P (getD (part 1024 (scaledOf l t) c) (b * 8 + s) nan)
   unfolding allScaled
-  stage-within =
+  stage-value P zero each =
       let channel : ℕ → List Float = λ i. channelScaled (part 1024 spectra i) (part 128 (factorsOf l t) i) (codedCountAt l i) in
       let e = ap (λ xs. getD xs (b * 8 + s) nan) (block-part channel 1024 (l .channels) c (λ i _. scaled-size _ _ _) h)
       ∙ scaled-at (part 1024 spectra c) (part 128 (factorsOf l t) c) (codedCountAt l c) b s g k in
-      subst Within (sym e) (go (ltb b (codedCountAt l c)))
-    where
-      go : (p : Bool) → Within (cond p (scaledValue (getD (part 128 (factorsOf l t) c) b 0) (getD (part 1024 spectra c) (s * 128 + b) nan)) zeroF)
-      go true = scaled-within _ factor-at _ finite-at
-      go false = ends .2
+      subst P (sym e) (cond-both P (ltb b (codedCountAt l c)) (λ _. each _ factor-at _ finite-at) (λ _. zero))
+
+  -- so a band of the stage is counted by zones, never by the quantizer's marks
+  pub stage-within : Within (getD (part 1024 (scaledOf l t) c) (b * 8 + s) nan)
+  stage-within = stage-value Within (ends .2) scaled-within

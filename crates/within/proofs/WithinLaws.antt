@@ -202,7 +202,7 @@ held-neg zero q n h = absurd (none n h)
     none n h = omega arith
 held-neg (suc p) q n h = let k : n ≤ p = omega arith in rw (le-ltb p n k)
 
-held-in : (p q a s : ℕ) → s ≤ a + p → a ≤ s + q → heldZ (negℤ (pos p)) (pos q) (pos a -ℤ pos s) ≡ pos a -ℤ pos s
+pub held-in : (p q a s : ℕ) → s ≤ a + p → a ≤ s + q → heldZ (negℤ (pos p)) (pos q) (pos a -ℤ pos s) ≡ pos a -ℤ pos s
 held-in p q a zero h k = held-pos p q (a + 0) (omega arith)
 held-in p q a (suc s) h k = go (ltb a (suc s)) (ltb→lt a (suc s)) (nltb→le a (suc s))
   where

@@ -3,11 +3,13 @@
 use mathlib.Core.Path.{_≡_, refl, sym, ap, _∙_, subst}
 use Prim.Native.Nat.{ℕ, zero, suc, _+_, _-_, _*_, _≤_, _<_}
 use native.Mathlib.Nat.{zero-mul, one-mul}
+use native.Mathlib.Numerals.{add-one}
 use native.Mathlib.Omega.{arith}
 use mathlib.Core.Bool.{Bool, true, false, not, cond, _&&_}
-use borrow.Author.Tests.{leb-true, ltb-true, eqb-true, eqb-false}
+use borrow.Author.Tests.{leb-true, leb-false, ltb-true, eqb-true, eqb-false}
 use lib.Dec.{T, ltb, leb, eqb}
-use lib.Ieee.{Float, nan, inf, fin, binary32, ofBits, toBits, fits, neg, add, mul, le, ofInt, isNan}
+use lib.IntN.{ℤ, pos, negsuc, negℤ, _-ℤ_}
+use lib.Ieee.{Float, nan, inf, fin, binary32, ofBits, toBits, fits, neg, add, mul, le, ofInt, toSigned, isNan}
 use lib.Ieee.Bits.{is-true}
 use lib.Ieee.Scale.{finite}
 use lib.Ieee.Positive.{positive, le-trans-positive}
@@ -18,15 +20,18 @@ use Rattle.buffers.proofs.Tests.{and-fst, and-snd}
 use Rattle.floats.specs.Single.{oneF}
 use Rattle.rules.specs.Tables.{stepTable}
 use Rattle.rules.specs.Scaling.{clip}
-use Rattle.rules.specs.Code.{stepOf}
+use Rattle.rules.specs.Signed.{heldZ}
+use Rattle.rules.specs.Code.{stepOf, stepShift, rawCode, limitedCode}
 use Rattle.rules.specs.Estimate.{valueBits}
 use Rattle.rules.specs.declared.Mode.{Mode}
+use Rattle.rules.specs.declared.Mode.the-variants.{Held}
 use Rattle.rules.proofs.Modes.{silent-bits}
 use Rattle.quantizer.specs.Marks.{wholeF, nearAt, farAt, pastAt, highAt, lowAt, dropAt, marksAt}
-use Rattle.quantizer.proofs.Reaching.{value-counted, low-high}
+use Rattle.quantizer.proofs.Entries.{shift-low}
+use Rattle.quantizer.proofs.Reaching.{wholeN, reaches-whole, value-counted, low-high}
 use Rattle.within.specs.Within.{Within, withinB}
 use Rattle.within.specs.Zones.{lowPattern, highPattern, zoneLow, zoneHigh, clipPast, zoneDrop, reachedF}
-use Rattle.within.proofs.WithinLaws.{Y, argument-short, argument-positive, argument-grows}
+use Rattle.within.proofs.WithinLaws.{Y, argument-short, argument-positive, argument-grows, held-in}
 use Rattle.within.proofs.EdgeLaws.{Next, not-upper, not-upper-below}
 
 -- ---- a mark is reached from one value on
@@ -163,6 +168,10 @@ unfolding every nextB withinB edgeB zoneLow zoneHigh clipPast lowPattern highPat
     ofInt
 all-edges = refl
 
+all-past : every (λ i. eqb (pastAt (suc i)) (2 * suc i + 2)) 7 ≡ true
+unfolding every pastAt
+all-past = refl
+
 clip-within : Within clip
 unfolding withinB ofBits neg le
 clip-within = is-within clip refl
@@ -217,6 +226,35 @@ module _ (i : ℕ) (h : i < 7) where
         (edge r (wholeF (pastAt r)) clip clipBefore (and-snd (nextB clipBefore clip) _ e)
         (not-upper clipBefore clip (are-next clipBefore clip (and-fst (nextB clipBefore clip) _ e))))
         x f w
+
+    -- where the clip is not reached, past is not
+    not-past : le clip x ≡ false → le (wholeF (pastAt r)) (Y r x) ≡ false
+    not-past u = go (eqb (clipPast r) 0) past-ok
+      where
+        go : (p : Bool) → cond p (positive (wholeF (pastAt r)) && not (le (wholeF (pastAt r)) (Y r clip)))
+            (eqb (clipPast r) 1 && (nextB clipBefore clip && edgeB r (wholeF (pastAt r)) clip clipBefore)) ≡ true
+            → le (wholeF (pastAt r)) (Y r x) ≡ false
+        go true t = never-past t
+        go false t = past-from (and-snd (eqb (clipPast r) 1) _ t) ∙ u
+
+    -- and then the code is in its range, so that held mode changes nothing
+    pub never-limited : le clip x ≡ false → limitedCode Held r (rawCode r x) ≡ rawCode r x
+    unfolding rawCode ofInt
+    never-limited u =
+        let z : ℤ = toSigned 31 (Y r x) in
+        let past : pastAt r ≡ 2 * r + 2 = past-is in
+        let one : le oneF (Y r x) ≡ true = is-true _ (argument-short r few x w .least) in
+        let low = leb-true 1 (wholeN z) (sym (reaches-whole 1 (Y r x) (omega arith) (omega arith)) ∙ one) in
+        let high = leb-false (pastAt r) (wholeN z) (sym (reaches-whole (pastAt r) (Y r x) (omega arith) (omega arith)) ∙ not-past u) in
+        let shift : stepShift r ≡ pos (suc r) = sym (shift-low r (omega arith)) ∙ ap pos (add-one r) in
+        subst (λ s. heldZ (negℤ (pos r)) (pos r) (z -ℤ s) ≡ z -ℤ s) (sym shift) (in-range z low (omega arith))
+      where
+        past-is : pastAt r ≡ 2 * r + 2
+        past-is = eqb-true _ _ (every-at (λ k. eqb (pastAt (suc k)) (2 * suc k + 2)) 7 i all-past h)
+
+        in-range : (z : ℤ) → 1 ≤ wholeN z → wholeN z < 2 * r + 2 → heldZ (negℤ (pos r)) (pos r) (z -ℤ pos (suc r)) ≡ z -ℤ pos (suc r)
+        in-range (pos n) a b = held-in r r n (suc r) (omega arith) (omega arith)
+        in-range (negsuc n) a b = absurd (omega arith)
 
     -- what past drops, in a mode
     module _ (m : Mode) where
