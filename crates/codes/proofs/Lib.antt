@@ -1,2 +1,3 @@
+pub mod Columns
 pub mod Bands
-pub mod Channels
+mod Differences

@@ -1,21 +1,20 @@
--- A band's codes in a channel's, which stand by subframe and band. Definitions only.
-use mathlib.Core.Bool.{cond}
+-- A channel's codes laid band by band, while they stand by subframe and band. Definitions only.
+use mathlib.Core.Path.{_≡_}
 use mathlib.Core.List.{List}
-use Prim.Native.Nat.{ℕ, zero, suc, _+_, _*_}
-use lib.Dec.{eqb}
-use lib.IntN.{ℤ, pos}
-use lib.Ieee.{Float, nan}
+use Prim.Native.Nat.{ℕ, zero, suc, _+_, _*_, _≤_}
+use lib.IntN.{ℤ}
 use lib.ListN.{getD, set}
-use Rattle.rules.specs.Signed.{heldZ}
-use Rattle.rules.specs.Code.{rawCode}
-use Rattle.quantizer.specs.declared.Ends.{Ends}
-
--- a code held within these ends, 0 at resolution 0
-unfoldable pub codeIn : (ends : Ends) (resolution : ℕ) (x : Float) → ℤ
-codeIn ends resolution x = cond (eqb resolution 0) (pos 0) (heldZ (ends .low) (ends .high) (rawCode resolution x))
 
 -- a band's codes of the first subframes, laid over a channel's
-unfoldable pub bandLaid : (ends : Ends) (resolution : ℕ) (scaled : List Float) (band subframes : ℕ) (codes : List ℤ) → List ℤ
-bandLaid ends resolution scaled band zero codes = codes
-bandLaid ends resolution scaled band (suc s) codes =
-    set (bandLaid ends resolution scaled band s codes) (s * 128 + band) (codeIn ends resolution (getD scaled (band * 8 + s) nan))
+unfoldable pub bandLaid : (code : (subframe : ℕ) → ℤ) (band subframes : ℕ) (codes : List ℤ) → List ℤ
+bandLaid code band zero codes = codes
+bandLaid code band (suc s) codes = set (bandLaid code band s codes) (s * 128 + band) (code s)
+
+-- those of so many bands from one on, all eight subframes
+unfoldable pub bandsLaid : (code : (band subframe : ℕ) → ℤ) (start bands : ℕ) (codes : List ℤ) → List ℤ
+bandsLaid code start zero codes = codes
+bandsLaid code start (suc n) codes = bandLaid (code (start + n)) (start + n) 8 (bandsLaid code start n codes)
+
+-- from a band on every resolution is 0
+abbrev pub SilentFrom : (band : ℕ) (resolutions : List ℕ) → Type 0
+SilentFrom band resolutions = (i : ℕ) → band ≤ i → getD resolutions i 0 ≡ 0

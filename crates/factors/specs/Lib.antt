@@ -1,2 +1,3 @@
 pub mod Scaling
 pub mod Guess
+pub mod Finite

@@ -15,7 +15,7 @@ use Rattle.buffers.specs.Walk.{build, every}
 use Rattle.buffers.proofs.Build.{build-at}
 use Rattle.buffers.proofs.Every.{every-at}
 use Rattle.rules.specs.Tables.{stepTable, maxBitTable, spectrumBits}
-use Rattle.rules.specs.Code.{stepOf, stepShift, magnitudeBits, codeLimit}
+use Rattle.rules.specs.Code.{stepOf, stepShift, magnitudeBits}
 use Rattle.quantizer.specs.SixteenInOne.{entryOf}
 
 -- two functions that give the same list
@@ -64,10 +64,6 @@ power-le m h = (
   leb-true _ _ (every-at (λ (i : ℕ). leb 1 (2 ^ i)) 12 m refl (omega arith)),
   leb-true _ _ (every-at (λ (i : ℕ). leb (2 ^ i) 2048) 12 m refl (omega arith)),
 )
-
-pub limit-le : (r : ℕ) → r ≤ 15 → codeLimit r ≤ 2047
-unfolding every codeLimit magnitudeBits maxBitTable
-limit-le r h = leb-true _ _ (every-at (λ (i : ℕ). leb (codeLimit i) 2047) 16 r refl (omega arith))
 
 -- ---- QUANTIZER_INVERSE_STEP_SIZE, and the step + 0.5
 pub shift-low : (r : ℕ) → r < 8 → pos (r + 1) ≡ stepShift r

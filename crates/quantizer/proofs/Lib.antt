@@ -1,4 +1,3 @@
 pub mod Signs
 pub mod Entries
-pub mod EndLaws
 pub mod Reaching

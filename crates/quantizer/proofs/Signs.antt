@@ -1,28 +1,15 @@
 -- Signed numbers: the size of a sum and of a difference, what is held to a range, and a code's place. Assumes nothing.
-use mathlib.Core.Path.{_≡_, refl, subst, ap, _∙_}
+use mathlib.Core.Path.{_≡_, refl, ap, _∙_}
 use mathlib.Core.Bool.{Bool, true, false, cond}
 use Prim.Native.Nat.{ℕ, zero, suc, _+_, _-_, _≤_, _<_, min, zero-le}
 use native.Mathlib.Nat.{le-refl}
 use native.Mathlib.Omega.{arith}
 use borrow.Author.Tests.{lt-ltb, le-ltb, ltb-true, ltb-false}
-use lib.Dec.{T, ltb}
+use lib.Dec.{ltb}
 use lib.IntN.{ℤ, pos, negsuc, negℤ, _+ℤ_, _-ℤ_, natAbs}
-use lib.Signed.{mag, ltZ}
+use lib.Signed.{ltZ}
 use Rattle.rules.specs.Signed.{heldZ}
 use Rattle.rules.specs.Code.{codePlace}
-
--- what is held is no larger than the ends
-pub held-mag : (lo hi z : ℤ) (n : ℕ) → mag lo ≤ n → mag hi ≤ n → mag (heldZ lo hi z) ≤ n
-unfolding heldZ
-held-mag lo hi z n l h = go lo hi z (ltZ z lo) (ltZ hi z) refl refl l h
-  where
-    go : (lo hi z : ℤ) (p q : Bool) → ltZ z lo ≡ p → ltZ hi z ≡ q → mag lo ≤ n → mag hi ≤ n → mag (cond p lo (cond q hi z)) ≤ n
-    go lo hi z true q e f l h = l
-    go lo hi z false true e f l h = h
-    go lo (pos b) (pos k) false false e f l h = omega (arith, ltb-false b k f)
-    go lo (negsuc b) (pos k) false false e f l h = absurd (subst T f tt)
-    go (pos a) hi (negsuc k) false false e f l h = absurd (subst T e tt)
-    go (negsuc a) hi (negsuc k) false false e f l h = omega (arith, ltb-false a k e)
 
 -- held to plus or minus n: what lies at an end or past it is that end
 pub held-below : (n k : ℕ) → n ≤ k → heldZ (negℤ (pos n)) (pos n) (negsuc k) ≡ negℤ (pos n)

@@ -1,3 +1,2 @@
 pub mod SixteenInOne
 pub mod Marks
-pub mod Ends

@@ -41,15 +41,8 @@ fn whole_step(r: u8) -> u32
     if r < 8 { r as u32 + 1 } else { 1 << (r - 4) }
 }
 
-pub(crate) fn shift_of(r: u8) -> i64
-    requires { ⌜ r ≤ 15 ⌝ }
-    ensures { λ z. ⌜ z ≡ stepShift r ⌝ }
-{
-    whole_step(r) as i64
-}
-
 // QUANTIZER_INVERSE_STEP_SIZE.
-pub(crate) fn step_of(r: u8) -> f32
+pub fn step_of(r: u8) -> f32
     requires { ⌜ r ≤ 15 ⌝ }
     ensures { λ x. ⌜ x ≡ stepOf r ⌝ }
 {

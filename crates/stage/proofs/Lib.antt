@@ -2,5 +2,7 @@
 mod Wiped
 mod Prepared
 mod Ends
+-- the call
+pub mod Gated
 -- parts
 pub mod Wholes

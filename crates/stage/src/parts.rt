@@ -3,6 +3,7 @@ ghost use mathlib.Core.Path.{_≡_};
 ghost use lib.ListN.{length, take};
 ghost use Rattle.rules.specs.Layout.{LegalLayout, spectrumLength, sideLength, roomOf};
 ghost use Rattle.rules.specs.Stage.{stageLent, stageLeft, stageRoomOf, analysis, afterLevel, stageOverwrite};
+ghost use Rattle.factors.specs.Finite.{AllFinite};
 ghost use Rattle.stage_gate.specs.Gate.{StageHasRoom};
 use crate::run::run_stage;
 use rules::Layout;
@@ -22,6 +23,7 @@ pub fn encode_parts(
     requires { ⌜ LegalLayout layout ⌝ }
     requires { ⌜ StageHasRoom layout (stageRoomOf (length (now spectra)) (length (now intensities)) (length (now scaled))
         (roomOf (length (now factors)) (length (now side)) (length (now codes)) (length (now frame)))) ⌝ }
+    requires { ⌜ AllFinite (take (spectrumLength layout) (now spectra)) ⌝ }
     ensures { λ r. ⌜ stageLeft r (now (scaled .exit)) (now (codes .exit)) (now (factors .exit)) (now (side .exit)) (now (frame .exit))
         ≡ stageOverwrite (stageLent (now (spectra .entry)) (now (intensities .entry)) (now (scaled .entry)) (now (codes .entry)) (now (factors .entry))
         (now (side .entry)) (now (frame .entry))) (afterLevel layout

@@ -11,6 +11,7 @@ ghost use Rattle.rules.specs.Scaling.{allScaled};
 ghost use Rattle.rules.specs.Hfr.{allSide};
 ghost use Rattle.rules.specs.Stage.{analysis, stageLeft, afterLevel};
 ghost use Rattle.rules.specs.declared.Layout.{Layout};
+ghost use Rattle.factors.specs.Finite.{AllFinite};
 ghost use Rattle.stage.specs.Delivery.{ExactBuffers, wiped};
 ghost use Rattle.stage.specs.Lengths.{StageLengths};
 use crate::run::delivery::level_to_frame;
@@ -34,7 +35,7 @@ fn prepare(
     side: &mut [u8],
 )
     requires { ⌜ LegalLayout layout ⌝ }
-    requires { ⌜ (length (now spectra) ≡ spectrumLength layout) × (length (now intensities) ≡ sideLength layout) ⌝ }
+    requires { ⌜ (length (now spectra) ≡ spectrumLength layout) × (length (now intensities) ≡ sideLength layout) × AllFinite (now spectra) ⌝ }
     requires { ⌜ (length (now scaled) ≡ spectrumLength layout) × (length (now factors) ≡ factorLength layout) × (length (now side) ≡ sideLength layout) ⌝ }
     ensures factored { λ _. ⌜ now (factors .exit) ≡ allFactors layout (now (spectra .entry)) ⌝ }
     ensures rated { λ _. ⌜ now (scaled .exit) ≡ allScaled layout (now (spectra .entry)) (allFactors layout (now (spectra .entry))) ⌝ }
@@ -101,6 +102,7 @@ pub fn run_stage(
     requires { ⌜ LegalLayout layout ⌝ }
     requires { ⌜ StageLengths layout (length (now spectra)) (length (now intensities)) (length (now scaled)) (length (now codes))
         (length (now factors)) (length (now side)) (length (now frame)) ⌝ }
+    requires { ⌜ AllFinite (now spectra) ⌝ }
     ensures { λ r. ⌜ stageLeft r (now (scaled .exit)) (now (codes .exit)) (now (factors .exit)) (now (side .exit)) (now (frame .exit))
         ≡ afterLevel layout (analysis layout (now (spectra .entry)) (now (intensities .entry))) ⌝ }
 {

@@ -6,6 +6,7 @@ ghost use Rattle.rules.specs.Layout.{LegalLayout, spectrumLength, sideLength, r
 ghost use Rattle.rules.specs.Stage.{stageLent, stageLeft, stageRoomOf};
 ghost use Rattle.rules_stereo.specs.Mixed.{signal};
 ghost use Rattle.rules_stereo.specs.Stereo.{stereoLeft, withSignal, mixedFront, signalOverwrite, stereoRun, encodeStereoFrame};
+ghost use Rattle.factors.specs.Finite.{AllFinite};
 ghost use Rattle.stage_gate.specs.Gate.{StageHasRoom};
 use rules::Layout;
 use rules::Room;
@@ -46,6 +47,7 @@ fn encode_mixed(
     requires { ⌜ LegalLayout layout ⌝ }
     requires { ⌜ StageHasRoom layout (stageRoomOf (length (now spectra)) (length (now intensities)) (length (now scaled))
         (roomOf (length (now factors)) (length (now side)) (length (now codes)) (length (now frame)))) ⌝ }
+    requires { ⌜ AllFinite (mixedFront layout (signal (now spectra) (now intensities)) .spectra) ⌝ }
     ensures { λ r. ⌜ withSignal (signal (now (spectra .exit)) (now (intensities .exit)))
         (stageLeft r (now (scaled .exit)) (now (codes .exit)) (now (factors .exit)) (now (side .exit)) (now (frame .exit)))
         ≡ stereoRun layout (stageLent (now (spectra .entry)) (now (intensities .entry)) (now (scaled .entry)) (now (codes .entry)) (now (factors .entry))

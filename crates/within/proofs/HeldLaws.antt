@@ -1,4 +1,4 @@
--- Every scaled value of a finite spectrum is within the clip: so what `code_with` asks of it holds. Assumes nothing.
+-- Every scaled value of a finite spectrum is within the clip: so what a code by its column asks of it holds. Assumes nothing.
 use mathlib.Core.Path.{_≡_, refl, sym, ap, _∙_, subst}
 use mathlib.Core.Logic.{_⊎_, inl, inr}
 use Prim.Native.Nat.{ℕ, zero, suc, _+_, _*_, _≤_, _<_}

@@ -179,7 +179,7 @@ argument-grows r h x z w v l =
     go (fin t m e) (fin u n f) a b c d l = argument-mono (stepOf r) (ends-at r h .step) t u m e n f (small t m e a b) (small u n f c d) l
 
 -- ---- no code is held
-cut-is : (y : Float) → T (positive y) → num y < 4096 * den y → toSigned 31 y ≡ pos (num y / den y)
+pub cut-is : (y : Float) → T (positive y) → num y < 4096 * den y → toSigned 31 y ≡ pos (num y / den y)
 unfolding toSigned
 cut-is nan p h = absurd p
 cut-is (inf s) p h = absurd p

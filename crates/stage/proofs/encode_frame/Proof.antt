@@ -5,6 +5,7 @@ use Rattle.rules.specs.Stage.{behindGate}
 use Rattle.stage_gate.specs.Gate.{gateOutcome}
 use Rattle.stage_gate.specs.declared.Gate.the-variants.{Open, BadLayout, ShortBuffer, BadIntensity, BadSpectrum}
 use Rattle.stage_gate.proofs.Rooms.{gate-open, gate-lets}
+use Rattle.stage.proofs.Gated.{gate-finite}
 use borrow.Author.Needs.{needs}
 use Rattle.stage.proofs.encode_frame.Statement.{statement}
 use Rattle.stage.proofs.encode_frame.Tie as tie
@@ -29,8 +30,11 @@ enum-told-3 c = search needs
 
 encode-parts-requires : tie.Need-encode-parts-requires
 unfolding gateOutcome
-encode-parts-requires c κs = gate-open _ _ _ _ (sym (c .before .before .before .before .before .before .before .first-refusal .ensures)
-    ∙ ap gateOutcome (c .before .before .before .before .before .enum-told3 .given .1))
+encode-parts-requires c κs =
+    let e = sym (c .before .before .before .before .before .before .before .first-refusal .ensures)
+    ∙ ap gateOutcome (c .before .before .before .before .before .enum-told3 .given .1) in
+    let g = gate-open _ _ _ _ e in
+    (g .0, (g .1, gate-finite _ _ _ _ e))
 
 returns : tie.Need-returns
 unfolding behindGate gateOutcome stageOutcome

@@ -8,6 +8,7 @@ ghost use Rattle.rules.specs.Estimate.{usedBits};
 ghost use Rattle.rules.specs.Stage.{levelFound, stageLeft, analysisFrom, afterPacking, afterLevel};
 ghost use Rattle.resolutions.specs.Stretched.{IsStretched};
 ghost use Rattle.band_counts.specs.Counts.{Counted};
+ghost use Rattle.within.specs.Within.{AllWithin};
 ghost use Rattle.stage.specs.Delivery.{ExactBuffers, Delivers, foundAs, wiped};
 use band_counts::frame_counts;
 use codes::quantize_spectra;
@@ -38,7 +39,8 @@ fn codes_and_frame(
     requires { ⌜ LegalLayout layout ⌝ }
     requires { ⌜ (level ≤ 511) × (boundary ≤ 127) ⌝ }
     requires { ⌜ (length (now scaled) ≡ spectrumLength layout) × (length (now factors) ≡ factorLength layout) × (length (now side) ≡ sideLength layout) ⌝ }
-    requires { ⌜ (length (now resolutions) ≡ factorLength layout) × (length (now codes) ≡ spectrumLength layout) × (length (now frame) ≡ frameSize layout) ⌝ }
+    requires { ⌜ (length (now resolutions) ≡ factorLength layout) × (length (now codes) ≡ spectrumLength layout) × (length (now frame) ≡ frameSize layout)
+        × AllWithin (now scaled) ⌝ }
     ensures { λ r. ⌜ Delivers layout level boundary (now (scaled .entry)) (now (factors .entry)) (now (side .entry)) r (now (codes .exit))
         (now (frame .exit)) ⌝ }
 {
@@ -70,7 +72,7 @@ fn with_resolutions(
     requires { ⌜ LegalLayout layout ⌝ }
     requires { ⌜ (level ≤ 511) × (boundary ≤ 127) ⌝ }
     requires { ⌜ (length (now scaled) ≡ spectrumLength layout) × (length (now factors) ≡ factorLength layout) × (length (now side) ≡ sideLength layout) ⌝ }
-    requires { ⌜ (length (now codes) ≡ spectrumLength layout) × (length (now frame) ≡ frameSize layout) ⌝ }
+    requires { ⌜ (length (now codes) ≡ spectrumLength layout) × (length (now frame) ≡ frameSize layout) × AllWithin (now scaled) ⌝ }
     ensures { λ r. ⌜ Delivers layout level boundary (now (scaled .entry)) (now (factors .entry)) (now (side .entry)) r (now (codes .exit))
         (now (frame .exit)) ⌝ }
 {
@@ -104,7 +106,7 @@ fn boundary_to_frame(
 ) -> StageAnswer
     requires { ⌜ LegalLayout layout ⌝ }
     requires { ⌜ IsStretched layout (now curve) × Counted layout (now scaled) (now codes) × AtMost 63 (now factors) ⌝ }
-    requires { ⌜ level ≤ 254 ⌝ }
+    requires { ⌜ (level ≤ 254) × AllWithin (now scaled) ⌝ }
     requires { ⌜ (used ≡ usedBits layout (now scaled) (now factors) level 0) × (used ≤ 8 * frameSize layout) ⌝ }
     requires { ⌜ ExactBuffers layout (length (now scaled)) (length (now codes)) (length (now factors)) (length (now side)) (length (now frame)) ⌝ }
     ensures { λ r. ⌜ wiped layout (stageLeft r (now (scaled .entry)) (now (codes .exit)) (now (factors .entry)) (now (side .entry))
@@ -135,7 +137,7 @@ pub(crate) fn level_to_frame(
     frame: &mut [u8],
 ) -> StageAnswer
     requires { ⌜ LegalLayout layout ⌝ }
-    requires { ⌜ AtMost 63 (now factors) ⌝ }
+    requires { ⌜ AtMost 63 (now factors) × AllWithin (now scaled) ⌝ }
     requires { ⌜ ExactBuffers layout (length (now scaled)) (length (now codes)) (length (now factors)) (length (now side)) (length (now frame)) ⌝ }
     ensures { λ r. ⌜ wiped layout (stageLeft r (now (scaled .entry)) (now (codes .exit)) (now (factors .exit)) (now (side .entry))
         (now (frame .exit))) ≡ afterLevel layout (analysisFrom layout (now (scaled .entry)) (now (side .entry))

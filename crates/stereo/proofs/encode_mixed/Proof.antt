@@ -1,4 +1,7 @@
 -- `stereo::encode_mixed` meets its contract. Assumes nothing.
+use mathlib.Core.Path.{sym, ap, subst}
+use Rattle.factors.specs.Finite.{AllFinite}
+use Rattle.rules_stereo.specs.Mixed.{Signal}
 use Rattle.stereo.proofs.Fronts.{mixed-run}
 use borrow.Author.Needs.{needs}
 use Rattle.stereo.proofs.encode_mixed.Statement.{statement}
@@ -8,7 +11,12 @@ mix-parts-requires : tie.Need-mix-parts-requires
 mix-parts-requires c κs = search needs
 
 encode-parts-requires : tie.Need-encode-parts-requires
-encode-parts-requires c κs = search needs
+encode-parts-requires c κs =
+    let c15 = c .before .before .before .before .before .before .before .before .before .before .before .before .before .before .before in
+    let s = c15 .before .before .before .before .before in
+    let m = c .before .before .before .before .before .before .before .before .before .before .before .mix-parts in
+    let e = ap (λ (t : Signal). t .spectra) (m .ensures .1) in
+    (s .pre .0, (search needs, subst AllFinite (sym e) (s .pre .1 .1)))
 
 same-length : tie.Need-same-length
 same-length c =

@@ -4,6 +4,7 @@ use Rattle.rules_stereo.specs.Stereo.{stereoOutcome, stereoBehindGate}
 use Rattle.stereo_gate.specs.StereoGates.{stereoGateOutcome}
 use Rattle.stereo_gate.specs.declared.StereoGate.the-variants.{Open, Refused}
 use Rattle.stereo_gate.proofs.Opened.{stereo-open, stereo-lets}
+use Rattle.stereo.proofs.MixedGate.{mixed-fine}
 use borrow.Author.Needs.{needs}
 use Rattle.stereo.proofs.encode_stereo_frame.Statement.{statement}
 use Rattle.stereo.proofs.encode_stereo_frame.Tie as tie
@@ -19,8 +20,11 @@ enum-told c = search needs
 
 encode-mixed-requires : tie.Need-encode-mixed-requires
 unfolding stereoGateOutcome
-encode-mixed-requires c κs = stereo-open _ _ _ _ (sym (c .before .before .before .before .before .before .before .before .before .first-stereo-refusal .ensures)
-    ∙ ap stereoGateOutcome (c .before .before .before .before .before .before .before .enum-told .given .1))
+encode-mixed-requires c κs =
+    let e = sym (c .before .before .before .before .before .before .before .before .before .first-stereo-refusal .ensures)
+    ∙ ap stereoGateOutcome (c .before .before .before .before .before .before .before .enum-told .given .1) in
+    let g = stereo-open _ _ _ _ e in
+    (g .0, (g .1, mixed-fine _ _ _ _ (g .0) (g .1 .spectra) e))
 
 same-length : tie.Need-same-length
 same-length c = search needs

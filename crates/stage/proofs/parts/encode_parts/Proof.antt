@@ -16,39 +16,39 @@ mul-m : tie.Need-mul-m
 mul-m c = search needs
 
 slice-aggregate-run-stage : tie.Need-slice-aggregate-run-stage
-slice-aggregate-run-stage c = sym (length-take-le _ _ (c .before .before .before .before .before .before .before .before .before .before .pre .1 .spectra))
+slice-aggregate-run-stage c = sym (length-take-le _ _ (c .before .before .before .before .before .before .before .before .before .before .pre .1 .0 .spectra))
 
 slice-aggregate-run-stage-2 : tie.Need-slice-aggregate-run-stage-2
 slice-aggregate-run-stage-2 c = sym (length-take-le _ _
-    (c .before .before .before .before .before .before .before .before .before .before .before .pre .1 .intensities))
+    (c .before .before .before .before .before .before .before .before .before .before .before .pre .1 .0 .intensities))
 
 slice-relend-prefix-run-stage : tie.Need-slice-relend-prefix-run-stage
 slice-relend-prefix-run-stage c = search needs
 
 slice-aggregate-run-stage-3 : tie.Need-slice-aggregate-run-stage-3
 slice-aggregate-run-stage-3 c = sym (length-take-le _ _
-    (c .before .before .before .before .before .before .before .before .before .before .before .before .pre .1 .scaled))
+    (c .before .before .before .before .before .before .before .before .before .before .before .before .pre .1 .0 .scaled))
 
 slice-relend-prefix-run-stage-2 : tie.Need-slice-relend-prefix-run-stage-2
 slice-relend-prefix-run-stage-2 c = search needs
 
 slice-aggregate-run-stage-4 : tie.Need-slice-aggregate-run-stage-4
 slice-aggregate-run-stage-4 c = sym (length-take-le _ _
-    (c .before .before .before .before .before .before .before .before .before .before .before .before .before .pre .1 .stored .codes))
+    (c .before .before .before .before .before .before .before .before .before .before .before .before .before .pre .1 .0 .stored .codes))
 
 slice-relend-prefix-run-stage-3 : tie.Need-slice-relend-prefix-run-stage-3
 slice-relend-prefix-run-stage-3 c = search needs
 
 slice-aggregate-run-stage-5 : tie.Need-slice-aggregate-run-stage-5
 slice-aggregate-run-stage-5 c = sym (length-take-le _ _
-    (c .before .before .before .before .before .before .before .before .before .before .before .before .before .before .pre .1 .stored .factors))
+    (c .before .before .before .before .before .before .before .before .before .before .before .before .before .before .pre .1 .0 .stored .factors))
 
 slice-relend-prefix-run-stage-4 : tie.Need-slice-relend-prefix-run-stage-4
 slice-relend-prefix-run-stage-4 c = search needs
 
 slice-aggregate-run-stage-6 : tie.Need-slice-aggregate-run-stage-6
 slice-aggregate-run-stage-6 c = sym (length-take-le _ _
-    (c .before .before .before .before .before .before .before .before .before .before .before .before .before .before .before .pre .1 .stored .side))
+    (c .before .before .before .before .before .before .before .before .before .before .before .before .before .before .before .pre .1 .0 .stored .side))
 
 slice-relend-prefix-run-stage-5 : tie.Need-slice-relend-prefix-run-stage-5
 slice-relend-prefix-run-stage-5 c = search needs
@@ -56,22 +56,25 @@ slice-relend-prefix-run-stage-5 c = search needs
 slice-aggregate-run-stage-7 : tie.Need-slice-aggregate-run-stage-7
 slice-aggregate-run-stage-7 c =
     let c15 = c .before .before .before .before .before .before .before .before .before .before .before .before .before .before .before in
-    sym (length-take-le _ _ (c15 .before .pre .1 .stored .frame))
+    sym (length-take-le _ _ (c15 .before .pre .1 .0 .stored .frame))
 
 run-stage-requires : tie.Need-run-stage-requires
 run-stage-requires c κs =
     let c15 = c .before .before .before .before .before .before .before .before .before .before .before .before .before .before .before in
     let s = c15 .before in (
       s .pre .0,
-      record {
-        spectra = length-take-le _ _ (s .pre .1 .spectra);
-        intensities = length-take-le _ _ (s .pre .1 .intensities);
-        scaled = length-take-le _ _ (s .pre .1 .scaled);
-        codes = length-take-le _ _ (s .pre .1 .stored .codes);
-        factors = length-take-le _ _ (s .pre .1 .stored .factors);
-        side = length-take-le _ _ (s .pre .1 .stored .side);
-        frame = length-take-le _ _ (s .pre .1 .stored .frame);
-      },
+      (
+        record {
+          spectra = length-take-le _ _ (s .pre .1 .0 .spectra);
+          intensities = length-take-le _ _ (s .pre .1 .0 .intensities);
+          scaled = length-take-le _ _ (s .pre .1 .0 .scaled);
+          codes = length-take-le _ _ (s .pre .1 .0 .stored .codes);
+          factors = length-take-le _ _ (s .pre .1 .0 .stored .factors);
+          side = length-take-le _ _ (s .pre .1 .0 .stored .side);
+          frame = length-take-le _ _ (s .pre .1 .0 .stored .frame);
+        },
+        s .pre .1 .1,
+      ),
     )
 
 same-length : tie.Need-same-length
@@ -95,11 +98,11 @@ returns c =
     let s = c15 .before .before .before .before .before .before .before .before .before .before .before in
     let r = c .before .before .before .before .before .before .before .before .before .run-stage in
     opened _ _ (s .args .spectra .now) (s .args .intensities .now) _ _ _ _ _ _ _ _ _ _ _ _
-    (r .kept .1 .1 .1 .0 ∙ length-take-le _ _ (s .pre .1 .scaled))
-    (r .kept .1 .1 .1 .1 .0 ∙ length-take-le _ _ (s .pre .1 .stored .codes))
-    (r .kept .1 .1 .1 .1 .1 .0 ∙ length-take-le _ _ (s .pre .1 .stored .factors))
-    (r .kept .1 .1 .1 .1 .1 .1 .0 ∙ length-take-le _ _ (s .pre .1 .stored .side))
-    (r .kept .1 .1 .1 .1 .1 .1 .1 .0 ∙ length-take-le _ _ (s .pre .1 .stored .frame))
+    (r .kept .1 .1 .1 .0 ∙ length-take-le _ _ (s .pre .1 .0 .scaled))
+    (r .kept .1 .1 .1 .1 .0 ∙ length-take-le _ _ (s .pre .1 .0 .stored .codes))
+    (r .kept .1 .1 .1 .1 .1 .0 ∙ length-take-le _ _ (s .pre .1 .0 .stored .factors))
+    (r .kept .1 .1 .1 .1 .1 .1 .0 ∙ length-take-le _ _ (s .pre .1 .0 .stored .side))
+    (r .kept .1 .1 .1 .1 .1 .1 .1 .0 ∙ length-take-le _ _ (s .pre .1 .0 .stored .frame))
     (r .ensures)
 
 pub encode-parts-spec : {M : Type 1} → statement M

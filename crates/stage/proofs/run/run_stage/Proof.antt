@@ -4,6 +4,8 @@ use Prim.Native.Nat.{_<_}
 use native.Mathlib.Omega.{arith}
 use lib.ListN.{getD}
 use Rattle.factors.proofs.Small.{factors-small}
+use Rattle.within.specs.Within.{AllWithin}
+use Rattle.within.proofs.StageWithin.{all-within}
 use Rattle.rules.specs.Stage.{afterLevel}
 use Rattle.stage.proofs.Prepared.{made-of-prepared}
 use borrow.Author.Needs.{needs}
@@ -13,18 +15,21 @@ use Rattle.stage.proofs.run.run_stage.Tie as tie
 prepare-requires : tie.Need-prepare-requires
 prepare-requires c κs =
     let s = c .before .before .before .before .before .before .before .before .before in
-    let a = s .pre .1 in
-    (s .pre .0, ((a .spectra, a .intensities), (a .scaled, a .factors, a .side)))
+    let a = s .pre .1 .0 in
+    (s .pre .0, ((a .spectra, a .intensities, s .pre .1 .1), (a .scaled, a .factors, a .side)))
 
 level-to-frame-requires : tie.Need-level-to-frame-requires
 level-to-frame-requires c κs =
     let c15 = c .before .before .before .before .before .before .before .before .before .before .before .before .before .before .before in
     let s = c15 .before .before .before .before .before .before in
-    let a = s .pre .1 in
+    let a = s .pre .1 .0 in
     let p = c .before .before .before .before .before .before .before .before .before .before .before .prepare in (
       s .pre .0,
       (
-        (λ i. let h = subst (λ fs. getD fs i 0 < 64) (sym (p .ensures .0)) (factors-small _ _ i) in omega arith),
+        (
+          (λ i. let h = subst (λ fs. getD fs i 0 < 64) (sym (p .ensures .0)) (factors-small _ _ i) in omega arith),
+          subst AllWithin (sym (p .ensures .1 .0)) (all-within _ _ (s .pre .1 .1) (a .spectra)),
+        ),
         record {
           scaled = p .kept .1 .1 .1 .0 ∙ a .scaled;
           codes = a .codes;
@@ -76,7 +81,7 @@ returns c =
     let c15 = c .before .before .before .before .before .before .before .before .before .before .before .before .before .before .before in
     let c30 = c15 .before .before .before .before .before .before .before .before .before .before .before .before .before .before .before in
     let s = c30 .before .before .before .before .before .before .before .before .before .before .before .before in
-    let a = s .pre .1 in
+    let a = s .pre .1 .0 in
     let p = c30 .before .before .prepare in
     let t = c15 .before .before .before .before .before .level-to-frame in
     c .before .before .before .before .before .before .before .before .before .clear-refused .ensures (s .args .layout)

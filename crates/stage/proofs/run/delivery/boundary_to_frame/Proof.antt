@@ -9,7 +9,7 @@ calculate-evaluation-boundary-requires : tie.Need-calculate-evaluation-boundary-
 calculate-evaluation-boundary-requires c κs =
     let s = c .before .before .before .before .before in
     let z = s .pre .1 .1 .1 .1 in
-    (s .pre .0, (s .pre .1 .0, ((z .scaled, z .factors, s .pre .1 .1 .0), s .pre .1 .1 .1 .0)))
+    (s .pre .0, (s .pre .1 .0, ((z .scaled, z .factors, s .pre .1 .1 .0 .0), s .pre .1 .1 .1 .0)))
 
 with-resolutions-requires : tie.Need-with-resolutions-requires
 with-resolutions-requires c κs =
@@ -17,8 +17,8 @@ with-resolutions-requires c κs =
     let z = s .pre .1 .1 .1 .1 in (
       s .pre .0,
       (
-        (omega (arith, s .pre .1 .1 .0), c .before .before .calculate-evaluation-boundary .ensures .1),
-        ((z .scaled, z .factors, z .side), (z .codes, z .frame)),
+        (omega (arith, s .pre .1 .1 .0 .0), c .before .before .calculate-evaluation-boundary .ensures .1),
+        ((z .scaled, z .factors, z .side), (z .codes, z .frame, s .pre .1 .1 .0 .1)),
       ),
     )
 

@@ -13,8 +13,13 @@ calculate-frame-resolutions-requires c κs = search needs
 quantize-spectra-requires : tie.Need-quantize-spectra-requires
 quantize-spectra-requires c κs =
     let s = c .before .before .before .before .before .before .before .before .before .before .before in
-    let r = c .before .before .before .before .calculate-frame-resolutions in
-    (s .pre .0, (rw (r .ensures) (resolutions-most _ _ _ _ (s .pre .0)), (r .kept .1 .1 .1 .1 .0 ∙ s .pre .1 .1 .1 .0, s .pre .1 .1 .0 .0, s .pre .1 .1 .1 .1)))
+    let r = c .before .before .before .before .calculate-frame-resolutions in (
+      s .pre .0,
+      (
+        (rw (r .ensures) (resolutions-most _ _ _ _ (s .pre .0)), s .pre .1 .1 .1 .3),
+        (r .kept .1 .1 .1 .1 .0 ∙ s .pre .1 .1 .1 .0, s .pre .1 .1 .0 .0, s .pre .1 .1 .1 .1),
+      ),
+    )
 
 pack-frame-requires : tie.Need-pack-frame-requires
 pack-frame-requires c κs =

@@ -19,7 +19,7 @@ calculate-noise-level-requires c κs =
     let z = s .pre .1 .1 in (
       s .pre .0,
       (
-        (c .before .before .before .curve-table .ensures, c .before .before .before .before .before .frame-counts .ensures, s .pre .1 .0),
+        (c .before .before .before .curve-table .ensures, c .before .before .before .before .before .frame-counts .ensures, s .pre .1 .0 .0),
         (z .scaled, z .factors),
       ),
     )
@@ -54,7 +54,7 @@ boundary-to-frame-requires c κs =
       s .pre .0,
       (
         (c .before .before .before .before .before .before .before .before .before .before .before .before .curve-table .ensures, f .ensures, n .6),
-        (h, ((u, n .5), record { scaled = z .scaled; codes = f .kept .1 .1 .0 ∙ z .codes; factors = k; side = z .side; frame = z .frame })),
+        ((h, s .pre .1 .0 .1), ((u, n .5), record { scaled = z .scaled; codes = f .kept .1 .1 .0 ∙ z .codes; factors = k; side = z .side; frame = z .frame })),
       ),
     )
 

@@ -24,7 +24,7 @@ slice-aggregate-codes-and-frame c = sym (front 2048 _ 0 (omega (arith, c .before
 codes-and-frame-requires : tie.Need-codes-and-frame-requires
 codes-and-frame-requires c κs =
     let s = c .before .before .before .before .before .before .before .before in
-    (s .pre .0, (s .pre .1 .0, (s .pre .1 .1 .0, (front 2048 _ 0 (omega (arith, s .pre .0)), s .pre .1 .1 .1 .0, s .pre .1 .1 .1 .1))))
+    (s .pre .0, (s .pre .1 .0, (s .pre .1 .1 .0, (front 2048 _ 0 (omega (arith, s .pre .0)), s .pre .1 .1 .1 .0, s .pre .1 .1 .1 .1, s .pre .1 .1 .1 .2))))
 
 same-length : tie.Need-same-length
 same-length c = search needs
