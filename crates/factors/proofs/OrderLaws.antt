@@ -189,7 +189,7 @@ module _ (x v : Float) (xf : T (fits binary32 x)) (p : T (positive x)) (low : to
       not-above (λ (k : vb < xb). bits-lt xb vb k low q l)
 
 -- ---- x < y ≤ v
-through-lt : (x y z p q r : ℕ) → 0 < r → x * q < y * p → y * r ≤ z * q → x * r < z * p
+pub through-lt : (x y z p q r : ℕ) → 0 < r → x * q < y * p → y * r ≤ z * q → x * r < z * p
 through-lt x y z p q r R h k =
     lt-of-mul-lt-mul-right q
     (lt-of-le-of-lt (le-of-eq (mul-right-comm x r q))

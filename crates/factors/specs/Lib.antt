@@ -1,3 +1,4 @@
 pub mod Scaling
 pub mod Guess
 pub mod Finite
+pub mod Top

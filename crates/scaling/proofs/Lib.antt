@@ -1,2 +1,4 @@
 pub mod Small
 pub mod Scaled
+pub mod HoldLaws
+pub mod Stored

@@ -1,7 +1,8 @@
 -- `factors::calculate_scale_factors` meets its contract. The invariant: the first c channels are done. Assumes nothing.
 use mathlib.Core.Path.{refl, _∙_}
 use mathlib.Core.List.{List}
-use Prim.Native.Nat.{ℕ, _≤_, _-_, _*_}
+use Prim.Native.Nat.{ℕ, _≤_, _+_, _-_, _*_}
+use native.Mathlib.Omega.{arith}
 use borrow.Author.Needs.{needs}
 use lib.Ieee.{Float}
 use Rattle.buffers.proofs.Build.{back-width}
@@ -11,6 +12,7 @@ use Rattle.rules.specs.Factor.{channelFactors, allFactors}
 use Rattle.rules.specs.declared.Layout.{Layout}
 use Rattle.rules.proofs.LentRows.{next-le, nearer, below, next-fits, start-fits, end-fits, bytes-fits, starts, ends, next-ends, lent-long}
 use Rattle.rules.proofs.Made.{factors-size}
+use Rattle.factors.proofs.FiniteLaws.{part-finite}
 use Rattle.factors.proofs.calculate_scale_factors.Statement.{statement}
 use Rattle.factors.proofs.calculate_scale_factors.Tie as tie
 
@@ -60,7 +62,7 @@ part-channel-factors-end : tie.Need-part-channel-factors-end Inv-loop μ-loop
 part-channel-factors-end c =
     let start = c .before .before .before .before .before in
     let h = c .before .loop-test .taken in
-    ends 1024 _ _ _ h (start .pre .1 .1 .0)
+    ends 1024 _ _ _ h (start .pre .1 .1 .1 .0)
 
 add-channel-factors-2 : tie.Need-add-channel-factors-2 Inv-loop μ-loop
 add-channel-factors-2 c =
@@ -79,14 +81,26 @@ part-channel-factors-end-2 c =
     let start = c .before .before .before .before .before .before in
     let s = c .before .before .before in
     let h = c .before .before .loop-test .taken in
-    ends 128 _ _ _ h (s .loop .inv .1 .0 ∙ start .pre .1 .1 .1)
+    ends 128 _ _ _ h (s .loop .inv .1 .0 ∙ start .pre .1 .1 .1 .1)
 
 channel-factors-requires : tie.Need-channel-factors-requires Inv-loop μ-loop
 channel-factors-requires c κs =
     let start = c .before .before .before .before .before .before .before in
     let s = c .before .before .before .before in
     let h = c .before .before .before .loop-test .taken in
-    (start .pre .1 .0, (lent-long 1024 _ _ _ h (start .pre .1 .1 .0), lent-long 128 _ _ _ h (s .loop .inv .1 .0 ∙ start .pre .1 .1 .1)))
+    let count = c .before .before .coded-count .ensures .1 in
+    let xs = start .args .spectra .now in
+    let a = s .loop .c * 1024 in (
+      part-finite a (a + 1024 - a) xs (start .pre .1 .0),
+      (
+        start .pre .1 .1 .0,
+        (
+          lent-long 1024 _ _ _ h (start .pre .1 .1 .1 .0),
+          lent-long 128 _ _ _ h (s .loop .inv .1 .0 ∙ start .pre .1 .1 .1 .1),
+          omega arith,
+        ),
+      ),
+    )
 
 add-c : tie.Need-add-c Inv-loop μ-loop
 add-c c =
@@ -106,7 +120,7 @@ loop-again c =
     let h = c .before .before .before .before .before .before .loop-test .taken in (
       next-le _ _ h,
       blocked-more (factorsAt l xs) 128 (l .channels) (start .args .factors .now) (λ i h. factors-size _ _) (s .loop .c) (s .loop .factors)
-          h (s .loop .inv .1) (c .before .before .channel-factors .last .1 .1 .1 .0) (next-ends 128 _ _ _ h (start .pre .1 .1 .1))
+          h (s .loop .inv .1) (c .before .before .channel-factors .last .1 .1 .1 .0) (next-ends 128 _ _ _ h (start .pre .1 .1 .1 .1))
           (c .before .before .channel-factors .ensures ∙ rw (
             back-width (s .loop .c * 1024) 1024,
             c .before .before .before .before .before .coded-count .ensures .0,

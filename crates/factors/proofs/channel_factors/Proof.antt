@@ -1,58 +1,54 @@
--- `factors::channel_factors` meets its contract. The invariant: the first b factors are the bands'. Assumes nothing.
-use Prim.Native.Nat.{_≤_, _-_}
-use native.Mathlib.Omega.{arith}
+-- `factors::channel_factors` meets its contract. Assumes nothing.
 use borrow.Author.Needs.{needs}
-use Rattle.buffers.proofs.Build.{Filled, filled-none, filled-more, filled-all}
-use Rattle.rules.specs.Factor.{bandFactor, channelFactors}
+use Rattle.factors.proofs.Channel.{channel-laid}
 use Rattle.factors.proofs.channel_factors.Statement.{statement}
 use Rattle.factors.proofs.channel_factors.Tie as tie
 
-abbrev Inv-loop : tie.InvT-loop
-Inv-loop table spectra coded factors₀ b₀ factors b = (b ≤ 128) × Filled (bandFactor spectra coded) factors₀ b factors
+slice-aggregate-fill-tops : tie.Need-slice-aggregate-fill-tops
+slice-aggregate-fill-tops c = search needs
 
-abbrev μ-loop : tie.MeasureT-loop
-μ-loop table spectra coded factors₀ b₀ factors b = 128 - b
+fill-tops-requires : tie.Need-fill-tops-requires
+fill-tops-requires c κs = search needs
 
-loop-holds : tie.Need-loop-holds Inv-loop μ-loop
-loop-holds c = (search needs, filled-none _ _)
+slice-aggregate-factors-of : tie.Need-slice-aggregate-factors-of
+slice-aggregate-factors-of c = search needs
 
-band-factor-requires : tie.Need-band-factor-requires Inv-loop μ-loop
-band-factor-requires c κs = search needs
+factors-of-requires : tie.Need-factors-of-requires
+factors-of-requires c κs = search needs
 
-slice-write-factors : tie.Need-slice-write-factors Inv-loop μ-loop
-slice-write-factors c = search needs
+sub-clear-u8 : tie.Need-sub-clear-u8
+sub-clear-u8 c = search needs
 
-add-b : tie.Need-add-b Inv-loop μ-loop
-add-b c = search needs
+part-clear-u8-start : tie.Need-part-clear-u8-start
+part-clear-u8-start c = search needs
 
-loop-less : tie.Need-loop-less Inv-loop μ-loop
-loop-less c = search needs
+part-clear-u8-end : tie.Need-part-clear-u8-end
+part-clear-u8-end c = search needs
 
-loop-again : tie.Need-loop-again Inv-loop μ-loop
-loop-again c =
-    let s = c .before .before in
-    (search needs, filled-more _ (s .before .before .before .args .factors .now) _ _ _ (omega arith) (s .loop .inv .1) (c .band-factor .ensures))
+clear-u8-requires : tie.Need-clear-u8-requires
+clear-u8-requires c κs = search needs
 
-same-length : tie.Need-same-length Inv-loop μ-loop
-same-length c = c .before .loop .inv .1 .0
+same-length : tie.Need-same-length
+same-length c = search needs
 
-returns : tie.Need-returns Inv-loop μ-loop
-unfolding channelFactors
+returns : tie.Need-returns
 returns c =
-    filled-all _ (c .before .before .before .before .args .factors .now) (c .before .loop .b) 128 _ (search needs) (search needs) (search needs)
-    (c .before .loop .inv .1)
+    let s = c .before .before .before .before .before .before in
+    let start = s .before .before .before .before .before .before .before .before in
+    channel-laid _ _ (start .pre .1 .1 .2) _ _ (s .before .before .before .before .fill-tops .ensures) _ _ _ (search needs) (s .factors-of .ensures)
+    (c .before .before .clear-u8 .ensures)
 
 pub channel-factors-spec : {M : Type 1} → statement M
 channel-factors-spec =
     tie.close
     (tie.spec
-    Inv-loop
-    μ-loop
-    loop-holds
-    band-factor-requires
-    slice-write-factors
-    add-b
-    loop-less
-    loop-again
+    slice-aggregate-fill-tops
+    fill-tops-requires
+    slice-aggregate-factors-of
+    factors-of-requires
+    sub-clear-u8
+    part-clear-u8-start
+    part-clear-u8-end
+    clear-u8-requires
     same-length
     returns)

@@ -2,6 +2,7 @@
 use mathlib.Core.Path.{refl, _∙_}
 use mathlib.Core.List.{List}
 use Prim.Native.Nat.{ℕ, _≤_, _+_, _-_, _*_}
+use native.Mathlib.Omega.{arith}
 use borrow.Author.Needs.{needs}
 use lib.Ieee.{Float}
 use Rattle.buffers.proofs.Build.{back-width}
@@ -125,6 +126,7 @@ scale-channel-requires c κs =
           lent-long 1024 _ _ _ h (start .pre .1 .1 .1 .0),
           lent-long 128 _ _ _ h (start .pre .1 .1 .1 .1),
           lent-long 1024 _ _ _ h (s .loop .inv .1 .0 ∙ start .pre .1 .1 .1 .2),
+          omega (arith, c .before .before .before .coded-count .ensures .1),
         ),
       ),
     )
