@@ -4,31 +4,39 @@
 pub mod averages;
 
 ghost use mathlib.Core.Path.{_≡_};
-ghost use Prim.Native.Nat.{_<_};
+ghost use mathlib.Core.Bool.{cond};
+ghost use Prim.Native.Nat.{_≤_, _<_};
+ghost use lib.Dec.{ltb};
 ghost use lib.ListN.{length};
 ghost use Rattle.rules.specs.Layout.{LegalLayout, spectrumLength, sideLength};
-ghost use Rattle.rules.specs.Hfr.{hfrScale, allSide, intensitySide, scaleSide, sideOf};
+ghost use Rattle.floats.specs.Single.{mean};
+ghost use Rattle.rules.specs.Factor.{factorOf};
+ghost use Rattle.rules.specs.Hfr.{groupValue, allSide, intensitySide, scaleSide, sideOf};
 ghost use Rattle.factors.specs.Scaling.{IsScaling};
+ghost use Rattle.hfr.specs.Sums.{scaleAt, fourSet};
 use crate::averages::group_value;
-use crate::averages::hfr_source_average;
-use crate::averages::hfr_spectra_average;
+use crate::averages::hfr_source_averages;
+use crate::averages::hfr_spectra_averages;
+use floats::Average;
 use rules::Layout;
 
-fn calculate_hfr_scale(
-    layout: Layout,
+// A group's scale, of its two averages; 0 past the last group.
+fn scale_of(
     table: &[f32; 64],
-    spectra: &[f32],
-    scaled: &[f32],
+    groups: usize,
     group: usize,
+    spectrum: Average,
+    source: Average,
 ) -> u8
-    requires { ⌜ LegalLayout layout ⌝ }
     requires { ⌜ IsScaling (now table) ⌝ }
-    requires { ⌜ (length (now spectra) ≡ 1024) × (length (now scaled) ≡ 1024) × (group < 8) ⌝ }
-    ensures { λ r. ⌜ r ≡ hfrScale layout (now (spectra .entry)) (now (scaled .entry)) group ⌝ }
+    requires { ⌜ (spectrum .count ≤ 128) × (source .count ≤ 128) ⌝ }
+    ensures { λ r. ⌜ r ≡ cond (ltb group groups) (factorOf (groupValue (mean spectrum) (mean source))) 0 ⌝ }
 {
-    let spectrum = hfr_spectra_average(layout, spectra, group).mean();
-    let source = hfr_source_average(layout, scaled, group).mean();
-    factors::find_scale_factor(table, group_value(spectrum, source))
+    if group < groups {
+        factors::find_scale_factor(table, group_value(spectrum.mean(), source.mean()))
+    } else {
+        0
+    }
 }
 
 // A secondary's side values: its intensities.
@@ -43,6 +51,29 @@ fn copy_intensities(intensities: &[u8], side: &mut [u8])
     }
 }
 
+// The four side values from `group` on.
+fn four_scales(
+    layout: Layout,
+    table: &[f32; 64],
+    spectra: &[f32],
+    scaled: &[f32],
+    group: usize,
+    side: &mut [u8],
+)
+    requires { ⌜ LegalLayout layout ⌝ }
+    requires { ⌜ IsScaling (now table) ⌝ }
+    requires { ⌜ (length (now spectra) ≡ 1024) × (length (now scaled) ≡ 1024) × (length (now side) ≡ 8) × (group ≤ 4) ⌝ }
+    ensures { λ _. ⌜ now (side .exit) ≡ fourSet (scaleAt layout (now (spectra .entry)) (now (scaled .entry))) group (now (side .entry)) ⌝ }
+{
+    let groups = layouts::groups(layout);
+    let spectrum = hfr_spectra_averages(layout, spectra, group);
+    let source = hfr_source_averages(layout, scaled, group);
+    side[group] = scale_of(table, groups, group, spectrum.a, source.a);
+    side[group + 1] = scale_of(table, groups, group + 1, spectrum.b, source.b);
+    side[group + 2] = scale_of(table, groups, group + 2, spectrum.c, source.c);
+    side[group + 3] = scale_of(table, groups, group + 3, spectrum.d, source.d);
+}
+
 // Any other channel's side values: the scales of its groups, and zeros.
 fn fill_scales(layout: Layout, table: &[f32; 64], spectra: &[f32], scaled: &[f32], side: &mut [u8])
     requires { ⌜ LegalLayout layout ⌝ }
@@ -50,16 +81,8 @@ fn fill_scales(layout: Layout, table: &[f32; 64], spectra: &[f32], scaled: &[f32
     requires { ⌜ (length (now spectra) ≡ 1024) × (length (now scaled) ≡ 1024) × (length (now side) ≡ 8) ⌝ }
     ensures { λ _. ⌜ now (side .exit) ≡ scaleSide layout (now (spectra .entry)) (now (scaled .entry)) ⌝ }
 {
-    let groups = layouts::groups(layout);
-    let mut group = 0;
-    while group < 8 {
-        if group < groups {
-            side[group] = calculate_hfr_scale(layout, table, spectra, scaled, group);
-        } else {
-            side[group] = 0;
-        }
-        group += 1;
-    }
+    four_scales(layout, table, spectra, scaled, 0, side);
+    four_scales(layout, table, spectra, scaled, 4, side);
 }
 
 // A channel's eight side values, of the buffers of all channels.
