@@ -6,17 +6,18 @@ use Prim.Native.Nat.{ℕ, _+_, _-_, _*_, _/_, _≤_, _<_, min, max}
 use native.Mathlib.Omega.{arith}
 use borrow.Author.Tests.{eqb-true, eqb-false, ltb-true, ltb-false, leb-true}
 use lib.Dec.{eqb, ltb, leb}
-use lib.ListN.{length, getD, drop, replicate, List·getD-append}
-use lib.Seq.{getD-drop, getD-append-add}
+use lib.ListN.{length, getD, take, drop, replicate, List·getD-append}
+use lib.Seq.{getD-take, getD-drop, getD-append-add}
 use Rattle.buffers.specs.Walk.{every, build}
 use Rattle.buffers.proofs.Every.{every-at}
-use Rattle.buffers.proofs.Tests.{allLe, getD-le, and-fst, and-snd}
-use Rattle.buffers.proofs.Build.{Filled, length-build, build-at}
+use Rattle.buffers.proofs.Tests.{allLe, getD-le, and-fst, and-snd, cond-bound}
+use Rattle.buffers.proofs.Build.{Filled, length-build, build-at, back-width}
 use Rattle.rules.specs.Tables.{resolutionCurve}
 use Rattle.rules.specs.Resolution.{heldPosition, resolutionIn, resolution}
-use Rattle.resolutions.specs.Stretched.{stretchedCurve, placeOf, IsPlain, IsStretched}
+use Rattle.resolutions.specs.Stretched.{stretchedCurve, placeOf, IsPlain, IsStretched, Placed}
 use Rattle.rules.specs.declared.Layout.{Layout}
 use Rattle.rules.proofs.Limits.{held-is}
+use Rattle.rules.proofs.LentRows.{ends}
 
 -- an entry
 abbrev curveEntry : ℕ → ℕ
@@ -99,6 +100,11 @@ table-is l plain t n p e m f =
       limit = m;
     }
 
+-- a place, with a noise, is on it
+pub place-le : (factor : ℕ) → placeOf factor ≤ 417
+unfolding placeOf
+place-le factor = cond-bound (eqb factor 0) (λ _. omega arith) (λ _. omega arith)
+
 -- of a list that is the curve, within a layout's pair
 module _ (l : Layout) (t : List ℕ) (is : IsStretched l t) where
   pub curve-read : (factor noise place : ℕ) → factor ≤ 63 → noise ≤ 254 → place ≡ placeOf factor → getD t (place + noise) 0 ≡ resolution l noise factor
@@ -120,3 +126,12 @@ module _ (l : Layout) (t : List ℕ) (is : IsStretched l t) where
       go : (b : Bool) → ltb i 416 ≡ b → getD t i 0 ≤ 15
       go true e = let q = is .entries i (ltb-true i 416 e) in let m = is .limit in omega arith
       go false e = let q = is .zeros i (ltb-false i 416 e) in omega arith
+
+-- the places of a part, as a loop lends it
+pub placed-part : (k c n : ℕ) (factors places : List ℕ) → c < n → Placed (n * k) factors places
+    → Placed k (take (c * k + k - c * k) (drop (c * k) factors)) (take (c * k + k - c * k) (drop (c * k) places))
+placed-part k c n factors places h p b l =
+    let w : c * k + k ≤ n * k = ends k c n (n * k) h refl in
+    let at : (xs : List ℕ) → getD (take k (drop (c * k) xs)) b 0 ≡ getD xs (c * k + b) 0 =
+    λ xs. getD-take k (drop (c * k) xs) b 0 l ∙ getD-drop (c * k) xs b 0 in
+    rw (back-width (c * k) k) (at places ∙ p (c * k + b) (omega arith) ∙ ap placeOf (sym (at factors)))

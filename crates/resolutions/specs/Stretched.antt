@@ -28,3 +28,7 @@ pub record IsStretched (l : Layout) (t : List ℕ) : Type 0 where
 -- where a factor stands at noise 0
 unfoldable pub placeOf : (factor : ℕ) → ℕ
 placeOf factor = cond (eqb factor 0) 417 (159 - 5 * factor / 2)
+
+-- the places of the first n factors
+abbrev pub Placed : (n : ℕ) (factors places : List ℕ) → Type 0
+Placed n factors places = (b : ℕ) → b < n → getD places b 0 ≡ placeOf (getD factors b 0)

@@ -1,12 +1,13 @@
 // Document 01, **Resolution**: the noise of a band, and the curve that a resolution is read from.
 ghost use mathlib.Core.Path.{_≡_};
 ghost use Prim.Native.Nat.{_*_, _≤_};
-ghost use lib.ListN.{getD, take, drop};
+ghost use lib.ListN.{length, getD, take, drop};
+ghost use Rattle.buffers.specs.Walk.{AtMost};
 ghost use Rattle.rules.specs.Layout.{LegalLayout};
 ghost use Rattle.rules.specs.Tables.{resolutionCurve};
 ghost use Rattle.rules.specs.Resolution.{noiseAt, resolution};
 ghost use Rattle.quantizer.specs.SixteenInOne.{sixteenInOne};
-ghost use Rattle.resolutions.specs.Stretched.{IsPlain, IsStretched, placeOf};
+ghost use Rattle.resolutions.specs.Stretched.{IsPlain, IsStretched, placeOf, Placed};
 use crate::larger;
 use crate::smaller;
 use quantizer::tables::row_entry;
@@ -84,18 +85,32 @@ pub fn curve_table(layout: Layout) -> [u8; 688]
 }
 
 // Where a factor stands on it at noise 0.
-pub fn place_of(factor: u8) -> usize
+pub fn place_of(factor: u8) -> u16
     requires { ⌜ factor ≤ 63 ⌝ }
     ensures { λ r. ⌜ (r ≡ placeOf factor) × (r ≤ 417) ⌝ }
 {
-    let down = 5 * (factor as usize) / 2;
+    let down = 5 * (factor as u16) / 2;
     if factor == 0 { 417 } else { 159 - down }
 }
 
-// The resolution of a factor at a noise: one entry. The layout stands for the pair that the curve is held by.
-pub fn read_curve(layout: Layout, curve: &[u8; 688], factor: u8, noise: usize) -> u8
-    requires { ⌜ IsStretched layout (now curve) × (factor ≤ 63) × (noise ≤ 254) ⌝ }
+// The places of all factors.
+pub fn fill_places(factors: &[u8], places: &mut [u16])
+    requires { ⌜ AtMost 63 (now factors) × (length (now places) ≡ length (now factors)) ⌝ }
+    ensures { λ _. ⌜ Placed (length (now (factors .entry))) (now (factors .entry)) (now (places .exit)) ⌝ }
+{
+    let n = factors.len();
+    let mut i = 0;
+    while i < n {
+        places[i] = place_of(factors[i]);
+        i += 1;
+    }
+}
+
+// The resolution of a factor at a noise, its place being known: one entry. The layout stands for the pair that the curve is held by, the factor for what
+// the place is of.
+pub fn read_curve(layout: Layout, curve: &[u8; 688], factor: u8, place: u16, noise: usize) -> u8
+    requires { ⌜ IsStretched layout (now curve) × (factor ≤ 63) × (place ≡ placeOf factor) × (noise ≤ 254) ⌝ }
     ensures { λ r. ⌜ (r ≡ resolution layout noise factor) × (r ≤ 15) ⌝ }
 {
-    curve[place_of(factor) + noise]
+    curve[place as usize + noise]
 }

@@ -1,80 +1,18 @@
 -- `estimate::band_bits` meets its contract. Assumes nothing.
-use mathlib.Core.Path.{_≡_, refl, sym, ap, subst, _∙_}
-use mathlib.Core.List.{List}
-use Prim.Native.Nat.{ℕ, _+_, _*_, _%_, _≤_, _<_}
-use native.Mathlib.Omega.{arith}
-use lib.IntN.{ℤ, pos, natAbs}
-use lib.Ieee.{Float}
-use lib.ListN.{getD}
-use mir.Syntax.{w32}
-use mir.Val.{toZ, ofZ}
-use mir.ValLaws.{toZ-ofZ}
-use Rattle.rules.specs.Estimate.{bandBits}
-use Rattle.rules.specs.Resolution.{resolution}
-use Rattle.rules.specs.declared.Mode.{Mode}
-use Rattle.band_counts.specs.Counts.{BandCounted, countEntry, countIn}
-use Rattle.band_counts.proofs.Entries.{band-le, taken-band}
 use borrow.Author.Needs.{needs}
 use Rattle.estimate.proofs.band_bits.Statement.{statement}
 use Rattle.estimate.proofs.band_bits.Tie as tie
 
-read-curve-requires : tie.Need-read-curve-requires
-read-curve-requires c κs = search needs
+place-of-requires : tie.Need-place-of-requires
+place-of-requires c κs = search needs
 
-cast-r : tie.Need-cast-r
-cast-r c = search needs
-
-mul-taken : tie.Need-mul-taken
-mul-taken c = search needs
-
-add-taken : tie.Need-add-taken
-add-taken c = search needs
-
-mul-taken-2 : tie.Need-mul-taken-2
-mul-taken-2 c = search needs
-
-shared-slice-copy-out-taken : tie.Need-shared-slice-copy-out-taken
-shared-slice-copy-out-taken c = search needs
-
--- the entry as it is read
-entry-read : (m : Mode) (sc : List Float) (counts : List ℤ) (b r : ℕ) → BandCounted m sc counts b
-    → toZ w32 (ofZ w32 (getD counts (b * 8 + r % 8) (pos 0))) ≡ countEntry m sc b (r % 8)
-entry-read m sc counts b r w =
-    let k : r % 8 < 8 = omega arith in
-    let x = band-le m sc b (r % 8) (omega arith) in
-    let y = band-le m sc b (r % 8 + 8) (omega arith) in
-    ap (λ z. toZ w32 (ofZ w32 z)) (w (r % 8) k) ∙ toZ-ofZ w32 (countEntry m sc b (r % 8)) (record { sfits = omega arith })
-
-taken-requires : tie.Need-taken-requires
-taken-requires c κs =
-    let s = c .before .before .before in
-    let r = c .before .read-curve in
-    let e = entry-read (s .args .layout .mode) (s .args .scaled .now) (s .args .counts .now) (s .args .band) (r .result) (s .pre .0 .1) in
-    (subst (λ z. z ≡ pos (natAbs z)) (sym e) refl, r .ensures .1)
+band-bits-at-requires : tie.Need-band-bits-at-requires
+band-bits-at-requires c κs =
+    let p = c .before .before .pre in
+    (p .0, (p .1 .0, p .1 .1, p .1 .2, c .place-of .ensures .0, p .1 .3))
 
 returns : tie.Need-returns
-returns c =
-    let s = c .before .before .before .before in
-    let m = s .args .layout .mode in
-    let sc = s .args .scaled .now in
-    let b = s .args .band in
-    let r = c .before .before .read-curve in
-    let e =
-    c .taken .ensures
-    ∙ ap (λ z. countIn z (r .result)) (entry-read m sc (s .args .counts .now) b (r .result) (s .pre .0 .1))
-    ∙ taken-band m sc b (r .result) (r .ensures .1) in
-    let l = band-le m sc b (r .result) (r .ensures .1) in
-    (e ∙ ap (bandBits m sc b) (r .ensures .0), omega arith)
+returns c = search needs
 
 pub band-bits-spec : {M : Type 1} → statement M
-band-bits-spec =
-    tie.close
-    (tie.spec
-    read-curve-requires
-    cast-r
-    mul-taken
-    add-taken
-    mul-taken-2
-    shared-slice-copy-out-taken
-    taken-requires
-    returns)
+band-bits-spec = tie.close (tie.spec place-of-requires band-bits-at-requires returns)

@@ -10,23 +10,31 @@ use Rattle.estimate.proofs.channel_bits.Statement.{statement}
 use Rattle.estimate.proofs.channel_bits.Tie as tie
 
 abbrev Inv-loop : tie.InvT-loop
-Inv-loop layout curve scaled counts factors from to noise sum₀ b₀ sum b =
+Inv-loop layout curve scaled counts factors places from to noise sum₀ b₀ sum b =
     (from ≤ b) × (b ≤ to) × (sum + 96 * from ≤ 96 * b) × (channelBits layout scaled factors from noise 0 + sum ≡ channelBits layout scaled factors b noise 0)
 
 abbrev μ-loop : tie.MeasureT-loop
-μ-loop layout curve scaled counts factors from to noise sum₀ b₀ sum b = to - b
+μ-loop layout curve scaled counts factors places from to noise sum₀ b₀ sum b = to - b
 
 loop-holds : tie.Need-loop-holds Inv-loop μ-loop
 loop-holds c = (search needs, search needs, search needs, add-zero _)
 
-shared-slice-read-band-bits : tie.Need-shared-slice-read-band-bits Inv-loop μ-loop
-shared-slice-read-band-bits c = search needs
+shared-slice-read-band-bits-at : tie.Need-shared-slice-read-band-bits-at Inv-loop μ-loop
+shared-slice-read-band-bits-at c = search needs
 
-band-bits-requires : tie.Need-band-bits-requires Inv-loop μ-loop
-band-bits-requires c κs =
-    let s = c .before .before .before .before .before in
-    let b = c .before .before .loop .b in
-    ((s .pre .0 .0, s .pre .0 .1 b (c .before .loop-test .taken)), (s .pre .1 .0, search needs, s .pre .0 .2 b, s .pre .1 .4))
+mul-band-bits-at : tie.Need-mul-band-bits-at Inv-loop μ-loop
+mul-band-bits-at c = search needs
+
+shared-slice-read-band-bits-at-2 : tie.Need-shared-slice-read-band-bits-at-2 Inv-loop μ-loop
+shared-slice-read-band-bits-at-2 c = search needs
+
+band-bits-at-requires : tie.Need-band-bits-at-requires Inv-loop μ-loop
+band-bits-at-requires c κs =
+    let s = c .before .before .before .before .before .before .before in
+    let b = c .before .before .before .loop .b in (
+      (s .pre .0 .0, s .pre .0 .1 b (c .before .before .loop-test .taken)),
+      (s .pre .1 .0 .0, search needs, s .pre .0 .2 _, s .pre .1 .1 .1 _ (search needs), s .pre .1 .0 .4),
+    )
 
 add-sum : tie.Need-add-sum Inv-loop μ-loop
 add-sum c = search needs
@@ -39,16 +47,16 @@ loop-less c = search needs
 
 loop-again : tie.Need-loop-again Inv-loop μ-loop
 loop-again c =
-    let s = c .before .before .before in
-    let a = c .before .before .before .before .before .before .args in
+    let s = c .before .before .before .before in
+    let a = s .before .before .before .before .args in
     let more = one-band-more (a .layout) (a .scaled .now) (a .factors .now) (a .noise) (s .loop .b) in
     let e = s .loop .inv .3 in
-    (search needs, search needs, omega (arith, c .band-bits .ensures .1), omega (arith, more, e, c .band-bits .ensures .0))
+    (search needs, search needs, omega (arith, c .band-bits-at .ensures .1), omega (arith, more, e, c .band-bits-at .ensures .0))
 
 returns : tie.Need-returns Inv-loop μ-loop
 returns c =
     let s = c .before in
-    let a = c .before .before .before .before .args in
+    let a = c .before .before .before .before .before .args in
     let q : s .loop .b ≡ a .to = omega arith in
     (s .loop .inv .3 ∙ ap (λ n. channelBits (a .layout) (a .scaled .now) (a .factors .now) n (a .noise) 0) q, search needs)
 
@@ -59,8 +67,10 @@ channel-bits-spec =
     Inv-loop
     μ-loop
     loop-holds
-    shared-slice-read-band-bits
-    band-bits-requires
+    shared-slice-read-band-bits-at
+    mul-band-bits-at
+    shared-slice-read-band-bits-at-2
+    band-bits-at-requires
     add-sum
     add-b
     loop-less

@@ -11,24 +11,27 @@ use Rattle.rules.specs.Layout.{codedCountAt, part}
 use Rattle.rules.specs.Estimate.{channelBits, spectralBits}
 use Rattle.rules.proofs.LentRows.{below, lent-long}
 use Rattle.rules.proofs.Layouts.{coded-few}
+use Rattle.resolutions.proofs.Stretches.{placed-part}
 use Rattle.band_counts.proofs.Entries.{counted-part}
 use Rattle.estimate.proofs.Bands.{from-first}
 use Rattle.estimate.proofs.spectral_total.Statement.{statement}
 use Rattle.estimate.proofs.spectral_total.Tie as tie
 
 abbrev Inv-loop : tie.InvT-loop
-Inv-loop layout curve scaled counts factors level channels sum₀ c₀ sum c =
+Inv-loop layout curve scaled counts factors places level channels sum₀ c₀ sum c =
     (c ≤ channels) × (sum ≤ 12288 * c)
     × (sum ≡ sumTo (λ (i : ℕ). channelBits layout (part 1024 scaled i) (part 128 factors i) (codedCountAt layout i) level 0) c)
 
 abbrev μ-loop : tie.MeasureT-loop
-μ-loop layout curve scaled counts factors level channels sum₀ c₀ sum c = channels - c
+μ-loop layout curve scaled counts factors places level channels sum₀ c₀ sum c = channels - c
 
 loop-holds : tie.Need-loop-holds Inv-loop μ-loop
 loop-holds c = (search needs, search needs, sym (sum-none _))
 
 coded-count-requires : tie.Need-coded-count-requires Inv-loop μ-loop
-coded-count-requires c κs = (c .before .before .before .before .pre .0, below _ _ (c .loop-test .taken) 16 (c .before .before .before .before .pre .0 .few))
+coded-count-requires c κs =
+    let z = c .before .before .before .before .before .pre .0 in
+    (z, below _ _ (c .loop-test .taken) 16 (z .few))
 
 mul-a : tie.Need-mul-a Inv-loop μ-loop
 mul-a c = search needs
@@ -78,23 +81,41 @@ part-channel-bits-start-3 c = search needs
 part-channel-bits-end-3 : tie.Need-part-channel-bits-end-3 Inv-loop μ-loop
 part-channel-bits-end-3 c = search needs
 
+add-channel-bits-4 : tie.Need-add-channel-bits-4 Inv-loop μ-loop
+add-channel-bits-4 c = search needs
+
+mul-channel-bits-3 : tie.Need-mul-channel-bits-3 Inv-loop μ-loop
+mul-channel-bits-3 c = search needs
+
+sub-channel-bits-4 : tie.Need-sub-channel-bits-4 Inv-loop μ-loop
+sub-channel-bits-4 c = search needs
+
+part-channel-bits-start-4 : tie.Need-part-channel-bits-start-4 Inv-loop μ-loop
+part-channel-bits-start-4 c = search needs
+
+part-channel-bits-end-4 : tie.Need-part-channel-bits-end-4 Inv-loop μ-loop
+part-channel-bits-end-4 c = search needs
+
 channel-bits-requires : tie.Need-channel-bits-requires Inv-loop μ-loop
 channel-bits-requires c κs =
-    let s = c .before .before .before .before .before .before .before .before in
-    let k = c .before .before .before .before .before .loop .c in
-    let h = c .before .before .before .before .loop-test .taken in
-    let n = c .before .before .before .coded-count in (
+    let s = c .before .before .before .before .before .before .before .before .before .before in
+    let k = c .before .before .before .before .before .before .loop .c in
+    let h = c .before .before .before .before .before .loop-test .taken in
+    let n = c .before .before .before .before .coded-count in (
       (
         s .pre .1 .0 .0,
         counted-part (s .args .layout) (s .args .scaled .now) (s .args .counts .now) (s .pre .1 .0 .1) k h (n .result) (n .ensures .0),
         part-most 63 (k * 128) (k * 128 + 128 - k * 128) (s .args .factors .now) (s .pre .1 .0 .2),
       ),
       (
-        lent-long 1024 _ _ _ h (s .pre .1 .0 .1 .long),
-        lent-long 128 _ _ _ h (s .pre .1 .1 .1),
-        zero-le,
-        omega (arith, coded-few (s .args .layout) (s .pre .0) k, n .ensures .0),
-        s .pre .1 .1 .2,
+        (
+          lent-long 1024 _ _ _ h (s .pre .1 .0 .1 .long),
+          lent-long 128 _ _ _ h (s .pre .1 .1 .0 .1),
+          zero-le,
+          omega (arith, coded-few (s .args .layout) (s .pre .0) k, n .ensures .0),
+          s .pre .1 .1 .0 .2,
+        ),
+        (lent-long 128 _ _ _ h (s .pre .1 .1 .1 .0), placed-part 128 k _ (s .args .factors .now) (s .args .places .now) h (s .pre .1 .1 .1 .1)),
       ),
     )
 
@@ -109,19 +130,18 @@ loop-less c = search needs
 
 loop-again : tie.Need-loop-again Inv-loop μ-loop
 loop-again c =
-    let s = c .before .before .before .before .before .before in
-    let h = c .before .before .before .before .before .loop-test .taken in (
+    let s = c .before .before .before .before .before .before .before in (
       search needs,
       search needs,
       sum-turn _ _ _ _ (s .loop .inv .2)
           (from-first _ _ _ _ _ _ (c .channel-bits .ensures .0)
-          ∙ rw (back-width (s .loop .c * 1024) 1024, back-width (s .loop .c * 128) 128, c .before .before .before .before .coded-count .ensures .0)),
+          ∙ rw (back-width (s .loop .c * 1024) 1024, back-width (s .loop .c * 128) 128, c .before .before .before .before .before .coded-count .ensures .0)),
     )
 
 returns : tie.Need-returns Inv-loop μ-loop
 unfolding spectralBits
 returns c =
-    let e : c .before .loop .c ≡ c .before .before .before .before .args .layout .channels = omega arith in
+    let e : c .before .loop .c ≡ c .before .before .before .before .before .args .layout .channels = omega arith in
     (c .before .loop .inv .2 ∙ rw e, search needs)
 
 pub spectral-total-spec : {M : Type 1} → statement M
@@ -148,6 +168,11 @@ spectral-total-spec =
     sub-channel-bits-3
     part-channel-bits-start-3
     part-channel-bits-end-3
+    add-channel-bits-4
+    mul-channel-bits-3
+    sub-channel-bits-4
+    part-channel-bits-start-4
+    part-channel-bits-end-4
     channel-bits-requires
     add-sum
     add-c

@@ -1,95 +1,58 @@
--- `search_level::binary_search_level` meets its contract. The invariant: the halving from here on finds what the whole one does, and the bits are those of
--- the highest level left. Assumes nothing.
-use mathlib.Core.Path.{_≡_, sym, _∙_, ap}
-use Prim.Native.Nat.{_≤_, _-_, _*_}
+-- `search_level::binary_search_level` meets its contract. Assumes nothing.
+use mathlib.Core.Path.{_≡_, sym}
+use Prim.Native.Nat.{ℕ, _≤_}
 use native.Mathlib.Omega.{arith}
+use lib.ListN.{length, take, replicate, length-replicate}
+use lib.Seq.{length-take-le}
 use borrow.Author.Needs.{needs}
-use Rattle.rules.specs.Layout.{frameSize}
-use Rattle.rules.specs.Level.{halve, levelOf}
-use Rattle.rules.proofs.Levels.{level-start, halve-up, halve-down, halve-end}
-use Rattle.estimate.proofs.Probes.{probe-over, probe-fits}
-use Rattle.search_level.specs.Bits.{levelBits}
-use Rattle.search_level.proofs.Bits.{bits-none, bits-found}
-use Rattle.search_level.proofs.Searching.{overAt}
 use Rattle.search_level.proofs.binary_search_level.Statement.{statement}
 use Rattle.search_level.proofs.binary_search_level.Tie as tie
 
-abbrev Inv-loop : tie.InvT-loop
-Inv-loop layout curve scaled counts factors available fixed low₀ high₀ used₀ low high used =
-    (low ≤ high) × (high ≤ 255) × (levelOf (overAt layout scaled factors) ≡ halve (overAt layout scaled factors) (high - low) low high)
-    × (used ≡ levelBits layout scaled factors high) × (used ≤ 8 * frameSize layout)
+-- the array has room for the part that is lent
+front : (m n v : ℕ) → n ≤ m → length (take n (replicate m v)) ≡ n
+front m n v h = length-take-le n (replicate m v) (rw (length-replicate m v) h)
 
-abbrev μ-loop : tie.MeasureT-loop
-μ-loop layout curve scaled counts factors available fixed low₀ high₀ used₀ low high used = high - low
+mul-n : tie.Need-mul-n
+mul-n c = search needs
 
-mul-available : tie.Need-mul-available Inv-loop μ-loop
-mul-available c = search needs
+array-borrow-prefix-few : tie.Need-array-borrow-prefix-few
+array-borrow-prefix-few c = search needs
 
-calculate-frame-header-length-requires : tie.Need-calculate-frame-header-length-requires Inv-loop μ-loop
-calculate-frame-header-length-requires c κs = search needs
+slice-aggregate-halve-with-places : tie.Need-slice-aggregate-halve-with-places
+slice-aggregate-halve-with-places c = sym (front 256 _ 0 (omega (arith, c .before .if1 .taken)))
 
-loop-holds : tie.Need-loop-holds Inv-loop μ-loop
-loop-holds c = (search needs, search needs, level-start _, sym (bits-none _ _ _), search needs)
+halve-with-places-requires : tie.Need-halve-with-places-requires
+halve-with-places-requires c κs =
+    let p = c .before .before .before .before .before .before .pre in
+    (p .0, (p .1 .0, (p .1 .1, front 256 _ 0 (omega (arith, c .before .if1 .taken)))))
 
-add-mid : tie.Need-add-mid Inv-loop μ-loop
-add-mid c = search needs
+returns : tie.Need-returns
+returns c = search needs
 
-calculate-used-bits-requires : tie.Need-calculate-used-bits-requires Inv-loop μ-loop
-calculate-used-bits-requires c κs =
-    let s = c .before .before .before .before .before .before in
-    (s .pre .0, (s .pre .1 .0, (search needs, (search needs, search needs, search needs))))
+array-borrow-prefix-places : tie.Need-array-borrow-prefix-places
+array-borrow-prefix-places c = search needs
 
-add-low : tie.Need-add-low Inv-loop μ-loop
-add-low c = search needs
+slice-aggregate-halve-with-places-2 : tie.Need-slice-aggregate-halve-with-places-2
+slice-aggregate-halve-with-places-2 c = sym (front 2048 _ 0 (omega (arith, c .before .before .before .before .before .before .pre .0 .few)))
 
-loop-less : tie.Need-loop-less Inv-loop μ-loop
-loop-less c = search needs
+halve-with-places-requires-2 : tie.Need-halve-with-places-requires-2
+halve-with-places-requires-2 c κs =
+    let p = c .before .before .before .before .before .before .pre in
+    (p .0, (p .1 .0, (p .1 .1, front 2048 _ 0 (omega (arith, p .0 .few)))))
 
-loop-again : tie.Need-loop-again Inv-loop μ-loop
-loop-again c =
-    let s = c .before .before .before in
-    let i = s .loop .inv in (
-      omega arith,
-      omega arith,
-      i .2 ∙ halve-up _ _ _ (omega arith) (probe-over _ _ _ _ _ _ (c .before .calculate-used-bits .ensures) (c .if1 .taken)),
-      i .3,
-      i .4,
-    )
-
-loop-less-2 : tie.Need-loop-less-2 Inv-loop μ-loop
-loop-less-2 c = search needs
-
-loop-again-2 : tie.Need-loop-again-2 Inv-loop μ-loop
-loop-again-2 c =
-    let s = c .before .before .before in
-    let e = c .before .calculate-used-bits .ensures in (
-      omega arith,
-      omega arith,
-      s .loop .inv .2 ∙ halve-down _ _ _ (omega arith) (probe-fits _ _ _ _ _ _ e (c .if1 .left)),
-      e ∙ sym (bits-found _ _ _ _ (omega arith)),
-      c .if1 .left,
-    )
-
-returns : tie.Need-returns Inv-loop μ-loop
-returns c =
-    let i = c .before .loop .inv in
-    let e : c .before .loop .low ≡ c .before .loop .high = omega arith in
-    (sym (i .2 ∙ halve-end _ _ _ (c .loop-test .left)), omega arith, i .3 ∙ ap (levelBits _ _ _) (sym e), i .4)
+returns-2 : tie.Need-returns-2
+returns-2 c = search needs
 
 pub binary-search-level-spec : {M : Type 1} → statement M
 binary-search-level-spec =
     tie.close
     (tie.spec
-    Inv-loop
-    μ-loop
-    mul-available
-    calculate-frame-header-length-requires
-    loop-holds
-    add-mid
-    calculate-used-bits-requires
-    add-low
-    loop-less
-    loop-again
-    loop-less-2
-    loop-again-2
-    returns)
+    mul-n
+    array-borrow-prefix-few
+    slice-aggregate-halve-with-places
+    halve-with-places-requires
+    returns
+    array-borrow-prefix-places
+    slice-aggregate-halve-with-places-2
+    halve-with-places-requires-2
+    returns-2)
