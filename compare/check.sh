@@ -35,6 +35,10 @@ target/release/replay-vectors vec/line.vec
 target/release/compare-line --small
 target/release/compare-line --pairs --small
 target/release/compare-line --held --small
+target/release/replay-vectors vec/stereo-line.vec
+target/release/compare-stereo-line --small
+target/release/compare-stereo-line --pairs --small
+target/release/compare-stereo-line --held --small
 target/release/replay-vectors vec/limits.vec
 target/release/replay-vectors vec/modes.vec
 # through the program too, where it is built

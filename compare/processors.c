@@ -108,14 +108,18 @@ static uint32_t encode_frame(int stereo) {
                                    SLICE(frame), SLICE(answer));
 }
 
-static uint32_t encode_line(void) {
+static uint32_t encode_line(int stereo) {
     struct slice layout = elements(numbers, 4), kinds = bytes();
     size_t count = word();
     struct slice spectra = runs(), intensities = bytes();
     struct slice scaled = lent(word(), 4), codes = lent(word(), 4), factors = lent(word(), 1), side = lent(word(), 1), frames = lent(word(), 1);
     struct slice answers = lent(word(), 4), tally = noted(longs()), answer = lent(4, 4);
-    return hca_encode_line(SLICE(layout), SLICE(kinds), count, SLICE(spectra), SLICE(intensities), SLICE(scaled), SLICE(codes), SLICE(factors), SLICE(side),
-                           SLICE(frames), SLICE(answers), SLICE(tally), SLICE(answer));
+    if (!stereo)
+        return hca_encode_line(SLICE(layout), SLICE(kinds), count, SLICE(spectra), SLICE(intensities), SLICE(scaled), SLICE(codes), SLICE(factors),
+                               SLICE(side), SLICE(frames), SLICE(answers), SLICE(tally), SLICE(answer));
+    noted(spectra), noted(intensities);
+    return hca_encode_stereo_line(SLICE(layout), SLICE(kinds), count, SLICE(spectra), SLICE(intensities), SLICE(scaled), SLICE(codes), SLICE(factors),
+                                  SLICE(side), SLICE(frames), SLICE(answers), SLICE(tally), SLICE(answer));
 }
 
 static uint32_t read_frame(void) {
@@ -185,8 +189,9 @@ static uint32_t call(uint32_t kind) {
     case 9: return list_summary();
     case 10: return read_wav();
     case 11: return encode_frame(1);
-    case 12: return encode_line();
+    case 12: return encode_line(0);
     case 13: return read_header();
+    case 14: return encode_line(1);
     default: must(0); return 0;
     }
 }

@@ -282,6 +282,7 @@ void one_call(struct source *s)
     case 0: hostile_checksum(s); break;
     case 1: case 2: case 3: case 4: case 5: hostile_encode(s); break;
     case 6: case 7: case 8: case 9: hostile_write(s); break;
+    case 10: hostile_stereo_line(s); break;
     default: hostile_read(s); break;
     }
 }

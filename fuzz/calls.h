@@ -17,6 +17,7 @@ enum function {
     WAV,
     STEREO,
     LINE,
+    STEREO_LINE,
     HEADER_BACK,
     FUNCTIONS
 };
@@ -34,6 +35,7 @@ void lend_stage(struct set *b, const struct wish *w, struct source *s);
 /* One call of a request's function, as one_call makes it. */
 void hostile_stereo(struct source *s);
 void hostile_line(struct source *s);
+void hostile_stereo_line(struct source *s);
 
 /* The program above tells these: a call and its answer; first where it is not one that checks another. */
 void saw(enum function f, uint32_t number, uint32_t beside, int first);

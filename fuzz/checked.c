@@ -14,6 +14,7 @@ static const char *const names[FUNCTIONS] = {
     [CHECKSUM] = "hca_checksum",
     [STEREO] = "hca_encode_stereo_frame",
     [LINE] = "hca_encode_line",
+    [STEREO_LINE] = "hca_encode_stereo_line",
 };
 /* which numbers a call can give, a bit each; there is no 6 and no 10 */
 const uint32_t can_give[FUNCTIONS] = {
@@ -29,6 +30,7 @@ const uint32_t can_give[FUNCTIONS] = {
     [WAV] = 0x43C00005,
     [STEREO] = 0x200BF,
     [LINE] = 0x400BF,
+    [STEREO_LINE] = 0x600BF,
     [HEADER_BACK] = 0x3C000005,
 };
 static const size_t delivered_places[FUNCTIONS] = {
@@ -37,6 +39,7 @@ static const size_t delivered_places[FUNCTIONS] = {
     [READ] = 3,
     [STEREO] = 4,
     [LINE] = 0,
+    [STEREO_LINE] = 0,
 };
 
 struct expected before_the_work(const struct part *parts, int count, int legal, size_t answer_len)
@@ -51,7 +54,7 @@ struct expected before_the_work(const struct part *parts, int count, int legal, 
 
 static void check_written(const struct part *p, uint32_t number)
 {
-    int of_a_frame = p->use == IN_ORDER && (number == HCA_BAD_INTENSITY || number == HCA_BAD_SPECTRUM);
+    int of_a_frame = p->use == IN_ORDER && (number == HCA_BAD_INTENSITY || number == HCA_BAD_SPECTRUM || number == HCA_TOO_LOUD);
     if (((number >= 1 && number <= 4) || number >= 15) && !of_a_frame) {
         is_untouched(p->b);
         return;
@@ -65,7 +68,7 @@ static void check_answer(enum function f, const struct lent *answer, uint32_t nu
 {
     if (answer->count < 4)
         is_untouched(answer);
-    else if (f == LINE && number >= 3 && number <= 7)
+    else if ((f == LINE || f == STEREO_LINE) && ((number >= 3 && number <= 7) || number == HCA_TOO_LOUD))
         rest_is_untouched(answer, 2); /* with the frame's index */
     else
         rest_is_untouched(answer, number == 0 ? delivered_places[f] : 1);

@@ -80,6 +80,10 @@ void take_back_stage(struct set *b);
 /* Whether two sets hold the same five buffers that the stage writes. */
 int same_stage(const struct shape *l, const struct set *a, const struct set *b);
 
+/* Request A2's mixing of one frame, and whether it is refused with 17. */
+void mix_pairs(const struct shape *l, float *spectra, uint8_t *intensities);
+int is_too_loud(const struct shape *l, const float *spectra);
+
 /* The same for a frame or a record that another call made, in exact lengths. */
 uint32_t read_again(struct set *b, const struct shape *l, const uint8_t *frame, struct expected e, struct source *s);
 uint32_t write_again(struct set *b, const struct shape *l, const struct set *from, const uint32_t *record, struct source *s);

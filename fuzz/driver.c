@@ -86,6 +86,7 @@ static int report(void)
         [WAV] = "read_wav",
         [STEREO] = "encode_stereo_frame",
         [LINE] = "encode_line",
+        [STEREO_LINE] = "encode_stereo_line",
         [HEADER_BACK] = "read_header",
     };
     int missing = 0;

@@ -468,3 +468,45 @@ uint32_t __wrap_hca_encode_line(const uint32_t *layout, size_t layout_len, const
         sink = ((const uint8_t *)spectra)[4 * spectra_len];
     return number;
 }
+
+extern __typeof__(hca_encode_stereo_line) __real_hca_encode_stereo_line;
+
+uint32_t __wrap_hca_encode_stereo_line(const uint32_t *layout, size_t layout_len, const uint8_t *kinds, size_t kinds_len, size_t count,
+                                       float *spectra, size_t spectra_len, uint8_t *intensities, size_t intensities_len,
+                                       float *scaled, size_t scaled_len, int32_t *codes, size_t codes_len, uint8_t *factors,
+                                       size_t factors_len, uint8_t *side, size_t side_len, uint8_t *frames, size_t frames_len,
+                                       uint32_t *answers, size_t answers_len, uint64_t *tally, size_t tally_len, uint32_t *answer,
+                                       size_t answer_len)
+{
+    uint32_t number = __real_hca_encode_stereo_line(layout, layout_len, kinds, kinds_len, count, spectra, spectra_len, intensities,
+                                                    intensities_len, scaled, scaled_len, codes, codes_len, factors, factors_len,
+                                                    side, side_len, frames, frames_len, answers, answers_len, tally, tally_len,
+                                                    answer, answer_len);
+    int of_a_frame = (number >= 3 && number <= 7) || number == 17;
+    size_t n = number == 1 ? 0 : 1024 * layout[0], f = number == 1 ? 0 : layout[4], k = of_a_frame ? answer[1] : 0;
+    if (is_fault("stereo-line-mixes-later-frames") && of_a_frame && k + 1 < count)
+        spectra[(k + 1) * n] = -spectra[(k + 1) * n];
+    if (is_fault("stereo-line-leaves-another-right") && number == 0 && count > 0 && layout[0] > 1)
+        spectra[count * n - 1024 + layout[1]] += 1.0f;
+    if (is_fault("stereo-line-intensities-of-the-first") && number == 0 && count > 1)
+        memcpy(intensities + (count - 1) * 8 * layout[0], intensities, 8 * layout[0]);
+    if (is_fault("stereo-line-17-mixes") && number == 17)
+        intensities[k * 8 * layout[0]] ^= 1;
+    if (is_fault("stereo-line-17-clears-its-area") && number == 17)
+        memset(frames + k * f, 0, f);
+    if (is_fault("stereo-line-17-clears-the-work") && number == 17)
+        memset(side, 0, 8);
+    if (is_fault("stereo-line-17-without-its-frame") && number == 17 && k > 0)
+        answer[1] = 0;
+    if (is_fault("stereo-line-17-counts") && number == 17)
+        tally[0] += 1;
+    if (is_fault("stereo-line-5-as-lent") && number == 5 && layout[0] > 1)
+        spectra[k * n + layout[1]] *= 2.0f;
+    if (is_fault("stereo-line-18-as-2") && number == 18)
+        number = 2;
+    if (is_fault("stereo-line-writes-past-the-spectra") && number == 0 && spectra_len > count * n)
+        ((uint32_t *)(void *)spectra)[count * n] ^= 1;
+    if (is_fault("stereo-line-writes-past-the-intensities") && number == 0 && intensities_len > count * n / 128)
+        intensities[count * n / 128] ^= 1;
+    return number;
+}

@@ -26,7 +26,7 @@ wrap=$wrap,--wrap=hca_write_header,--wrap=hca_read_header
 wrap=$wrap,--wrap=hca_list_write,--wrap=hca_list_read,--wrap=hca_list_lookup,--wrap=hca_list_summary
 wrap=$wrap,--wrap=hca_read_wav
 wrap=$wrap,--wrap=hca_encode_stereo_frame
-wrap=$wrap,--wrap=hca_encode_line
+wrap=$wrap,--wrap=hca_encode_line,--wrap=hca_encode_stereo_line
 sanitizers="-fsanitize=address,undefined -fno-sanitize-recover=undefined"
 
 build_driver() { # $1: the program, then flags

@@ -25,7 +25,7 @@ static void say(void)
            most[LIST_LOOKUP], most[LIST_SUMMARY]);
     printf(", hca_read_wav %zu", most[WAV]);
     printf(", hca_encode_stereo_frame %zu", most[STEREO]);
-    printf(", hca_encode_line %zu", most[LINE]);
+    printf(", hca_encode_line %zu, hca_encode_stereo_line %zu", most[LINE], most[STEREO_LINE]);
     printf(", hca_read_header %zu", most[HEADER_BACK]);
     printf("\n");
 }
@@ -232,5 +232,25 @@ uint32_t __wrap_hca_encode_line(const uint32_t *layout, size_t layout_len, const
                                              side_len, frames, frames_len, answers, answers_len, tally, tally_len, answer,
                                              answer_len);
     look(here, LINE);
+    return number;
+}
+
+extern __typeof__(hca_encode_stereo_line) __real_hca_encode_stereo_line;
+
+uint32_t __wrap_hca_encode_stereo_line(const uint32_t *layout, size_t layout_len, const uint8_t *kinds, size_t kinds_len, size_t count,
+                                float *spectra, size_t spectra_len, uint8_t *intensities, size_t intensities_len,
+                                float *scaled, size_t scaled_len, int32_t *codes, size_t codes_len, uint8_t *factors,
+                                size_t factors_len, uint8_t *side, size_t side_len, uint8_t *frames, size_t frames_len,
+                                uint32_t *answers, size_t answers_len, uint64_t *tally, size_t tally_len, uint32_t *answer,
+                                size_t answer_len)
+{
+    uint8_t *here;
+    STACK_POINTER(here);
+    paint(here);
+    uint32_t number = __real_hca_encode_stereo_line(layout, layout_len, kinds, kinds_len, count, spectra, spectra_len, intensities,
+                                             intensities_len, scaled, scaled_len, codes, codes_len, factors, factors_len, side,
+                                             side_len, frames, frames_len, answers, answers_len, tally, tally_len, answer,
+                                             answer_len);
+    look(here, STEREO_LINE);
     return number;
 }

@@ -58,7 +58,7 @@ static uint8_t mix_subframe(float *left, float *right, uint32_t count)
     return l + r > 0.0f ? intensity_of(l, l + r) : 0;
 }
 
-static void mix(const struct shape *l, float *spectra, uint8_t *intensities)
+void mix_pairs(const struct shape *l, float *spectra, uint8_t *intensities)
 {
     for (uint32_t c = 0; c + 1 < l->channels; c++)
         for (uint32_t s = 0; s < 8 && l->kinds[c] == 1 && l->stereo > 0; s++) {
@@ -67,15 +67,20 @@ static void mix(const struct shape *l, float *spectra, uint8_t *intensities)
         }
 }
 
+int is_too_loud(const struct shape *l, const float *spectra)
+{
+    for (uint32_t i = 0; i < l->channels * 1024; i++)
+        if ((bits_of(spectra[i]) & 0x7FFFFFFF) > 0x47800000)
+            return 1;
+    return 0;
+}
+
 /* ---- the call */
 
 static struct expected before_the_mixing(const struct shape *l, const struct set *b)
 {
     struct expected e = before_the_stage(l, b);
-    for (uint32_t i = 0; i < l->channels * 1024 && !e.known; i++)
-        if ((words(&b->spectra)[i] & 0x7FFFFFFF) > 0x47800000)
-            e = just(HCA_TOO_LOUD, 0);
-    return e;
+    return !e.known && is_too_loud(l, floats(&b->spectra)) ? just(HCA_TOO_LOUD, 0) : e;
 }
 
 static float mixed[16 * 1024];
@@ -111,7 +116,7 @@ static void call_stereo(struct set *b, struct source *s)
     if (works) {
         memcpy(mixed, b->spectra.data, l.channels * 4096);
         memcpy(mixed_intensities, b->intensities.data, l.channels * 8);
-        mix(&l, mixed, mixed_intensities);
+        mix_pairs(&l, mixed, mixed_intensities);
     }
     seal_all(parts, STAGE_PARTS, &b->answer);
     uint32_t number = hca_encode_stereo_frame(

@@ -4,6 +4,7 @@
    hca_encode_frame   spectra of one frame                -> a frame, or a numbered refusal
    hca_encode_stereo_frame  unmixed spectra of one frame  -> the same, its pairs mixed first
    hca_encode_line    spectra of up to 65,535 frames      -> their frames, each as hca_encode_frame makes it
+   hca_encode_stereo_line  unmixed spectra of as many     -> the same, each as hca_encode_stereo_frame makes it
    hca_read_frame     a frame                             -> its record (level, boundary, factors, side, codes)
    hca_write_record   a record                            -> its frame
    hca_checksum       bytes                               -> their check
@@ -25,7 +26,7 @@
    A buffer may be longer than is needed: the rest is not looked at and stays as it was.
 
    Threads. There is no state, no heap, no lock, no file, no errno: any number of threads may call at once, each with
-   its own written buffers. Stack: at most 18,784 bytes a call, its arguments among them, whatever the layout; measured
+   its own written buffers. Stack: at most 21,808 bytes a call, its arguments among them, whatever the layout; measured
    on a painted stack over hostile calls of up to 16 channels (fuzz/run.sh stack). Plan with 32 KiB: a later build may
    differ.
 
@@ -71,6 +72,7 @@ extern "C" {
    hca_encode_frame              5     C  C x 1024      C x 8 C x 1024 C x 1024 C x 128 C x 8      F                            4
    hca_encode_stereo_frame       5     C  C x 1024      C x 8 C x 1024 C x 1024 C x 128 C x 8      F                            4
    hca_encode_line               5     C nC x 1024     nC x 8 C x 1024 C x 1024 C x 128 C x 8     nF  answers 4n, tally 3       4
+   hca_encode_stereo_line        5     C nC x 1024     nC x 8 C x 1024 C x 1024 C x 128 C x 8     nF  answers 4n, tally 3       4
    hca_write_record              5     C                               C x 1024 C x 128 C x 8      F  record 2                  4
    hca_read_frame                5     C                               C x 1024 C x 128 C x 8      F                            4
    hca_write_header              5     C                                                              stream 3, points 0 or 2,
@@ -140,7 +142,8 @@ enum hca_encoded {
     HCA_ENCODED_COUNT = 4       /* how many numbers it delivers */
 };
 
-/* tally: what a caller's lines have delivered so far, three counts of at most 2^63 each. hca_encode_line brings them up to date. */
+/* tally: what a caller's lines have delivered so far, three counts of at most 2^63 each. hca_encode_line and
+   hca_encode_stereo_line bring them up to date. */
 enum hca_tally {
     HCA_TALLY_FRAMES = 0,       /* frames delivered */
     HCA_TALLY_BITS = 1,         /* their bits, those before the fill */
@@ -148,10 +151,10 @@ enum hca_tally {
     HCA_TALLY_COUNT = 3         /* how many counts a tally has */
 };
 
-/* answer of hca_encode_line, at a refusal only. */
+/* answer of hca_encode_line and hca_encode_stereo_line, at a refusal only. */
 enum hca_line_answer {
     HCA_LINE_BESIDE = 0,        /* the number beside the refusal; with 3 and 4 an index within that frame's part */
-    HCA_LINE_FRAME = 1,         /* with 3, 4, 5 and 7 the index of the frame that was refused */
+    HCA_LINE_FRAME = 1,         /* with 3, 4, 17, 5 and 7 the index of the frame that was refused */
     HCA_LINE_ANSWER_COUNT = 4   /* places that its answer needs */
 };
 
@@ -211,7 +214,8 @@ enum hca_summary {
    elements that the layout asks for (the stage's five, the reader's factors, side and codes, the writer's frame),
    so no half of a frame can be taken for a whole one.
    The stereo stage refuses in the order 1, 2, 3, 4, 17, 5, 7 and leaves spectra and intensities as mixed after 5 and 7.
-   A line's 18 comes between 1 and 2 and changes nothing; what its frames leave is said at hca_encode_line.
+   A line's 18 comes between 1 and 2 and changes nothing; what its frames leave is said at hca_encode_line and
+   hca_encode_stereo_line.
    The stage refuses in the order 1, 2, 3, 4, 5, 7, the writer 1, 2, 15, 7, the reader 1, 2, 8, 9, then the first fault in bit
    order, 14 last, the file header's writer 1, 2, 16, its reader 2, 26, 27, 28, 29. The list's writer refuses in the order 2, 21,
    its reader 19, 20, 2, 21, the lookup 19, 20, 21, 31, the summary 19, 20, 21. 6 and 10 are withdrawn and come from no call. A later
@@ -236,7 +240,8 @@ enum hca_refusal {
     HCA_NOT_LEGAL = 15,     /* the record has a value out of range, or not 0 where nothing is written; beside: 0 */
     HCA_BAD_HEADER = 16,    /* more than eight channels, or a rate, count, padding or loop point that the file header has no
                                room for */
-    HCA_TOO_LOUD = 17,      /* hca_encode_stereo_frame: a spectrum's magnitude is above 65,536, in any band; beside: 0 */
+    HCA_TOO_LOUD = 17,      /* hca_encode_stereo_frame, hca_encode_stereo_line: a spectrum's magnitude is above 65,536, in any
+                               band; beside: 0 */
     HCA_BAD_BATCH = 18,     /* a line of more than 65,535 frames, or a count of its tally above 2^63; beside: 0 */
     HCA_BAD_LIST_MARK = 19, /* a list under 9 bytes, or with another mark or version; beside: 0 */
     HCA_BAD_LIST_LENGTH = 20, /* a list's length is not 9 + 8 x its count, in 64 bits; a longer slice too; beside: 0 */
@@ -338,7 +343,7 @@ uint32_t hca_encode_stereo_frame(
     uint32_t *answer, size_t answer_len);               /* written: 4 places or more, see enum hca_encoded */
 
 /* A whole line: count frames of one layout, tried in their order, each as hca_encode_frame would make it. Pairs must be mixed
-   already, as for that call: unmixed spectra go to hca_encode_stereo_frame, frame by frame.
+   already, as for that call: unmixed spectra go to hca_encode_stereo_line.
    Refuses with 1, 18, 2, which change nothing but answer[0], or with the first frame's 3, 4, 5 or 7. Frame k's part of a
    buffer is the k-th of count equal parts: spectra k x C x 1,024, intensities k x C x 8, frames k x F, answers k x 4.
    At a refusal of frame k the frames before it stand: their bytes, answers and counts. Frame k's bytes are as lent after 3
@@ -359,6 +364,27 @@ uint32_t hca_encode_line(
     uint32_t *answers, size_t answers_len,              /* written: count x 4 of the delivered frames, see enum hca_encoded */
     uint64_t *tally, size_t tally_len,                  /* read and written: 3 counts, see enum hca_tally; fewer are refusal
                                                            2, after 18 by the counts that are there */
+    uint32_t *answer, size_t answer_len);               /* written at a refusal: 4 places or more, see enum hca_line_answer */
+
+/* A whole line from unmixed spectra: count frames of one layout, tried in their order, each as hca_encode_stereo_frame would
+   make it. Parts, refusals, answers, tally and work buffers are those of hca_encode_line, and 17 is among the first frame's
+   refusals, between 4 and 5: it keeps all, as 3 and 4 do. Spectra and intensities of delivered frames are left as mixed, and so
+   are those of a frame that is refused with 5 or 7; those of one that is refused with 3, 4 or 17, and of all later frames, are as
+   lent. What is left as mixed is not to be passed again: mixed again it would be another sound. */
+uint32_t hca_encode_stereo_line(
+    const uint32_t *layout, size_t layout_len,          /* read: 5 to 8 numbers, see enum hca_layout */
+    const uint8_t *kinds, size_t kinds_len,             /* read: C bytes, see enum hca_kind */
+    size_t count,                                       /* frames: 0 to 65,535 */
+    float *spectra, size_t spectra_len,                 /* read and written: count x C x 1,024 by frame, channel, subframe,
+                                                           band; magnitudes up to 65,536; left as mixed */
+    uint8_t *intensities, size_t intensities_len,       /* read and written: count x C x 8 by frame, channel, subframe */
+    float *scaled, size_t scaled_len,                   /* written: as of hca_encode_line, and so are those that follow */
+    int32_t *codes, size_t codes_len,
+    uint8_t *factors, size_t factors_len,
+    uint8_t *side, size_t side_len,
+    uint8_t *frames, size_t frames_len,
+    uint32_t *answers, size_t answers_len,
+    uint64_t *tally, size_t tally_len,                  /* read and written: 3 counts, see enum hca_tally */
     uint32_t *answer, size_t answer_len);               /* written at a refusal: 4 places or more, see enum hca_line_answer */
 
 /* The record writer: writes the one frame of a legal record. Refuses with 1, 2, 15 or 7.

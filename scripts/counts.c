@@ -40,6 +40,10 @@ static void frames(void)
         intensities, HCA_LINE_INTENSITIES_LENGTH(1, 1), scaled, HCA_SCALED_LENGTH(1), codes, HCA_CODES_LENGTH(1), factors,
         HCA_FACTORS_LENGTH(1), side, HCA_SIDE_LENGTH(1), frame, HCA_LINE_FRAMES_LENGTH(SIZE, 1), answers, HCA_LINE_ANSWERS_LENGTH(1),
         tally, HCA_TALLY_COUNT, line_answer, HCA_LINE_ANSWER_COUNT));
+    delivers("hca_encode_stereo_line", hca_encode_stereo_line(layout, HCA_LAYOUT_COUNT, kinds, 1, 1, spectra, HCA_LINE_SPECTRA_LENGTH(1, 1),
+        intensities, HCA_LINE_INTENSITIES_LENGTH(1, 1), scaled, HCA_SCALED_LENGTH(1), codes, HCA_CODES_LENGTH(1), factors,
+        HCA_FACTORS_LENGTH(1), side, HCA_SIDE_LENGTH(1), frame, HCA_LINE_FRAMES_LENGTH(SIZE, 1), answers, HCA_LINE_ANSWERS_LENGTH(1),
+        tally, HCA_TALLY_COUNT, line_answer, HCA_LINE_ANSWER_COUNT));
     delivers("hca_list_write", hca_list_write(1, encoded, HCA_LIST_ENTRIES_LENGTH(1), list, HCA_LIST_SIZE(1)));
 }
 

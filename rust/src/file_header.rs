@@ -138,7 +138,13 @@ impl FileHeader {
             return Err(LayoutError::Kinds { given: kinds.len(), channels: self.channels() });
         }
         let [_, base, stereo, total, frame_size, minimum, maximum] = self.numbers;
-        Layout::builder().channels(kinds).bands(base, stereo, total).frame_size(frame_size).resolutions(minimum, maximum).mode(mode).build()
+        Layout::builder()
+            .channels(kinds)
+            .bands(base, stereo, total)
+            .frame_size(frame_size)
+            .resolutions(minimum, maximum)
+            .mode(mode)
+            .build()
     }
 
     /// What [`write_header`] made these bytes from, beside the layout: the loop in samples of the input.

@@ -54,8 +54,8 @@
 //!
 //! The library has no heap. [`Encoder::new`], [`read_frame`] and [`write_record`]
 //! make vectors; [`Encoder::encode_frame`], [`Encoder::encode_stereo_frame`],
-//! [`Encoder::encode_line`], [`read_frame_into`] and [`write_record_into`] use what
-//! they are given.
+//! [`Encoder::encode_line`], [`Encoder::encode_stereo_line`], [`read_frame_into`] and
+//! [`write_record_into`] use what they are given.
 
 #![warn(missing_docs)]
 #![deny(unsafe_code)]

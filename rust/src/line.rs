@@ -48,9 +48,10 @@ impl std::error::Error for LineRefusal {
 impl Encoder {
     /// Encodes `count` frames, at most 65,535, each as [`encode_frame`](Encoder::encode_frame)
     /// would, and brings `tally` up to date for those that were delivered. Pairs must be mixed
-    /// already, as for that call. Each slice has a part for each frame: `spectra` channels x 1,024,
-    /// `intensities` channels x 8, `frames` the frame's size, `answers` what the single call
-    /// delivers, as [`write_list`](crate::write_list) takes them. A longer slice keeps its rest.
+    /// already, as for that call; unmixed spectra go to
+    /// [`encode_stereo_line`](Encoder::encode_stereo_line). Each slice has a part for each frame:
+    /// `spectra` channels x 1,024, `intensities` channels x 8, `frames` the frame's size, `answers`
+    /// what the single call delivers, as [`write_list`](crate::write_list) takes them. A longer slice keeps its rest.
     ///
     /// ```
     /// use hca_frame::{list_summary, write_list, Delivered, Encoder, Kind, Layout, Tally};
@@ -94,11 +95,52 @@ impl Encoder {
             &mut answer,
         );
         [tally.frames, tally.bits, tally.pairs] = counts;
-        let refusal = Refusal::new(number, answer[0]);
-        match number {
-            0 => Ok(()),
-            Refusal::BAD_LAYOUT | Refusal::BAD_BATCH | Refusal::SHORT_BUFFER => Err(LineRefusal { refusal, frame: None }),
-            _ => Err(LineRefusal { refusal, frame: Some(answer[1] as usize) }),
-        }
+        ended(number, answer)
+    }
+
+    /// Encodes `count` frames as [`encode_line`](Encoder::encode_line) does, each as
+    /// [`encode_stereo_frame`](Encoder::encode_stereo_frame) would: from unmixed spectra on.
+    ///
+    /// Spectra and intensities of delivered frames are left as mixed, and so are those of a frame that
+    /// is refused with 5 or 7; those of one that is refused with 3, 4 or 17, and of all later frames,
+    /// are as they were. What is left as mixed is not to be passed again.
+    pub fn encode_stereo_line(
+        &mut self,
+        count: usize,
+        spectra: &mut [f32],
+        intensities: &mut [u8],
+        frames: &mut [u8],
+        answers: &mut [Delivered],
+        tally: &mut Tally,
+    ) -> Result<(), LineRefusal> {
+        let mut answer = [0; 4];
+        let mut counts = [tally.frames, tally.bits, tally.pairs];
+        let number = raw::encode_stereo_line(
+            self.layout.numbers(),
+            self.layout.kind_bytes(),
+            count,
+            spectra,
+            intensities,
+            &mut self.scaled,
+            &mut self.codes,
+            &mut self.factors,
+            &mut self.side,
+            frames,
+            raw::numbers_of(answers),
+            &mut counts,
+            &mut answer,
+        );
+        [tally.frames, tally.bits, tally.pairs] = counts;
+        ended(number, answer)
+    }
+}
+
+/// How a line ended, by its number and the answer's first two places.
+fn ended(number: u32, answer: [u32; 4]) -> Result<(), LineRefusal> {
+    let refusal = Refusal::new(number, answer[0]);
+    match number {
+        0 => Ok(()),
+        Refusal::BAD_LAYOUT | Refusal::BAD_BATCH | Refusal::SHORT_BUFFER => Err(LineRefusal { refusal, frame: None }),
+        _ => Err(LineRefusal { refusal, frame: Some(answer[1] as usize) }),
     }
 }

@@ -19,8 +19,8 @@ mod wav;
 
 pub use file_header::{read_header, write_header};
 pub use frame::{checksum, encode_frame};
-pub use line::encode_line;
 pub(crate) use line::numbers_of;
+pub use line::{encode_line, encode_stereo_line};
 pub use list::{list_lookup, list_read, list_summary, list_write};
 pub use record::{read_frame, write_record};
 pub use stereo::encode_stereo_frame;

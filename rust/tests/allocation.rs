@@ -42,6 +42,7 @@ fn frame_calls_allocate_nothing() {
     assert!(allocations(|| drop(vec![1; 3])) > 0);
     let n = allocations(|| {
         encoder.encode_stereo_frame(&mut spectra, &mut [0; 16]).unwrap();
+        encoder.encode_stereo_line(1, &mut spectra.clone(), &mut [0; 16], &mut frame, &mut answers, &mut tally).unwrap();
         encoder.encode_line(1, &spectra, &[0; 16], &mut frame, &mut answers, &mut tally).unwrap();
         encoder.encode_frame(&spectra, &[0; 16]).unwrap();
         read_frame_into(&layout, encoder.frame(), &mut record).unwrap();

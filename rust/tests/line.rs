@@ -113,3 +113,45 @@ fn a_line_is_its_single_calls() {
     assert_eq!(list_summary(&list).unwrap().bits, tally.bits);
     assert_eq!((whole.codes(), whole.side(), whole.factors()), (one.codes(), one.side(), one.factors()));
 }
+
+// Frame after frame of a pair that is mixed: what the single calls leave is left, spectra and intensities too.
+fn stereo_line(loud: Option<usize>) -> (Result<(), LineRefusal>, usize) {
+    let pair = [Kind::StereoPrimary, Kind::StereoSecondary];
+    let l = Layout::builder().channels(&pair).bands(20, 20, 60).frame_size(120).build().unwrap();
+    let mut spectra: Vec<f32> = (0..4 * 2048).map(|i| ((i * 37 % 101) as f32 - 50.0) / (8 + 8 * (i % 128)) as f32).collect();
+    if let Some(k) = loud {
+        spectra[k * 2048 + 2047] = 65_537.0;
+    }
+    let (mut line_spectra, mut line_intensities) = (spectra.clone(), vec![3; 4 * 16]);
+    let (mut frames, mut answers, mut tally) = (vec![9; 4 * 120], vec![Delivered::default(); 4], Tally::default());
+    let mut whole = Encoder::new(l.clone());
+    let end = whole.encode_stereo_line(4, &mut line_spectra, &mut line_intensities, &mut frames, &mut answers, &mut tally);
+    let (mut one, mut intensities, mut sum) = (Encoder::new(l), vec![3; 4 * 16], Tally::default());
+    let mut done = 0;
+    while done < 4 {
+        let Ok(numbers) = one.encode_stereo_frame(&mut spectra[done * 2048..][..2048], &mut intensities[done * 16..][..16])
+        else {
+            break;
+        };
+        assert_eq!(one.frame(), &frames[done * 120..][..120]);
+        assert_eq!(numbers, answers[done]);
+        sum = Tally::new(sum.frames + 1, sum.bits + u64::from(numbers.bits), sum.pairs + u64::from(numbers.pairs));
+        done += 1;
+    }
+    assert_eq!((tally, line_spectra, line_intensities), (sum, spectra, intensities));
+    assert!(frames[done * 120..].iter().all(|&byte| byte == 9));
+    (end, done)
+}
+
+#[test]
+fn a_stereo_line_is_its_single_calls() {
+    assert_eq!(stereo_line(None), (Ok(()), 4));
+}
+
+#[test]
+fn a_stereo_line_stops_at_a_frame_that_is_too_loud() {
+    let refusal = Refusal::new(Refusal::TOO_LOUD, 0);
+    for k in 0..4 {
+        assert_eq!(stereo_line(Some(k)), (Err(LineRefusal { refusal, frame: Some(k) }), k));
+    }
+}

@@ -13,6 +13,7 @@ pub mod rng;
 pub mod speech;
 pub mod stage;
 pub mod stereo;
+pub mod stereo_line;
 pub mod wav;
 
 /// The kind of a case and its number among its kind. The shares, which add up to

@@ -25,8 +25,10 @@ include!("../../calls/stereo.rs");
 stereo_call!(model_encode_stereo_frame);
 
 include!("../../calls/line.rs");
+include!("../../calls/stereo_line.rs");
 
 line_call!(model_encode_line);
+stereo_line_call!(model_encode_stereo_line);
 
 type Over<'a> = &'a mut dyn FnMut(u32) -> bool;
 

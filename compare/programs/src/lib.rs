@@ -27,8 +27,15 @@ pub struct Options {
 }
 
 /// The programs that can try other limits of the resolution, and held mode.
-const WITH_PAIRS: [&str; 6] =
-    ["compare-stage", "compare-stereo", "compare-line", "compare-header", "compare-records", "compare-convert"];
+const WITH_PAIRS: [&str; 7] = [
+    "compare-stage",
+    "compare-stereo",
+    "compare-line",
+    "compare-stereo-line",
+    "compare-header",
+    "compare-records",
+    "compare-convert",
+];
 
 impl Options {
     /// From the command line; `whole` and `small` are the numbers of cases.

@@ -1,5 +1,7 @@
-//! A line as A5 has it, over as many single calls: refusals 1, 18 and 2, then each frame on its own parts.
+//! A line as A5 has it, over as many single calls: refusals 1, 18 and 2, then each frame on its own parts. The same over calls of the
+//! stereo stage, which write spectra and intensities too.
 use crate::call::{layout_fits, pattern_bytes, pattern_words, Lent, StageCall};
+use crate::stereo::StereoLent;
 
 /// The most frames of a line.
 pub const MOST: usize = 65_535;
@@ -34,6 +36,21 @@ pub struct LineLent {
     pub answers: Vec<u32>,
     pub tally: Vec<u64>,
     pub answer: Vec<u32>,
+}
+
+/// Those of a line from unmixed spectra.
+#[derive(Clone, Debug)]
+pub struct StereoLineLent {
+    pub spectra: Vec<f32>,
+    pub intensities: Vec<u8>,
+    pub line: LineLent,
+}
+
+impl StereoLineLent {
+    /// As they are lent.
+    pub fn of(call: &LineCall) -> Self {
+        StereoLineLent { spectra: call.spectra.clone(), intensities: call.intensities.clone(), line: call.lent() }
+    }
 }
 
 impl LineCall {
@@ -117,7 +134,12 @@ fn refused_before(call: &LineCall) -> Option<u32> {
 }
 
 /// Frame k by a single call, on its parts and on the work buffers as they are.
-fn one_frame(call: &LineCall, k: usize, single: impl Fn(&StageCall, &mut Lent) -> u32, out: &mut LineLent) -> (u32, Vec<u32>) {
+fn one_frame(
+    call: &LineCall,
+    k: usize,
+    single: impl FnOnce(&StageCall, &mut Lent) -> u32,
+    out: &mut LineLent,
+) -> (u32, Vec<u32>) {
     let (n, f) = (call.layout[0] as usize, call.layout[4] as usize);
     let mut b = Lent {
         scaled: out.scaled[..n * 1024].to_vec(),
@@ -139,6 +161,28 @@ fn one_frame(call: &LineCall, k: usize, single: impl Fn(&StageCall, &mut Lent) -
 /// The whole line by single calls: the refusal number (0: delivered), with every buffer as the line leaves it in `out`, which
 /// holds the buffers as they are lent.
 pub fn line(call: &LineCall, single: impl Fn(&StageCall, &mut Lent) -> u32, out: &mut LineLent) -> u32 {
+    line_by(call, |_, call, b| single(call, b), out)
+}
+
+/// The same over calls of the stereo stage: frame k's spectra and intensities are left as its call leaves them.
+pub fn stereo_line(call: &LineCall, single: impl Fn(&StageCall, &mut StereoLent) -> u32, out: &mut StereoLineLent) -> u32 {
+    let (spectra, intensities) = (&mut out.spectra, &mut out.intensities);
+    line_by(
+        call,
+        |k, call, b| {
+            let n = call.layout[0] as usize;
+            let mut lent = StereoLent { spectra: call.spectra.clone(), intensities: call.intensities.clone(), stage: b.clone() };
+            let number = single(call, &mut lent);
+            spectra[k * n * 1024..][..n * 1024].copy_from_slice(&lent.spectra);
+            intensities[k * n * 8..][..n * 8].copy_from_slice(&lent.intensities);
+            *b = lent.stage;
+            number
+        },
+        &mut out.line,
+    )
+}
+
+fn line_by(call: &LineCall, mut single: impl FnMut(usize, &StageCall, &mut Lent) -> u32, out: &mut LineLent) -> u32 {
     if let Some(number) = refused_before(call) {
         if let Some(first) = out.answer.first_mut() {
             *first = 0;
@@ -146,7 +190,7 @@ pub fn line(call: &LineCall, single: impl Fn(&StageCall, &mut Lent) -> u32, out:
         return number;
     }
     for k in 0..call.count {
-        let (number, answers) = one_frame(call, k, &single, out);
+        let (number, answers) = one_frame(call, k, |call, b| single(k, call, b), out);
         if number != 0 {
             (out.answer[0], out.answer[1]) = (answers[0], k as u32);
             return number;

@@ -7,6 +7,7 @@ mod line;
 mod list;
 mod modes;
 mod stereo;
+mod stereo_line;
 mod wav;
 
 use gen::records::{calls, kind_of, Call, ReadCall, WriteCall, KINDS};
@@ -299,6 +300,7 @@ fn main() {
         ("wav", wav::file()),
         ("stereo", stereo::file()),
         ("line", line::file()),
+        ("stereo-line", stereo_line::file()),
         ("limits", limits::file()),
         ("modes", modes::file()),
     ];

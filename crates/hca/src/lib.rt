@@ -6,7 +6,7 @@ ghost use Rattle.rules.specs.Reader.{readerLent};
 ghost use Rattle.rules_line.specs.Line.{lineLent};
 ghost use Rattle.hca_encode.specs.EncodeFrame.{cStageLeft, cEncodeFrame};
 ghost use Rattle.hca_encode.specs.EncodeStereoFrame.{cStereoLeft, cEncodeStereoFrame};
-ghost use Rattle.hca_encode.specs.EncodeLine.{cLineLeft, cEncodeLine};
+ghost use Rattle.hca_encode.specs.EncodeLine.{cLineLeft, cEncodeLine, cEncodeStereoLine};
 ghost use Rattle.hca_records.specs.ReadFrame.{cReaderLeft, cReadFrame};
 ghost use Rattle.hca_records.specs.WriteRecord.{cWriterLeft, cWriteRecord};
 ghost use Rattle.hca_files.specs.WriteHeader.{cHeaderLeft, cWriteHeader};
@@ -17,6 +17,7 @@ ghost use Rattle.hca.specs.Version.{version};
 use hca_encode::frame::encode_frame;
 use hca_encode::line::encode_line;
 use hca_encode::stereo_frame::encode_stereo_frame;
+use hca_encode::stereo_line::encode_stereo_line;
 use hca_files::header::write_header;
 use hca_files::header_reading::read_header;
 use hca_files::lists::list_lookup;
@@ -111,12 +112,53 @@ pub extern "C" fn hca_encode_line(
     tally: &mut [u64],
     answer: &mut [u32],
 ) -> u32
-    ensures { λ r. ⌜ cLineLeft r (now (answer .exit)) (now (scaled .exit)) (now (codes .exit)) (now (factors .exit)) (now (side .exit))
-        (now (frames .exit)) (now (answers .exit)) (now (tally .exit)) ≡ cEncodeLine (now (layout .entry)) (now (kinds .entry)) count
+    ensures { λ r. ⌜ cLineLeft r (now (answer .exit)) (now (spectra .entry)) (now (intensities .entry)) (now (scaled .exit)) (now (codes .exit))
+        (now (factors .exit)) (now (side .exit)) (now (frames .exit)) (now (answers .exit)) (now (tally .exit))
+        ≡ cEncodeLine (now (layout .entry)) (now (kinds .entry)) count
         (lineLent (now (spectra .entry)) (now (intensities .entry)) (now (scaled .entry)) (now (codes .entry)) (now (factors .entry))
         (now (side .entry)) (now (frames .entry)) (now (answers .entry))) (now (tally .entry)) (now (answer .entry)) ⌝ }
 {
     encode_line(
+        layout,
+        kinds,
+        count,
+        spectra,
+        intensities,
+        scaled,
+        codes,
+        factors,
+        side,
+        frames,
+        answers,
+        tally,
+        answer,
+    )
+}
+
+// A line from unmixed spectra, left as mixed. tally: frames, bits, pairs; answer: at a refusal the number beside it and, from 3 on, the frame's index.
+#[no_mangle]
+pub extern "C" fn hca_encode_stereo_line(
+    layout: &[u32],
+    kinds: &[u8],
+    count: usize,
+    spectra: &mut [f32],
+    intensities: &mut [u8],
+    scaled: &mut [f32],
+    codes: &mut [i32],
+    factors: &mut [u8],
+    side: &mut [u8],
+    frames: &mut [u8],
+    answers: &mut [u32],
+    tally: &mut [u64],
+    answer: &mut [u32],
+) -> u32
+    ensures { λ r. ⌜ cLineLeft r (now (answer .exit)) (now (spectra .exit)) (now (intensities .exit)) (now (scaled .exit)) (now (codes .exit))
+        (now (factors .exit)) (now (side .exit)) (now (frames .exit)) (now (answers .exit)) (now (tally .exit))
+        ≡ cEncodeStereoLine (now (layout .entry)) (now (kinds .entry)) count
+        (lineLent (now (spectra .entry)) (now (intensities .entry)) (now (scaled .entry)) (now (codes .entry)) (now (factors .entry))
+        (now (side .entry)) (now (frames .entry)) (now (answers .entry))) (now (tally .entry)) (now (answer .entry)) ⌝ }
+{
+    encode_stereo_line(
         layout,
         kinds,
         count,

@@ -1,4 +1,4 @@
--- Every number that is told of a line fits 32 bits. Assumes nothing.
+-- Every number that is told of a line fits 32 bits, over a step whose answers are small. Assumes nothing.
 use mathlib.Core.Path.{_≡_}
 use mathlib.Core.List.{List, []}
 use mathlib.Core.Option.{Option, none, some}
@@ -6,13 +6,13 @@ use Prim.Native.Nat.{ℕ, zero, suc, _≤_, _<_}
 use native.Mathlib.Omega.{arith}
 use lib.ListN.{length}
 use Rattle.rules.specs.Refusals.{Outcome, delivered, refused}
-use Rattle.rules.specs.Stage.{StageLent}
 use Rattle.rules.specs.declared.Layout.{Layout}
-use Rattle.rules_demands.proofs.StageAnswers.{StageBounded, answers-bounded, beside-bounded, stage-bounds}
-use Rattle.rules_line.specs.Line.{LineLent, LineLeft, lineRoom, frameLent, stageAt, turnOutcome, turnIndex, lineTurn, lineGate, turnLent, onward, lineAfter}
-use Rattle.rules_line.specs.Line.{lineBehindGate, encodeLine}
+use Rattle.rules_demands.proofs.StageAnswers.{StageBounded, answers-bounded, beside-bounded}
+use Rattle.rules_line.specs.Line.{LineLent, LineLeft, lineRoom, Step, stepAt, turnOutcome, turnIndex, lineTurn, lineGate, turnLent, onward, lineAfter}
+use Rattle.rules_line.specs.Line.{lineBehindGate, lineOver}
 use Rattle.rules_line.proofs.Gates.{gate-open, gate-case}
 use Rattle.rules_line.proofs.Turns.{turnAfter}
+use Rattle.line_turns.proofs.Counts.{BoundedStep, at-bounded}
 use Rattle.hca_answers.specs.Outcomes.{numbersOf, Small}
 use Rattle.hca_answers.proofs.Fitting.{small-refused}
 use Rattle.hca_encode.specs.EncodeLine.{IndexFits, LineSmall}
@@ -42,51 +42,48 @@ unfolding turnIndex turnOutcome
 turn-refuses k (delivered ms) j ns e f = let z : _≡_ {A = ℕ} 0 1 = cc e in omega arith
 turn-refuses k (refused number beside) j ns e f = let z : _≡_ {A = ℕ} 0 1 = cc f in omega arith
 
-at-bounded : (l : Layout) (k : ℕ) (t : StageLent) → StageBounded (stageAt l k t .outcome)
-unfolding stageAt
-at-bounded l k t = stage-bounds l (frameLent l k t)
-
 fitting-on : (n : ℕ) (i : Option ℕ) (x y : LineLeft) → Fitting n x → Fitting (suc n) y → Fitting (suc n) (onward i x y)
 unfolding onward
 fitting-on n none x y f g = g
 fitting-on n (some k) x y f g = record { numbers = f .numbers; index = λ j e. (let h = f .index j e in omega arith); refuses = f .refuses }
 
-after-fits : (l : Layout) (t : LineLent) (n : ℕ) → Fitting n (lineAfter l t n)
-unfolding lineAfter lineTurn
-after-fits l t zero = record {
-  numbers = small-none;
-  index = λ k e. (let z : _≡_ {A = ℕ} 0 1 = cc e in absurd (omega arith));
-  refuses =
-      λ k ns e f. (let z : _≡_ {A = ℕ} 0 1 = cc e in omega arith);
-}
-after-fits l t (suc n) =
-    let x = lineAfter l t n in
-    let o = stageAt l n (turnLent t x) .outcome in
-    fitting-on n (x .index) x (turnAfter l t n x) (after-fits l t n)
-    (record { numbers = turn-small o (at-bounded l n (turnLent t x)); index = turn-index n o; refuses = turn-refuses n o })
-
-module _ (l : Layout) (count : ℕ) (t : LineLent) where
-  abbrev Tells : LineLeft → Type 0
-  Tells x = LineSmall (x .outcome) (x .index)
-
-  kept-stores : (number : ℕ) (x : LineLeft) → Tells (lineBehindGate (refused number 0) t x)
-  unfolding lineBehindGate IndexFits
-  kept-stores number x = record {
-    numbers = small-refused number 0 (omega arith);
+module _ (step : Step) (bounded : BoundedStep step) (l : Layout) where
+  after-fits : (t : LineLent) (n : ℕ) → Fitting n (lineAfter step l t n)
+  unfolding lineAfter lineTurn
+  after-fits t zero = record {
+    numbers = small-none;
     index = λ k e. (let z : _≡_ {A = ℕ} 0 1 = cc e in absurd (omega arith));
-    refuses = λ k ns e f. (let z : _≡_ {A = ℕ} 0 1 = cc e in omega arith);
+    refuses =
+        λ k ns e f. (let z : _≡_ {A = ℕ} 0 1 = cc e in omega arith);
   }
+  after-fits t (suc n) =
+      let x = lineAfter step l t n in
+      let o = stepAt step l n (turnLent x) .outcome in
+      fitting-on n (x .index) x (turnAfter step l n x) (after-fits t n)
+      (record { numbers = turn-small o (at-bounded step bounded l n (turnLent x)); index = turn-index n o; refuses = turn-refuses n o })
 
-  open-stores : lineGate l count (lineRoom t) (length (t .answers)) (t .tally) ≡ delivered [] → Tells (lineBehindGate (delivered []) t (lineAfter l t count))
-  unfolding lineBehindGate IndexFits
-  open-stores a =
-      let few = gate-open l count (lineRoom t) (length (t .answers)) (t .tally) a .batch .few in
-      let f = after-fits l t count in
-      record { numbers = f .numbers; index = λ k e. (let h = f .index k e in omega arith); refuses = f .refuses }
+  module _ (count : ℕ) (t : LineLent) where
+    abbrev Tells : LineLeft → Type 0
+    Tells x = LineSmall (x .outcome) (x .index)
 
-  pub line-stores : Tells (encodeLine l count t)
-  unfolding encodeLine
-  line-stores =
-      let x = lineAfter l t count in
-      gate-case l count (lineRoom t) (length (t .answers)) (t .tally) (λ o. Tells (lineBehindGate o t x)) (kept-stores 1 x) (kept-stores 18 x) (kept-stores 2 x)
-      open-stores
+    kept-stores : (number : ℕ) (x : LineLeft) → Tells (lineBehindGate (some (refused number 0)) t x)
+    unfolding lineBehindGate IndexFits
+    kept-stores number x = record {
+      numbers = small-refused number 0 (omega arith);
+      index = λ k e. (let z : _≡_ {A = ℕ} 0 1 = cc e in absurd (omega arith));
+      refuses = λ k ns e f. (let z : _≡_ {A = ℕ} 0 1 = cc e in omega arith);
+    }
+
+    open-stores : lineGate l count (lineRoom t) (length (t .answers)) (t .tally) ≡ none → Tells (lineBehindGate none t (lineAfter step l t count))
+    unfolding lineBehindGate IndexFits
+    open-stores a =
+        let few = gate-open l count (lineRoom t) (length (t .answers)) (t .tally) a .batch .few in
+        let f = after-fits t count in
+        record { numbers = f .numbers; index = λ k e. (let h = f .index k e in omega arith); refuses = f .refuses }
+
+    pub line-stores : Tells (lineOver step l count t)
+    unfolding lineOver
+    line-stores =
+        let x = lineAfter step l t count in
+        gate-case l count (lineRoom t) (length (t .answers)) (t .tally) (λ o. Tells (lineBehindGate o t x)) (kept-stores 1 x) (kept-stores 18 x)
+        (kept-stores 2 x) open-stores

@@ -1,4 +1,4 @@
--- A line by numbers and slices: what a call returns, answers and leaves in every lent buffer.
+-- A line by numbers and slices, over any step: what a call returns, answers and leaves in every lent buffer.
 use mathlib.Core.Path.{_≡_}
 use mathlib.Core.List.{List, [], _∷_}
 use mathlib.Core.Bool.{cond, not}
@@ -10,7 +10,8 @@ use lib.Ieee.{Float}
 use lib.ListN.{length, getD, set}
 use Rattle.rules.specs.Lent.{overwrite}
 use Rattle.rules.specs.Refusals.{Outcome, delivered, refused}
-use Rattle.rules_line.specs.Line.{LineLent, LineLeft, batchFits, lineKept, encodeLine}
+use Rattle.rules_stereo.specs.Stereo.{encodeStereoFrame}
+use Rattle.rules_line.specs.Line.{LineLent, LineLeft, batchFits, Step, stageStep, lineKept, lineOver}
 use Rattle.rules_line.specs.declared.Tally.{Tally}
 use Rattle.hca_layout.specs.Layouts.{layoutOf, isLayout}
 use Rattle.hca_answers.specs.Outcomes.{resultOf, answerAfter, Small}
@@ -19,6 +20,8 @@ use Rattle.hca_answers.specs.Outcomes.{resultOf, answerAfter, Small}
 pub record CLineLeft : Type 0 where
   pub result : ℕ
   pub answer : List ℕ
+  pub spectra : List Float
+  pub intensities : List ℕ
   pub scaled : List Float
   pub codes : List ℤ
   pub factors : List ℕ
@@ -27,10 +30,13 @@ pub record CLineLeft : Type 0 where
   pub answers : List ℕ
   pub tally : List ℕ
 
-abbrev pub cLineLeft : (result : ℕ) (answer : List ℕ) (scaled : List Float) (codes : List ℤ) (factors side frames answers tally : List ℕ) → CLineLeft
-cLineLeft result answer scaled codes factors side frames answers tally = record {
+abbrev pub cLineLeft : (result : ℕ) (answer : List ℕ) (spectra : List Float) (intensities : List ℕ) (scaled : List Float) (codes : List ℤ)
+    (factors side frames answers tally : List ℕ) → CLineLeft
+cLineLeft result answer spectra intensities scaled codes factors side frames answers tally = record {
   result = result;
   answer = answer;
+  spectra = spectra;
+  intensities = intensities;
   scaled = scaled;
   codes = codes;
   factors = factors;
@@ -59,19 +65,27 @@ lineAnswerAfter o index answer = answerAfter o (indexIn index answer)
 -- what a line left, with its outcome told and its counts stored
 unfoldable pub cLineFrom : (x : LineLeft) (counts tally answer : List ℕ) → CLineLeft
 cLineFrom x counts tally answer =
-    cLineLeft (resultOf (x .outcome)) (lineAnswerAfter (x .outcome) (x .index) answer) (x .scaled) (x .codes) (x .factors) (x .side) (x .frames) (x .answers)
-    (overwrite counts tally)
+    cLineLeft (resultOf (x .outcome)) (lineAnswerAfter (x .outcome) (x .index) answer) (x .spectra) (x .intensities) (x .scaled) (x .codes) (x .factors)
+    (x .side)
+    (x .frames) (x .answers) (overwrite counts tally)
 
 -- refusal 1 where no layout is named, 18 by the counts that are there, 2 where tally or answer is short, each with every buffer kept; else the line
-unfoldable pub cEncodeLine : (numbers kinds : List ℕ) (count : ℕ) (lent : Tally → LineLent) (tally answer : List ℕ) → CLineLeft
-cEncodeLine numbers kinds count lent tally answer =
+unfoldable pub cLineOver : (step : Step) (numbers kinds : List ℕ) (count : ℕ) (lent : Tally → LineLent) (tally answer : List ℕ) → CLineLeft
+cLineOver step numbers kinds count lent tally answer =
     let t = lent (tallyIn tally) in
-    let x = encodeLine (layoutOf numbers kinds) count t in
+    let x = lineOver step (layoutOf numbers kinds) count t in
     cond (not (isLayout numbers kinds)) (cLineFrom (lineKept t (refused 1 0)) [] tally answer)
     (cond (not (batchFits count (tallyIn tally))) (cLineFrom (lineKept t (refused 18 0)) [] tally answer)
     (cond (ltb (length tally) 3) (cLineFrom (lineKept t (refused 2 0)) [] tally answer)
     (cond (ltb (length answer) 4) (cLineFrom (lineKept t (refused 2 0)) [] tally answer)
     (cLineFrom x (countsOf (x .tally)) tally answer))))
+
+-- from mixed spectra, and from unmixed ones
+abbrev pub cEncodeLine : (numbers kinds : List ℕ) (count : ℕ) (lent : Tally → LineLent) (tally answer : List ℕ) → CLineLeft
+cEncodeLine = cLineOver stageStep
+
+abbrev pub cEncodeStereoLine : (numbers kinds : List ℕ) (count : ℕ) (lent : Tally → LineLent) (tally answer : List ℕ) → CLineLeft
+cEncodeStereoLine = cLineOver encodeStereoFrame
 
 -- the index of a refused frame fits 32 bits
 unfoldable pub IndexFits : (index : Option ℕ) → Type 0

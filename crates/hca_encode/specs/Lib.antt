@@ -2,5 +2,5 @@
 pub mod EncodeFrame
 -- stereo_frame
 pub mod EncodeStereoFrame
--- line
+-- line, stereo_line
 pub mod EncodeLine

@@ -6,3 +6,5 @@ pub mod frame;
 pub mod stereo_frame;
 // A line of frames.
 pub mod line;
+// A line of frames from unmixed spectra.
+pub mod stereo_line;

@@ -25,7 +25,7 @@ fn count_at(counts: &[u64], i: usize) -> u64
     0
 }
 
-fn tally_in(counts: &[u64]) -> Tally
+pub fn tally_in(counts: &[u64]) -> Tally
     ensures { λ r. ⌜ r ≡ tallyIn (now (counts .entry)) ⌝ }
 {
     let frames = count_at(counts, 0);
@@ -38,7 +38,7 @@ fn tally_in(counts: &[u64]) -> Tally
     }
 }
 
-fn store_tally(tally: Tally, counts: &mut [u64])
+pub fn store_tally(tally: Tally, counts: &mut [u64])
     requires { ⌜ 3 ≤ length (now counts) ⌝ }
     ensures { λ _. ⌜ now (counts .exit) ≡ overwrite (countsOf tally) (now (counts .entry)) ⌝ }
 {
@@ -92,8 +92,9 @@ fn line_and_store(
     answer: &mut [u32],
 ) -> u32
     requires { ⌜ 3 ≤ length (now tally) ⌝ }
-    ensures { λ r. ⌜ cLineLeft r (now (answer .exit)) (now (scaled .exit)) (now (codes .exit)) (now (factors .exit)) (now (side .exit))
-        (now (frames .exit)) (now (answers .exit)) (now (tally .exit)) ≡ cLineFrom (encodeLine layout count (lineLent (now (spectra .entry))
+    ensures { λ r. ⌜ cLineLeft r (now (answer .exit)) (now (spectra .entry)) (now (intensities .entry)) (now (scaled .exit)) (now (codes .exit))
+        (now (factors .exit)) (now (side .exit)) (now (frames .exit)) (now (answers .exit)) (now (tally .exit))
+        ≡ cLineFrom (encodeLine layout count (lineLent (now (spectra .entry))
         (now (intensities .entry)) (now (scaled .entry)) (now (codes .entry)) (now (factors .entry)) (now (side .entry)) (now (frames .entry))
         (now (answers .entry)) before)) (countsOf (encodeLine layout count (lineLent (now (spectra .entry)) (now (intensities .entry))
         (now (scaled .entry)) (now (codes .entry)) (now (factors .entry)) (now (side .entry)) (now (frames .entry)) (now (answers .entry))
@@ -134,8 +135,9 @@ pub fn encode_line(
     tally: &mut [u64],
     answer: &mut [u32],
 ) -> u32
-    ensures { λ r. ⌜ cLineLeft r (now (answer .exit)) (now (scaled .exit)) (now (codes .exit)) (now (factors .exit)) (now (side .exit))
-        (now (frames .exit)) (now (answers .exit)) (now (tally .exit)) ≡ cEncodeLine (now (layout .entry)) (now (kinds .entry)) count
+    ensures { λ r. ⌜ cLineLeft r (now (answer .exit)) (now (spectra .entry)) (now (intensities .entry)) (now (scaled .exit)) (now (codes .exit))
+        (now (factors .exit)) (now (side .exit)) (now (frames .exit)) (now (answers .exit)) (now (tally .exit))
+        ≡ cEncodeLine (now (layout .entry)) (now (kinds .entry)) count
         (lineLent (now (spectra .entry)) (now (intensities .entry)) (now (scaled .entry)) (now (codes .entry)) (now (factors .entry))
         (now (side .entry)) (now (frames .entry)) (now (answers .entry))) (now (tally .entry)) (now (answer .entry)) ⌝ }
 {

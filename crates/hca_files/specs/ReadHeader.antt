@@ -24,7 +24,8 @@ cHeaderReadLeft result layout answer = record { result = result; layout = layout
 
 -- the layout's numbers over the lent one's front, the stream's over the answer's; a refusal has none of the first, and 0 for the second
 unfoldable pub cHeaderReadFrom : (a : HeaderReadAnswer) (layout answer : List ℕ) → CHeaderReadLeft
-cHeaderReadFrom a layout answer = cHeaderReadLeft (resultOf (headerReadOutcome a)) (overwrite (headerLayout a) layout) (answerAfter (headerReadOutcome a) answer)
+cHeaderReadFrom a layout answer =
+    cHeaderReadLeft (resultOf (headerReadOutcome a)) (overwrite (headerLayout a) layout) (answerAfter (headerReadOutcome a) answer)
 
 -- refusal 2 first where the answer has under eight places, which stays as it was, or the layout under seven
 unfoldable pub cReadHeader : (header layout answer : List ℕ) → CHeaderReadLeft

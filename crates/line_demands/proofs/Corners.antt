@@ -2,23 +2,28 @@
 use mathlib.Core.Path.{_≡_, refl}
 use mathlib.Core.List.{List, [], _∷_, _++_, map}
 use mathlib.Core.Bool.{Bool, true, false}
-use mathlib.Core.Option.{none, some}
+use mathlib.Core.Option.{Option, none, some}
 use Prim.Native.Nat.{ℕ, _^_, _+_, _*_}
 use lib.IntN.{ℤ}
 use lib.Ieee.{Float}
 use lib.ListN.{length, replicate}
 use Rattle.rules.specs.Layout.{legalLayout, roomOf, part}
 use Rattle.rules.specs.Refusals.{Outcome, delivered, refused, stageOutcome}
-use Rattle.rules.specs.Stage.{StageLeft, stageLent, stageRoomOf}
+use Rattle.rules.specs.Stage.{stageLent, stageRoomOf}
 use Rattle.rules.specs.declared.ChannelType.the-variants.{Discrete}
 use Rattle.rules.specs.declared.Mode.the-variants.{Rust}
 use Rattle.rules.specs.declared.Layout.{Layout}
 use Rattle.rules.specs.declared.StageAnswer.the-variants as stage
 use Rattle.rules.specs.declared.StageRoom.{StageRoom}
-use Rattle.rules_line.specs.Line.{LineLeft, lineOutcome, lineIndex, lineLent, lineLeft, batchFits, lineRoom, lineHasRoom, lineGate}
+use Rattle.rules_stereo.specs.Stereo.{stereoOutcome, StereoLeft}
+use Rattle.rules_stereo.specs.declared.StereoAnswer.the-variants.{TooLoud}
+use Rattle.rules_line.specs.Line.{LineLeft, lineOutcome, lineIndex, stereoLineOutcome, stereoLineIndex, lineLent, lineLeft, stereoLineLeft, batchFits, lineRoom}
+use Rattle.rules_line.specs.Line.{lineHasRoom, lineGate}
 use Rattle.rules_line.specs.Line.{partOverwrite, frameLent, framePlaced, answersOf, tallyAfter, turnOutcome, turnIndex, lineTurn, lineKept, turnLent}
 use Rattle.rules_line.specs.declared.LineAnswer.{LineAnswer}
 use Rattle.rules_line.specs.declared.LineAnswer.the-variants.{Delivered, BadLayout, BadBatch, ShortBuffer, Refused}
+use Rattle.rules_line.specs.declared.StereoLineAnswer.{StereoLineAnswer}
+use Rattle.rules_line.specs.declared.StereoLineAnswer.the-variants as stereo
 use Rattle.rules_line.specs.declared.Tally.{Tally}
 
 abbrev tally : (frames bits pairs : ℕ) → Tally
@@ -64,20 +69,29 @@ unfolding lineHasRoom
 room-row = refl
 
 -- 1 before 18, 18 before 2
-abbrev gate : (channels count : ℕ) (room : ℕ) → Outcome
+abbrev gate : (channels count : ℕ) (room : ℕ) → Option Outcome
 gate channels count room = lineGate (two channels) count (lengths room room room room room room room) room (tally 0 0 0)
 
-pub gate-row : gate 0 65536 0 ∷ gate 2 65536 0 ∷ gate 2 1 0 ∷ gate 2 1 2048 ∷ [] ≡ refused 1 0 ∷ refused 18 0 ∷ refused 2 0 ∷ delivered [] ∷ []
+pub gate-row : gate 0 65536 0 ∷ gate 2 65536 0 ∷ gate 2 1 0 ∷ gate 2 1 2048 ∷ [] ≡ some (refused 1 0) ∷ some (refused 18 0) ∷ some (refused 2 0) ∷ none ∷ []
 unfolding lineGate batchFits lineHasRoom legalLayout
 gate-row = refl
 
 -- what a single call left
-abbrev stageLeftBy : (o : Outcome) (scaled : List Float) (codes : List ℤ) (factors side frame : List ℕ) → StageLeft
-stageLeftBy o scaled codes factors side frame = record { outcome = o; scaled = scaled; codes = codes; factors = factors; side = side; frame = frame }
+abbrev leftBy : (o : Outcome) (spectra : List Float) (intensities : List ℕ) (scaled : List Float) (codes : List ℤ) (factors side frame : List ℕ) → StereoLeft
+leftBy o spectra intensities scaled codes factors side frame = record {
+  outcome = o;
+  spectra = spectra;
+  intensities = intensities;
+  scaled = scaled;
+  codes = codes;
+  factors = factors;
+  side = side;
+  frame = frame;
+}
 
 -- each buffer of a call is lent and left under its own name
 module _ (spectra : List Float) (intensities : List ℕ) (scaled : List Float) (codes : List ℤ) (factors side frames answers : List ℕ) (t : Tally)
-    (a : LineAnswer) where
+    (a : LineAnswer) (b : StereoLineAnswer) where
   pub lent-names :
       let x = lineLent spectra intensities scaled codes factors side frames answers t in
       (x .spectra ≡ spectra) × (x .intensities ≡ intensities) × (x .scaled ≡ scaled) × (x .codes ≡ codes) × (x .factors ≡ factors) × (x .side ≡ side)
@@ -91,16 +105,22 @@ module _ (spectra : List Float) (intensities : List ℕ) (scaled : List Float) (
   lent-lengths = (refl, refl, refl, refl, refl, refl, refl)
 
   pub left-names :
-      let x = lineLeft a t scaled codes factors side frames answers in
-      (x .outcome ≡ lineOutcome a) × (x .index ≡ lineIndex a) × (x .scaled ≡ scaled) × (x .codes ≡ codes) × (x .factors ≡ factors) × (x .side ≡ side)
-      × (x .frames ≡ frames) × (x .answers ≡ answers) × (x .tally ≡ t)
-  left-names = (refl, refl, refl, refl, refl, refl, refl, refl, refl)
+      let x = lineLeft a t spectra intensities scaled codes factors side frames answers in
+      (x .outcome ≡ lineOutcome a) × (x .index ≡ lineIndex a) × (x .spectra ≡ spectra) × (x .intensities ≡ intensities) × (x .scaled ≡ scaled)
+      × (x .codes ≡ codes) × (x .factors ≡ factors) × (x .side ≡ side) × (x .frames ≡ frames) × (x .answers ≡ answers) × (x .tally ≡ t)
+  left-names = (refl, refl, refl, refl, refl, refl, refl, refl, refl, refl, refl)
+
+  pub stereo-left-names :
+      let x = stereoLineLeft b t spectra intensities scaled codes factors side frames answers in
+      (x .outcome ≡ stereoLineOutcome b) × (x .index ≡ stereoLineIndex b) × (x .spectra ≡ spectra) × (x .intensities ≡ intensities) × (x .scaled ≡ scaled)
+      × (x .codes ≡ codes) × (x .factors ≡ factors) × (x .side ≡ side) × (x .frames ≡ frames) × (x .answers ≡ answers) × (x .tally ≡ t)
+  stereo-left-names = (refl, refl, refl, refl, refl, refl, refl, refl, refl, refl, refl)
 
   -- kept as lent
   pub kept-names : (o : Outcome) → let x = lineKept (lineLent spectra intensities scaled codes factors side frames answers t) o in
-      (x .outcome ≡ o) × (x .index ≡ none) × (x .scaled ≡ scaled) × (x .codes ≡ codes) × (x .factors ≡ factors) × (x .side ≡ side)
-      × (x .frames ≡ frames) × (x .answers ≡ answers) × (x .tally ≡ t)
-  kept-names o = (refl, refl, refl, refl, refl, refl, refl, refl, refl)
+      (x .outcome ≡ o) × (x .index ≡ none) × (x .spectra ≡ spectra) × (x .intensities ≡ intensities) × (x .scaled ≡ scaled)
+      × (x .codes ≡ codes) × (x .factors ≡ factors) × (x .side ≡ side) × (x .frames ≡ frames) × (x .answers ≡ answers) × (x .tally ≡ t)
+  kept-names o = (refl, refl, refl, refl, refl, refl, refl, refl, refl, refl, refl)
 
   -- a frame's own parts, and the work buffers whole
   pub parts-names : (l : Layout) (k : ℕ) → let x = frameLent l k (stageLent spectra intensities scaled codes factors side frames) in
@@ -108,15 +128,17 @@ module _ (spectra : List Float) (intensities : List ℕ) (scaled : List Float) (
       × (x .codes ≡ codes) × (x .factors ≡ factors) × (x .side ≡ side) × (x .frame ≡ part (l .«frame_size») frames k)
   parts-names l k = (refl, refl, refl, refl, refl, refl, refl)
 
-  -- what the single call left, its frame laid in its place
-  pub placed-names : (l : Layout) (k : ℕ) (o : Outcome) → let x = framePlaced l k answers (stageLeftBy o scaled codes factors side frames) in
-      (x .outcome ≡ o) × (x .scaled ≡ scaled) × (x .codes ≡ codes) × (x .factors ≡ factors) × (x .side ≡ side)
-      × (x .frame ≡ partOverwrite (l .«frame_size») frames answers k)
-  placed-names l k o = (refl, refl, refl, refl, refl, refl)
+  -- what the single call left, its spectra, intensities and frame laid in their places
+  pub placed-names : (l : Layout) (k : ℕ) (o : Outcome) (floats : List Float) →
+      let x = framePlaced l k (stageLent floats factors [] [] [] [] answers) (leftBy o spectra intensities scaled codes factors side frames) in
+      (x .outcome ≡ o) × (x .spectra ≡ partOverwrite (l .channels * 1024) spectra floats k)
+      × (x .intensities ≡ partOverwrite (l .channels * 8) intensities factors k) × (x .scaled ≡ scaled) × (x .codes ≡ codes) × (x .factors ≡ factors)
+      × (x .side ≡ side) × (x .frame ≡ partOverwrite (l .«frame_size») frames answers k)
+  placed-names l k o floats = (refl, refl, refl, refl, refl, refl, refl, refl)
 
-  -- a turn is lent the call's spectra and intensities, and the buffers that the turns before it left
+  -- a turn is lent the buffers that the turns before it left
   pub turn-names :
-      let x = turnLent (lineLent spectra intensities [] [] [] [] [] [] t) (lineLeft a t scaled codes factors side frames answers) in
+      let x = turnLent (lineLeft a t spectra intensities scaled codes factors side frames answers) in
       (x .spectra ≡ spectra) × (x .intensities ≡ intensities) × (x .scaled ≡ scaled) × (x .codes ≡ codes) × (x .factors ≡ factors) × (x .side ≡ side)
       × (x .frame ≡ frames)
   turn-names = (refl, refl, refl, refl, refl, refl, refl)
@@ -131,9 +153,20 @@ pub index-row : map lineIndex (Delivered ∷ BadLayout ∷ BadBatch ∷ ShortBuf
 unfolding lineIndex
 index-row = refl
 
+-- the same of a line from unmixed spectra, whose frames may be refused with 17 too
+pub stereo-number-row : map stereoLineOutcome (stereo.Delivered ∷ stereo.BadLayout ∷ stereo.BadBatch ∷ stereo.ShortBuffer ∷ stereo.Refused 5 TooLoud ∷ [])
+    ≡ delivered [] ∷ refused 1 0 ∷ refused 18 0 ∷ refused 2 0 ∷ refused 17 0 ∷ []
+unfolding stereoLineOutcome stereoOutcome
+stereo-number-row = refl
+
+pub stereo-index-row : map stereoLineIndex (stereo.Delivered ∷ stereo.BadLayout ∷ stereo.BadBatch ∷ stereo.ShortBuffer ∷ stereo.Refused 5 TooLoud ∷ [])
+    ≡ none ∷ none ∷ none ∷ none ∷ some 5 ∷ []
+unfolding stereoLineIndex
+stereo-index-row = refl
+
 -- one turn: frame 1 was delivered with level 40, boundary 3, 2 pairs removed and 100 bits, or refused with 7; its answers stand in the second part of four
-abbrev leaves : Outcome → StageLeft
-leaves o = stageLeftBy o [] [] (3 ∷ []) (4 ∷ []) (5 ∷ [])
+abbrev leaves : Outcome → StereoLeft
+leaves o = leftBy o [] (2 ∷ []) [] [] (3 ∷ []) (4 ∷ []) (5 ∷ [])
 
 abbrev turned : (o : Outcome) → LineLeft
 turned o = lineTurn 1 (leaves o) (replicate 9 7) (tally 10 20 30)
@@ -142,6 +175,8 @@ pub turn-row :
     (turned (delivered (40 ∷ 3 ∷ 2 ∷ 100 ∷ [])) ≡ record {
       outcome = delivered [];
       index = none;
+      spectra = [];
+      intensities = 2 ∷ [];
       scaled = [];
       codes = [];
       factors = 3 ∷ [];
@@ -153,6 +188,8 @@ pub turn-row :
     × (turned (refused 7 9) ≡ record {
       outcome = refused 7 9;
       index = some 1;
+      spectra = [];
+      intensities = 2 ∷ [];
       scaled = [];
       codes = [];
       factors = 3 ∷ [];

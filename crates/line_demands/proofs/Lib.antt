@@ -1,7 +1,10 @@
 pub mod Singles
+pub mod StereoSingles
 pub mod Standing
+pub mod Over
+pub mod OverExactly
 pub mod Lines
+pub mod StereoLines
 pub mod Corners
-pub mod LineExactly
 pub mod LineFinest
 pub mod WorkedLine

@@ -21,10 +21,12 @@ use Rattle.rules.specs.declared.Layout.{Layout}
 use Rattle.rules.proofs.Cuts.{getD-copies}
 use Rattle.rules_worked.proofs.Runs.{Example, Right, stage-made, done, settled-done, run-made}
 use Rattle.rules_worked.proofs.Inputs.{loud, later, right, frames, loudBytes, laterBytes}
-use Rattle.rules_line.specs.Line.{LineLent, LineLeft, lineLent, batchFits, lineHasRoom, lineGate, frameLent, framePlaced, stageAt, answersOf, tallyAfter}
+use Rattle.rules_stereo.specs.Stereo.{withSignal, lentSignal}
+use Rattle.rules_line.specs.Line.{LineLent, LineLeft, lineLent, batchFits, lineHasRoom, lineGate, stageStep, frameLent, framePlaced, stepAt, answersOf}
+use Rattle.rules_line.specs.Line.{tallyAfter}
 use Rattle.rules_line.specs.Line.{turnOutcome, turnIndex, lineTurn, lineKept, turnLent, lineAfter, encodeLine}
 use Rattle.rules_line.proofs.Turns.{turnAfter, after-next}
-use Rattle.line_demands.proofs.Lines.{Admits, line-after}
+use Rattle.line_demands.proofs.Over.{Admits, over-after}
 
 -- ---- the stage on an example's spectra, in any buffers
 
@@ -62,6 +64,8 @@ abbrev one : LineLeft
 one = record {
   outcome = delivered [];
   index = none;
+  spectra = lent .spectra;
+  intensities = lent .intensities;
   scaled = loud .analysis .scaled ++ (oneF ∷ []);
   codes = loud .analysis .codes ++ (pos 1 ∷ []);
   factors = loud .analysis .found .factors ++ (1 ∷ []);
@@ -76,6 +80,8 @@ abbrev pub both : LineLeft
 both = record {
   outcome = delivered [];
   index = none;
+  spectra = lent .spectra;
+  intensities = lent .intensities;
   scaled = later .analysis .scaled ++ (oneF ∷ []);
   codes = later .analysis .codes ++ (pos 1 ∷ []);
   factors = later .analysis .found .factors ++ (1 ∷ []);
@@ -89,24 +95,25 @@ admitted : Admits its 2 lent
 unfolding lineGate legalLayout batchFits lineHasRoom blocks
 admitted = refl
 
-first-turn : turnAfter its lent 0 (lineKept lent (delivered [])) ≡ one
-unfolding lineTurn stageAt turnOutcome turnIndex answersOf tallyAfter stageHasRoom hasRoom blocks
+first-turn : turnAfter stageStep its 0 (lineKept lent (delivered [])) ≡ one
+unfolding lineTurn stepAt stageStep turnOutcome turnIndex answersOf tallyAfter stageHasRoom hasRoom blocks
 first-turn =
-    let u = frameLent its 0 (turnLent lent (lineKept lent (delivered []))) in
+    let u = frameLent its 0 (turnLent (lineKept lent (delivered []))) in
     let x = in-buffers loud (right .4) loudBytes (frames .2) (omega arith) (omega arith) u refl refl refl in
-    ap (λ (y : StageLeft). lineTurn 0 (framePlaced its 0 (lent .frames) y) (lent .answers) (lent .tally)) x
+    ap (λ (y : StageLeft). lineTurn 0 (framePlaced its 0 (turnLent (lineKept lent (delivered []))) (withSignal (lentSignal u) y)) (lent .answers)
+    (lent .tally)) x
 
-second-turn : turnAfter its lent 1 one ≡ both
-unfolding lineTurn stageAt turnOutcome turnIndex answersOf tallyAfter stageHasRoom hasRoom blocks
+second-turn : turnAfter stageStep its 1 one ≡ both
+unfolding lineTurn stepAt stageStep turnOutcome turnIndex answersOf tallyAfter stageHasRoom hasRoom blocks
 second-turn =
-    let u = frameLent its 1 (turnLent lent one) in
+    let u = frameLent its 1 (turnLent one) in
     let x = in-buffers later (right .5) laterBytes (frames .3) (omega arith) (omega arith) u refl refl refl in
-    ap (λ (y : StageLeft). lineTurn 1 (framePlaced its 1 (one .frames) y) (one .answers) (one .tally)) x
+    ap (λ (y : StageLeft). lineTurn 1 (framePlaced its 1 (turnLent one) (withSignal (lentSignal u) y)) (one .answers) (one .tally)) x
 
 -- Two frames are delivered: their bytes and their answers stand one after the other, the work buffers are those of the second, the tally has gained two
 -- frames, 236 bits and no pairs, and what is longer keeps its rest.
 pub two-frames : encodeLine its 2 lent ≡ both
 unfolding lineAfter
 two-frames =
-    let a : lineAfter its lent 1 ≡ one = after-next its lent 0 (lineKept lent (delivered [])) refl refl ∙ first-turn in
-    line-after its 2 lent admitted ∙ after-next its lent 1 one a refl ∙ second-turn
+    let a : lineAfter stageStep its lent 1 ≡ one = after-next stageStep its lent 0 (lineKept lent (delivered [])) refl refl ∙ first-turn in
+    over-after stageStep its 2 lent admitted ∙ after-next stageStep its lent 1 one a refl ∙ second-turn

@@ -7,7 +7,8 @@ use native.Mathlib.Omega.{arith}
 use Rattle.buffers.proofs.Tests.{not-true-false}
 use Rattle.rules.specs.declared.Layout.{Layout}
 use Rattle.rules.specs.declared.StageRoom.{StageRoom}
-use Rattle.rules_line.specs.Line.{batchFits, lineHasRoom, Batch, LineHasRoom}
+use Rattle.rules_line.specs.Line.{batchFits, lineHasRoom}
+use Rattle.rules_line.specs.Asked.{Batch, LineHasRoom}
 use Rattle.rules_line.specs.declared.Tally.{Tally}
 use Rattle.rules_line.proofs.Gates.{batch-facts, room-facts}
 

@@ -1,13 +1,20 @@
 // Request A5, the gate of a line: refusals 1, 18 and 2, and where each frame's part of a buffer begins.
 ghost use mathlib.Core.Path.{_≡_};
-ghost use mathlib.Core.Option.{none};
 ghost use Prim.Native.Nat.{_+_, _*_, _^_, _≤_};
 ghost use Rattle.rules.specs.Layout.{LegalLayout};
-ghost use Rattle.rules_line.specs.Line.{lineOutcome, lineIndex, batchFits, lineHasRoom, lineGate};
+ghost use Rattle.rules_line.specs.Line.{batchFits, lineHasRoom, lineGate};
+ghost use Rattle.line_gate.specs.Gate.{lineGateOutcome};
 use rules::Layout;
 use rules::StageRoom;
-use rules_line::LineAnswer;
 use rules_line::Tally;
+
+// The first refusal in its order, or an open gate.
+pub enum LineGate {
+    Open,
+    BadLayout,
+    BadBatch,
+    ShortBuffer,
+}
 
 // Refusal 18 is judged by count and tally alone.
 pub fn batch_fits(count: usize, tally: Tally) -> bool
@@ -72,25 +79,24 @@ pub fn line_room(layout: Layout, count: usize, room: StageRoom, answers: usize) 
     true
 }
 
-// The first refusal in its order, or Delivered where the frames may be tried.
+// The gate: the first refusal in its order, if any.
 pub fn line_gate(
     layout: Layout,
     count: usize,
     room: StageRoom,
     answers: usize,
     tally: Tally,
-) -> LineAnswer
-    ensures gated { λ r. ⌜ lineOutcome r ≡ lineGate layout count room answers tally ⌝ }
-    ensures no_frame { λ r. ⌜ lineIndex r ≡ none ⌝ }
+) -> LineGate
+    ensures { λ r. ⌜ lineGateOutcome r ≡ lineGate layout count room answers tally ⌝ }
 {
     if layouts::legal(layout) {
         if batch_fits(count, tally) {
             if line_room(layout, count, room, answers) {
-                return LineAnswer::Delivered;
+                return LineGate::Open;
             }
-            return LineAnswer::ShortBuffer;
+            return LineGate::ShortBuffer;
         }
-        return LineAnswer::BadBatch;
+        return LineGate::BadBatch;
     }
-    LineAnswer::BadLayout
+    LineGate::BadLayout
 }

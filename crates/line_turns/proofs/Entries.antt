@@ -1,43 +1,32 @@
--- What the gate's answer makes of the whole call: a refusal keeps all, an open gate lets the frames be tried. Assumes nothing.
-use mathlib.Core.Path.{_≡_, refl, sym, _∙_, ap}
-use mathlib.Core.List.{[], _∷_}
-use mathlib.Core.Option.{none}
+-- What the gate's answer makes of the whole call, over any step: a refusal keeps all, an open gate lets the frames be tried. Assumes nothing.
+use mathlib.Core.Path.{_≡_, sym, _∙_, ap}
+use mathlib.Core.Option.{none, some}
 use Prim.Native.Nat.{ℕ}
-use native.Mathlib.Omega.{arith}
-use types.Run.{OneOf, miss}
-use denote.Enum.Declared.{tagOf}
 use lib.ListN.{length}
-use Rattle.rules.specs.Refusals.{delivered}
+use Rattle.rules.specs.Refusals.{Outcome}
 use Rattle.rules.specs.declared.Layout.{Layout}
-use Rattle.rules_line.specs.Line.{lineOutcome, lineIndex, LineLent, LineLeft, lineLeft, lineRoom, lineGate, lineBehindGate, lineKept, lineAfter, encodeLine}
-use Rattle.rules_line.specs.declared.LineAnswer.{LineAnswer}
-use Rattle.rules_line.specs.declared.LineAnswer.the-variants.{Delivered, BadLayout, BadBatch, ShortBuffer, Refused}
-use Rattle.rules_line.proofs.LineAnswer as Answer
+use Rattle.rules_line.specs.Line.{LineLent, LineLeft, Step, lineRoom, lineGate, lineBehindGate, lineKept, lineAfter, lineOver}
 use Rattle.rules_line.proofs.Gates.{Admitted, gate-open}
+use Rattle.line_gate.specs.Gate.{lineGateOutcome}
+use Rattle.line_gate.specs.declared.LineGate.{LineGate}
+use Rattle.line_gate.specs.declared.LineGate.the-variants.{Open}
 
-kept-by : (g : LineAnswer) (t : LineLent) (x : LineLeft) → OneOf (1 ∷ 2 ∷ 3 ∷ 4 ∷ []) (tagOf Answer.the-type g) → lineIndex g ≡ none
-    → lineLeft g (t .tally) (t .scaled) (t .codes) (t .factors) (t .side) (t .frames) (t .answers) ≡ lineBehindGate (lineOutcome g) t x
-unfolding lineOutcome lineIndex lineBehindGate
-kept-by Delivered t x h n = absurd (miss (1 ∷ 2 ∷ 3 ∷ 4 ∷ []) 0 tt h)
-kept-by BadLayout t x h n = refl
-kept-by BadBatch t x h n = refl
-kept-by ShortBuffer t x h n = refl
-kept-by (Refused k a) t x h n = let z : _≡_ {A = ℕ} 0 1 = cc n in absurd (omega arith)
+module _ (step : Step) (l : Layout) (count : ℕ) (t : LineLent) (g : LineGate)
+    (e : lineGateOutcome g ≡ lineGate l count (lineRoom t) (length (t .answers)) (t .tally)) where
+  by-gate : (s : LineGate) → g ≡ s → lineBehindGate (lineGateOutcome s) t (lineAfter step l t count) ≡ lineOver step l count t
+  unfolding lineOver
+  by-gate s d = ap (λ o. lineBehindGate o t (lineAfter step l t count)) (sym (ap lineGateOutcome d) ∙ e)
 
-module _ (l : Layout) (count : ℕ) (t : LineLent) (g : LineAnswer) (e : lineOutcome g ≡ lineGate l count (lineRoom t) (length (t .answers)) (t .tally)) where
-  pub line-refuses : OneOf (1 ∷ 2 ∷ 3 ∷ 4 ∷ []) (tagOf Answer.the-type g) → lineIndex g ≡ none
-      → lineLeft g (t .tally) (t .scaled) (t .codes) (t .factors) (t .side) (t .frames) (t .answers) ≡ encodeLine l count t
-  unfolding encodeLine
-  line-refuses h n = kept-by g t (lineAfter l t count) h n ∙ ap (λ o. lineBehindGate o t (lineAfter l t count)) e
+  -- shut with a number
+  pub line-refuses : (s : LineGate) → g ≡ s → (o : Outcome) → lineGateOutcome s ≡ some o → lineKept t o ≡ lineOver step l count t
+  unfolding lineBehindGate
+  line-refuses s d o f = sym (ap (λ w. lineBehindGate w t (lineAfter step l t count)) f) ∙ by-gate s d
 
-  module _ (d : g ≡ Delivered) where
-    opens : lineGate l count (lineRoom t) (length (t .answers)) (t .tally) ≡ delivered []
-    unfolding lineOutcome
-    opens = sym e ∙ ap lineOutcome d
-
+  module _ (d : g ≡ Open) where
     pub line-admits : Admitted l count (lineRoom t) (length (t .answers)) (t .tally)
-    line-admits = gate-open l count (lineRoom t) (length (t .answers)) (t .tally) opens
+    unfolding lineGateOutcome
+    line-admits = gate-open l count (lineRoom t) (length (t .answers)) (t .tally) (sym e ∙ ap lineGateOutcome d)
 
-    pub line-runs : (x : LineLeft) → x ≡ lineAfter l t count → x ≡ encodeLine l count t
-    unfolding encodeLine lineBehindGate
-    line-runs x q = q ∙ ap (λ o. lineBehindGate o t (lineAfter l t count)) (sym opens)
+    pub line-runs : (x : LineLeft) → x ≡ lineAfter step l t count → x ≡ lineOver step l count t
+    unfolding lineBehindGate lineGateOutcome
+    line-runs x q = q ∙ by-gate Open d

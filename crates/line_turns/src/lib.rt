@@ -1,11 +1,19 @@
-// The frames of a line one after the other, behind the line's gate; and the whole call, the tally by value.
+// The frames of a line one after the other, behind the line's gate; and the whole call, the tally by value. Here from mixed spectra.
+
+// A line from unmixed spectra.
+pub mod stereo_line;
+
 ghost use mathlib.Core.Path.{_≡_};
 ghost use Prim.Native.Nat.{_+_, _*_, _≤_};
 ghost use lib.ListN.{length};
 ghost use Rattle.rules.specs.Layout.{LegalLayout, roomOf};
 ghost use Rattle.rules.specs.Stage.{stageLent, stageLeft, stageRoomOf};
-ghost use Rattle.rules_line.specs.Line.{lineLent, lineLeft, Batch, LineHasRoom, OnTheWay, stageAt, lineTurn, lineAfter, encodeLine};
+ghost use Rattle.rules_stereo.specs.Mixed.{signal};
+ghost use Rattle.rules_stereo.specs.Stereo.{withSignal};
+ghost use Rattle.rules_line.specs.Line.{lineLent, lineLeft, stageStep, stepAt, lineTurn, lineAfter, encodeLine};
+ghost use Rattle.rules_line.specs.Asked.{Batch, LineHasRoom, OnTheWay};
 ghost use Rattle.line_turns.specs.Turn.{Turn};
+use line_gate::LineGate;
 use line_gate::line_gate;
 use line_gate::part_start;
 use rules::Layout;
@@ -33,8 +41,9 @@ fn encode_part(
 ) -> StageAnswer
     requires { ⌜ LegalLayout layout ⌝ }
     requires { ⌜ Turn layout k (length (now spectra)) (length (now intensities)) (length (now frames)) ⌝ }
-    ensures { λ r. ⌜ stageLeft r (now (scaled .exit)) (now (codes .exit)) (now (factors .exit)) (now (side .exit)) (now (frames .exit))
-        ≡ stageAt layout k (stageLent (now (spectra .entry)) (now (intensities .entry)) (now (scaled .entry)) (now (codes .entry))
+    ensures { λ r. ⌜ withSignal (signal (now (spectra .entry)) (now (intensities .entry)))
+        (stageLeft r (now (scaled .exit)) (now (codes .exit)) (now (factors .exit)) (now (side .exit)) (now (frames .exit)))
+        ≡ stepAt stageStep layout k (stageLent (now (spectra .entry)) (now (intensities .entry)) (now (scaled .entry)) (now (codes .entry))
         (now (factors .entry)) (now (side .entry)) (now (frames .entry))) ⌝ }
 {
     let n = layout.channels * 1024;
@@ -73,8 +82,9 @@ fn encode_turn(
     requires { ⌜ Turn layout k (length (now spectra)) (length (now intensities)) (length (now frames)) ⌝ }
     requires { ⌜ k * 4 + 4 ≤ length (now answers) ⌝ }
     requires { ⌜ OnTheWay tally ⌝ }
-    ensures { λ r. ⌜ lineLeft (r .answer) (r .tally) (now (scaled .exit)) (now (codes .exit)) (now (factors .exit)) (now (side .exit))
-        (now (frames .exit)) (now (answers .exit)) ≡ lineTurn k (stageAt layout k (stageLent (now (spectra .entry)) (now (intensities .entry))
+    ensures { λ r. ⌜ lineLeft (r .answer) (r .tally) (now (spectra .entry)) (now (intensities .entry)) (now (scaled .exit)) (now (codes .exit))
+        (now (factors .exit)) (now (side .exit)) (now (frames .exit)) (now (answers .exit))
+        ≡ lineTurn k (stepAt stageStep layout k (stageLent (now (spectra .entry)) (now (intensities .entry))
         (now (scaled .entry)) (now (codes .entry)) (now (factors .entry)) (now (side .entry)) (now (frames .entry)))) (now (answers .entry)) tally ⌝ }
 {
     let answer = encode_part(
@@ -116,8 +126,9 @@ fn encode_turns(
     requires { ⌜ Batch count tally ⌝ }
     requires { ⌜ LineHasRoom layout count (stageRoomOf (length (now spectra)) (length (now intensities)) (length (now scaled))
         (roomOf (length (now factors)) (length (now side)) (length (now codes)) (length (now frames)))) (length (now answers)) ⌝ }
-    ensures { λ r. ⌜ lineLeft (r .answer) (r .tally) (now (scaled .exit)) (now (codes .exit)) (now (factors .exit)) (now (side .exit))
-        (now (frames .exit)) (now (answers .exit)) ≡ lineAfter layout (lineLent (now (spectra .entry)) (now (intensities .entry))
+    ensures { λ r. ⌜ lineLeft (r .answer) (r .tally) (now (spectra .entry)) (now (intensities .entry)) (now (scaled .exit)) (now (codes .exit))
+        (now (factors .exit)) (now (side .exit)) (now (frames .exit)) (now (answers .exit))
+        ≡ lineAfter stageStep layout (lineLent (now (spectra .entry)) (now (intensities .entry))
         (now (scaled .entry)) (now (codes .entry)) (now (factors .entry)) (now (side .entry)) (now (frames .entry)) (now (answers .entry)) tally) count ⌝ }
 {
     let mut sum = tally;
@@ -163,8 +174,9 @@ pub fn encode_frames(
     answers: &mut [u32],
     tally: Tally,
 ) -> LineEnd
-    ensures { λ r. ⌜ lineLeft (r .answer) (r .tally) (now (scaled .exit)) (now (codes .exit)) (now (factors .exit)) (now (side .exit))
-        (now (frames .exit)) (now (answers .exit)) ≡ encodeLine layout count (lineLent (now (spectra .entry)) (now (intensities .entry))
+    ensures { λ r. ⌜ lineLeft (r .answer) (r .tally) (now (spectra .entry)) (now (intensities .entry)) (now (scaled .exit)) (now (codes .exit))
+        (now (factors .exit)) (now (side .exit)) (now (frames .exit)) (now (answers .exit))
+        ≡ encodeLine layout count (lineLent (now (spectra .entry)) (now (intensities .entry))
         (now (scaled .entry)) (now (codes .entry)) (now (factors .entry)) (now (side .entry)) (now (frames .entry)) (now (answers .entry)) tally) ⌝ }
 {
     let stored = Room {
@@ -179,24 +191,31 @@ pub fn encode_frames(
         scaled: scaled.len(),
         stored,
     };
-    let gate = line_gate(layout, count, room, answers.len(), tally);
-    let LineAnswer::Delivered = gate else {
-        return LineEnd {
-            answer: gate,
+    match line_gate(layout, count, room, answers.len(), tally) {
+        LineGate::BadLayout => LineEnd {
+            answer: LineAnswer::BadLayout,
             tally,
-        };
-    };
-    encode_turns(
-        layout,
-        count,
-        spectra,
-        intensities,
-        scaled,
-        codes,
-        factors,
-        side,
-        frames,
-        answers,
-        tally,
-    )
+        },
+        LineGate::BadBatch => LineEnd {
+            answer: LineAnswer::BadBatch,
+            tally,
+        },
+        LineGate::ShortBuffer => LineEnd {
+            answer: LineAnswer::ShortBuffer,
+            tally,
+        },
+        LineGate::Open => encode_turns(
+            layout,
+            count,
+            spectra,
+            intensities,
+            scaled,
+            codes,
+            factors,
+            side,
+            frames,
+            answers,
+            tally,
+        ),
+    }
 }

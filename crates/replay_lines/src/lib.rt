@@ -27,8 +27,9 @@ fn line_from(
     answers: &mut [u32],
     tally: Tally,
 ) -> LineEnd
-    ensures { λ r. ⌜ lineLeft (r .answer) (r .tally) (now (scaled .exit)) (now (codes .exit)) (now (factors .exit)) (now (side .exit))
-        (now (frames .exit)) (now (answers .exit)) ≡ encodeLine layout count (lineLent (now (spectra .entry)) (now (intensities .entry))
+    ensures { λ r. ⌜ lineLeft (r .answer) (r .tally) (now (spectra .entry)) (now (intensities .entry)) (now (scaled .exit)) (now (codes .exit))
+        (now (factors .exit)) (now (side .exit)) (now (frames .exit)) (now (answers .exit))
+        ≡ encodeLine layout count (lineLent (now (spectra .entry)) (now (intensities .entry))
         (now (scaled .entry)) (now (codes .entry)) (now (factors .entry)) (now (side .entry)) (now (frames .entry)) (now (answers .entry)) tally) ⌝ }
 {
     let mut sum = tally;

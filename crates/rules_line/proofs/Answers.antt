@@ -12,7 +12,8 @@ use Rattle.rules.specs.Refusals.{Outcome, delivered, refused, stageOutcome}
 use Rattle.rules.specs.declared.StageAnswer.{StageAnswer}
 use Rattle.rules.specs.declared.StageAnswer.the-variants as stage
 use Rattle.rules.proofs.StageAnswer as Stage
-use Rattle.rules_line.specs.Line.{answersOf, tallyAfter, turnOutcome, turnIndex, AnswersFit}
+use Rattle.rules_line.specs.Line.{answersOf, tallyAfter, turnOutcome, turnIndex}
+use Rattle.rules_line.specs.Asked.{AnswersFit}
 use Rattle.rules_line.specs.declared.Tally.{Tally}
 
 data Refuses : Outcome → Type 0 where

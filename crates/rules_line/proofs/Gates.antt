@@ -1,6 +1,6 @@
 -- The gate of a line: its tests and their facts say the same. Assumes nothing.
 use mathlib.Core.Path.{_≡_, refl}
-use mathlib.Core.List.{[]}
+use mathlib.Core.Option.{Option, none, some}
 use mathlib.Core.Bool.{Bool, true, false, cond, not}
 use Prim.Native.Nat.{ℕ, _*_, _^_}
 use native.Mathlib.Omega.{arith}
@@ -8,11 +8,12 @@ use borrow.Author.Tests.{le-leb, leb-true}
 use lib.Dec.{leb}
 use Rattle.buffers.proofs.Tests.{and-fst, and-snd}
 use Rattle.rules.specs.Layout.{legalLayout, LegalLayout, frameSize, spectrumLength, factorLength, sideLength}
-use Rattle.rules.specs.Refusals.{Outcome, delivered, refused}
+use Rattle.rules.specs.Refusals.{Outcome, refused}
 use Rattle.rules.specs.declared.Layout.{Layout}
 use Rattle.rules.specs.declared.StageRoom.{StageRoom}
 use Rattle.rules.proofs.Layouts.{legal-true, legal-sizes}
-use Rattle.rules_line.specs.Line.{batchFits, lineHasRoom, lineGate, Batch, LineHasRoom}
+use Rattle.rules_line.specs.Line.{batchFits, lineHasRoom, lineGate}
+use Rattle.rules_line.specs.Asked.{Batch, LineHasRoom}
 use Rattle.rules_line.specs.declared.Tally.{Tally}
 
 module _ (count : ℕ) (t : Tally) where
@@ -69,15 +70,17 @@ module _ (l : Layout) (count : ℕ) (r : StageRoom) (answers : ℕ) where
 
 -- ---- an open gate
 
-shut : {number beside : ℕ} → refused number beside ≡ delivered [] → ⊥
-shut e = let z : _≡_ {A = ℕ} 0 1 = cc in omega arith
+shut : {A B : Type 0} {o : B} → some o ≡ none → A
+shut e = let z : _≡_ {A = ℕ} 0 1 = cc e in absurd (omega arith)
 
-open-by : (a b c : Bool) → cond (not a) (refused 1 0) (cond (not b) (refused 18 0) (cond (not c) (refused 2 0) (delivered []))) ≡ delivered []
-    → (a ≡ true) × (b ≡ true) × (c ≡ true)
+abbrev gateBy : (a b c : Bool) → Option Outcome
+gateBy a b c = cond (not a) (some (refused 1 0)) (cond (not b) (some (refused 18 0)) (cond (not c) (some (refused 2 0)) none))
+
+open-by : (a b c : Bool) → gateBy a b c ≡ none → (a ≡ true) × (b ≡ true) × (c ≡ true)
 open-by true true true e = (refl, refl, refl)
-open-by true true false e = absurd (shut e)
-open-by true false c e = absurd (shut e)
-open-by false b c e = absurd (shut e)
+open-by true true false e = shut e
+open-by true false c e = shut e
+open-by false b c e = shut e
 
 -- what an open gate grants
 pub record Admitted (l : Layout) (count : ℕ) (r : StageRoom) (places : ℕ) (tally : Tally) : Type 0 where
@@ -85,26 +88,23 @@ pub record Admitted (l : Layout) (count : ℕ) (r : StageRoom) (places : ℕ) (t
   pub batch : Batch count tally
   pub room : LineHasRoom l count r places
 
-pub gate-open : (l : Layout) (count : ℕ) (r : StageRoom) (answers : ℕ) (t : Tally) → lineGate l count r answers t ≡ delivered [] → Admitted l count r answers t
+pub gate-open : (l : Layout) (count : ℕ) (r : StageRoom) (answers : ℕ) (t : Tally) → lineGate l count r answers t ≡ none → Admitted l count r answers t
 unfolding lineGate
 gate-open l count r answers t e =
     let (a, b, c) = open-by (legalLayout l) (batchFits count t) (lineHasRoom l count r answers) e in
     record { layout = legal-sizes l a; batch = batch-facts count t b; room = room-facts l count r answers c }
 
-pub gate-grants : (l : Layout) (count : ℕ) (r : StageRoom) (answers : ℕ) (t : Tally) → Admitted l count r answers t → lineGate l count r answers t
-    ≡ delivered []
+pub gate-grants : (l : Layout) (count : ℕ) (r : StageRoom) (answers : ℕ) (t : Tally) → Admitted l count r answers t → lineGate l count r answers t ≡ none
 unfolding lineGate
 gate-grants l count r answers t a = rw (legal-true l (a .layout), batch-true count t (a .batch), room-true l count r answers (a .room))
 
 -- what each answer of the gate has, every answer has
-pub gate-case : (l : Layout) (count : ℕ) (r : StageRoom) (answers : ℕ) (t : Tally) (P : Outcome → Type 0) → P (refused 1 0) → P (refused 18 0) → P (refused 2 0)
-    → (lineGate l count r answers t ≡ delivered [] → P (delivered [])) → P (lineGate l count r answers t)
+pub gate-case : (l : Layout) (count : ℕ) (r : StageRoom) (answers : ℕ) (t : Tally) (P : Option Outcome → Type 0) → P (some (refused 1 0))
+    → P (some (refused 18 0)) → P (some (refused 2 0)) → (lineGate l count r answers t ≡ none → P none) → P (lineGate l count r answers t)
 unfolding lineGate
 gate-case l count r answers t P one batch two rest = by-tests (legalLayout l) (batchFits count t) (lineHasRoom l count r answers) rest
   where
-    by-tests : (a b c : Bool) → (cond (not a) (refused 1 0) (cond (not b) (refused 18 0) (cond (not c) (refused 2 0) (delivered []))) ≡ delivered []
-        → P (delivered []))
-        → P (cond (not a) (refused 1 0) (cond (not b) (refused 18 0) (cond (not c) (refused 2 0) (delivered []))))
+    by-tests : (a b c : Bool) → (gateBy a b c ≡ none → P none) → P (gateBy a b c)
     by-tests true true true f = f refl
     by-tests true true false f = two
     by-tests true false c f = batch

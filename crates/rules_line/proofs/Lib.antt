@@ -1,3 +1,4 @@
 pub mod Gates
 pub mod Answers
+pub mod Steps
 pub mod Turns

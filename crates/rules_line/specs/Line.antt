@@ -1,9 +1,10 @@
 -- Request A5, **a whole line in one call**: what a line of frames answers and leaves in every lent buffer, for every call, refused ones too.
--- A batch is a map of the stage: each frame in its turn is `encodeFrame` on its own parts, until one is refused. The work buffers are used again.
+-- A batch is a map of a single call: each frame in its turn is that call on its own parts, until one is refused. The work buffers are used again.
+-- The call is a step, any one; `encodeLine` is the line over the stage, `encodeStereoLine` that over the stereo stage.
 use mathlib.Core.List.{List, [], _∷_, _++_}
 use mathlib.Core.Bool.{Bool, cond, not, _&&_}
 use mathlib.Core.Option.{Option, none, some}
-use Prim.Native.Nat.{ℕ, zero, suc, _+_, _*_, _^_, _≤_, _<_}
+use Prim.Native.Nat.{ℕ, zero, suc, _+_, _*_, _^_}
 use lib.Dec.{leb}
 use lib.IntN.{ℤ}
 use lib.Ieee.{Float}
@@ -11,11 +12,14 @@ use lib.ListN.{length, getD, take, drop}
 use Rattle.rules.specs.Layout.{legalLayout, frameSize, spectrumLength, factorLength, sideLength, roomOf, part}
 use Rattle.rules.specs.Lent.{overwrite}
 use Rattle.rules.specs.Refusals.{Outcome, delivered, refused, stageOutcome}
-use Rattle.rules.specs.Stage.{StageLent, StageLeft, stageLent, stageRoomOf, encodeFrame}
+use Rattle.rules.specs.Stage.{StageLent, stageLent, stageRoomOf, encodeFrame}
 use Rattle.rules.specs.declared.Layout.{Layout}
 use Rattle.rules.specs.declared.StageRoom.{StageRoom}
+use Rattle.rules_stereo.specs.Stereo.{stereoOutcome, StereoLeft, withSignal, lentSignal, encodeStereoFrame}
 use Rattle.rules_line.specs.declared.LineAnswer.{LineAnswer}
 use Rattle.rules_line.specs.declared.LineAnswer.the-variants.{Delivered, BadLayout, BadBatch, ShortBuffer, Refused}
+use Rattle.rules_line.specs.declared.StereoLineAnswer.{StereoLineAnswer}
+use Rattle.rules_line.specs.declared.StereoLineAnswer.the-variants as stereo
 use Rattle.rules_line.specs.declared.Tally.{Tally}
 
 -- THE ANSWER
@@ -36,6 +40,21 @@ lineIndex BadBatch = none
 lineIndex ShortBuffer = none
 lineIndex (Refused k answer) = some k
 
+-- the same of a line from unmixed spectra, 17 among the single call's
+unfoldable pub stereoLineOutcome : (answer : StereoLineAnswer) → Outcome
+stereoLineOutcome stereo.Delivered = delivered []
+stereoLineOutcome stereo.BadLayout = refused 1 0
+stereoLineOutcome stereo.BadBatch = refused 18 0
+stereoLineOutcome stereo.ShortBuffer = refused 2 0
+stereoLineOutcome (stereo.Refused k answer) = stereoOutcome answer
+
+unfoldable pub stereoLineIndex : (answer : StereoLineAnswer) → Option ℕ
+stereoLineIndex stereo.Delivered = none
+stereoLineIndex stereo.BadLayout = none
+stereoLineIndex stereo.BadBatch = none
+stereoLineIndex stereo.ShortBuffer = none
+stereoLineIndex (stereo.Refused k answer) = some k
+
 -- WHAT IS LENT AND LEFT
 
 -- spectra, intensities, frames and answers have a part for each frame; scaled, codes, factors and side are the work buffers of one frame
@@ -50,10 +69,12 @@ pub record LineLent : Type 0 where
   pub answers : List ℕ
   pub tally : Tally
 
--- the answer, the index of the frame that was refused, and what is left in each written buffer and in the tally
+-- the answer, the index of the frame that was refused, and what is left in each buffer and in the tally
 pub record LineLeft : Type 0 where
   pub outcome : Outcome
   pub index : Option ℕ
+  pub spectra : List Float
+  pub intensities : List ℕ
   pub scaled : List Float
   pub codes : List ℤ
   pub factors : List ℕ
@@ -77,10 +98,13 @@ lineLent spectra intensities scaled codes factors side frames answers tally = re
   tally = tally;
 }
 
-abbrev pub lineLeft : (answer : LineAnswer) (tally : Tally) (scaled : List Float) (codes : List ℤ) (factors side frames answers : List ℕ) → LineLeft
-lineLeft answer tally scaled codes factors side frames answers = record {
-  outcome = lineOutcome answer;
-  index = lineIndex answer;
+abbrev pub leftWith : (outcome : Outcome) (index : Option ℕ) (tally : Tally) (spectra : List Float) (intensities : List ℕ) (scaled : List Float)
+    (codes : List ℤ) (factors side frames answers : List ℕ) → LineLeft
+leftWith outcome index tally spectra intensities scaled codes factors side frames answers = record {
+  outcome = outcome;
+  index = index;
+  spectra = spectra;
+  intensities = intensities;
   scaled = scaled;
   codes = codes;
   factors = factors;
@@ -89,6 +113,14 @@ lineLeft answer tally scaled codes factors side frames answers = record {
   answers = answers;
   tally = tally;
 }
+
+abbrev pub lineLeft : (answer : LineAnswer) (tally : Tally) (spectra : List Float) (intensities : List ℕ) (scaled : List Float) (codes : List ℤ)
+    (factors side frames answers : List ℕ) → LineLeft
+lineLeft answer = leftWith (lineOutcome answer) (lineIndex answer)
+
+abbrev pub stereoLineLeft : (answer : StereoLineAnswer) (tally : Tally) (spectra : List Float) (intensities : List ℕ) (scaled : List Float) (codes : List ℤ)
+    (factors side frames answers : List ℕ) → LineLeft
+stereoLineLeft answer = leftWith (stereoLineOutcome answer) (stereoLineIndex answer)
 
 -- THE GATE: refusals 1, 18 and 2, in this order
 
@@ -108,15 +140,23 @@ lineHasRoom l count room answers =
     && (leb (factorLength l) (room .stored .factors) && (leb (sideLength l) (room .stored .side) && (leb (spectrumLength l) (room .stored .codes)
     && (leb (count * frameSize l) (room .stored .frame) && leb (count * 4) answers))))))
 
--- the first refusal that applies, or a delivery
-unfoldable pub lineGate : (l : Layout) (count : ℕ) (room : StageRoom) (answers : ℕ) (tally : Tally) → Outcome
+-- the first refusal that applies, if any
+unfoldable pub lineGate : (l : Layout) (count : ℕ) (room : StageRoom) (answers : ℕ) (tally : Tally) → Option Outcome
 lineGate l count room answers tally =
-    cond (not (legalLayout l)) (refused 1 0)
-    (cond (not (batchFits count tally)) (refused 18 0)
-    (cond (not (lineHasRoom l count room answers)) (refused 2 0)
-    (delivered [])))
+    cond (not (legalLayout l)) (some (refused 1 0))
+    (cond (not (batchFits count tally)) (some (refused 18 0))
+    (cond (not (lineHasRoom l count room answers)) (some (refused 2 0))
+    none))
 
 -- ONE FRAME
+
+-- a single call: what it answers, and what it leaves of all that it is lent
+abbrev pub Step : Type 0
+Step = (l : Layout) (t : StageLent) → StereoLeft
+
+-- the stage, which leaves spectra and intensities as lent
+unfoldable pub stageStep : (l : Layout) (t : StageLent) → StereoLeft
+stageStep l t = withSignal (lentSignal t) (encodeFrame l t)
 
 -- part k of a buffer with n values a part, with new values laid over it
 abbrev pub partOverwrite : {A : Type 0} (n : ℕ) (new old : List A) (k : ℕ) → List A
@@ -128,20 +168,22 @@ frameLent l k t =
     stageLent (part (spectrumLength l) (t .spectra) k) (part (sideLength l) (t .intensities) k) (t .scaled) (t .codes) (t .factors) (t .side)
     (part (frameSize l) (t .frame) k)
 
--- frame k's bytes back in their place among the frames
-abbrev pub framePlaced : (l : Layout) (k : ℕ) (frames : List ℕ) (x : StageLeft) → StageLeft
-framePlaced l k frames x = record {
+-- frame k's spectra, intensities and bytes back in their places among those of all frames
+abbrev pub framePlaced : (l : Layout) (k : ℕ) (t : StageLent) (x : StereoLeft) → StereoLeft
+framePlaced l k t x = record {
   outcome = x .outcome;
+  spectra = partOverwrite (spectrumLength l) (x .spectra) (t .spectra) k;
+  intensities = partOverwrite (sideLength l) (x .intensities) (t .intensities) k;
   scaled = x .scaled;
   codes = x .codes;
   factors = x .factors;
   side = x .side;
-  frame = partOverwrite (frameSize l) (x .frame) frames k;
+  frame = partOverwrite (frameSize l) (x .frame) (t .frame) k;
 }
 
 -- the single call on frame k
-unfoldable pub stageAt : (l : Layout) (k : ℕ) (t : StageLent) → StageLeft
-stageAt l k t = framePlaced l k (t .frame) (encodeFrame l (frameLent l k t))
+unfoldable pub stepAt : (step : Step) (l : Layout) (k : ℕ) (t : StageLent) → StereoLeft
+stepAt step l k t = framePlaced l k t (step l (frameLent l k t))
 
 -- what is stored of a frame's answer: level, boundary, pairs and bits of a delivered one, nothing of a refused one
 unfoldable pub answersOf : (o : Outcome) → List ℕ
@@ -167,10 +209,12 @@ turnIndex k (delivered ns) = none
 turnIndex k (refused number beside) = some k
 
 -- the line after frame k's turn, which left x
-unfoldable pub lineTurn : (k : ℕ) (x : StageLeft) (answers : List ℕ) (tally : Tally) → LineLeft
+unfoldable pub lineTurn : (k : ℕ) (x : StereoLeft) (answers : List ℕ) (tally : Tally) → LineLeft
 lineTurn k x answers tally = record {
   outcome = turnOutcome (x .outcome);
   index = turnIndex k (x .outcome);
+  spectra = x .spectra;
+  intensities = x .intensities;
   scaled = x .scaled;
   codes = x .codes;
   factors = x .factors;
@@ -187,6 +231,8 @@ abbrev pub lineKept : (t : LineLent) (o : Outcome) → LineLeft
 lineKept t o = record {
   outcome = o;
   index = none;
+  spectra = t .spectra;
+  intensities = t .intensities;
   scaled = t .scaled;
   codes = t .codes;
   factors = t .factors;
@@ -196,9 +242,9 @@ lineKept t o = record {
   tally = t .tally;
 }
 
--- what is lent to frame k's turn, after the frames before it left x
-abbrev pub turnLent : (t : LineLent) (x : LineLeft) → StageLent
-turnLent t x = stageLent (t .spectra) (t .intensities) (x .scaled) (x .codes) (x .factors) (x .side) (x .frames)
+-- what is lent to a frame's turn, after the frames before it left x
+abbrev pub turnLent : (x : LineLeft) → StageLent
+turnLent x = stageLent (x .spectra) (x .intensities) (x .scaled) (x .codes) (x .factors) (x .side) (x .frames)
 
 -- a line that has ended stays as it is
 unfoldable pub onward : (index : Option ℕ) (ended next : LineLeft) → LineLeft
@@ -206,45 +252,25 @@ onward (some k) ended next = ended
 onward none ended next = next
 
 -- the line after k turns
-unfoldable pub lineAfter : (l : Layout) (t : LineLent) (k : ℕ) → LineLeft
-lineAfter l t zero = lineKept t (delivered [])
-lineAfter l t (suc k) =
-    let x = lineAfter l t k in
-    onward (x .index) x (lineTurn k (stageAt l k (turnLent t x)) (x .answers) (x .tally))
+unfoldable pub lineAfter : (step : Step) (l : Layout) (t : LineLent) (k : ℕ) → LineLeft
+lineAfter step l t zero = lineKept t (delivered [])
+lineAfter step l t (suc k) =
+    let x = lineAfter step l t k in
+    onward (x .index) x (lineTurn k (stepAt step l k (turnLent x)) (x .answers) (x .tally))
 
 -- 1, 18 and 2 change nothing
-unfoldable pub lineBehindGate : (g : Outcome) (t : LineLent) (x : LineLeft) → LineLeft
-lineBehindGate (refused number beside) t x = lineKept t (refused number beside)
-lineBehindGate (delivered ns) t x = x
+unfoldable pub lineBehindGate : (g : Option Outcome) (t : LineLent) (x : LineLeft) → LineLeft
+lineBehindGate (some o) t x = lineKept t o
+lineBehindGate none t x = x
 
-unfoldable pub encodeLine : (l : Layout) (count : ℕ) (t : LineLent) → LineLeft
-encodeLine l count t = lineBehindGate (lineGate l count (lineRoom t) (length (t .answers)) (t .tally)) t (lineAfter l t count)
+-- a line over any step
+unfoldable pub lineOver : (step : Step) (l : Layout) (count : ℕ) (t : LineLent) → LineLeft
+lineOver step l count t = lineBehindGate (lineGate l count (lineRoom t) (length (t .answers)) (t .tally)) t (lineAfter step l t count)
 
--- WHAT THE CODE ASKS
+-- over the stage, from mixed spectra
+abbrev pub encodeLine : (l : Layout) (count : ℕ) (t : LineLent) → LineLeft
+encodeLine = lineOver stageStep
 
--- a tally on the way: 65,535 frames of under 2^20 bits each raise no count by 2^36
-pub record OnTheWay (tally : Tally) : Type 0 where
-  pub frames : tally .frames ≤ 2 ^ 63 + 2 ^ 36
-  pub bits : tally .bits ≤ 2 ^ 63 + 2 ^ 36
-  pub pairs : tally .pairs ≤ 2 ^ 63 + 2 ^ 36
-
--- a delivered frame's answers fit their places
-unfoldable pub AnswersFit : (o : Outcome) → Type 0
-AnswersFit o = (i : ℕ) → getD (answersOf o) i 0 < 2 ^ 32
-
--- `batchFits` and `lineHasRoom` as facts
-pub record Batch (count : ℕ) (tally : Tally) : Type 0 where
-  pub few : count ≤ 65535
-  pub frames : tally .frames ≤ 2 ^ 63
-  pub bits : tally .bits ≤ 2 ^ 63
-  pub pairs : tally .pairs ≤ 2 ^ 63
-
-pub record LineHasRoom (l : Layout) (count : ℕ) (room : StageRoom) (places : ℕ) : Type 0 where
-  pub spectra : count * spectrumLength l ≤ room .spectra
-  pub intensities : count * sideLength l ≤ room .intensities
-  pub scaled : spectrumLength l ≤ room .scaled
-  pub factors : factorLength l ≤ room .stored .factors
-  pub side : sideLength l ≤ room .stored .side
-  pub codes : spectrumLength l ≤ room .stored .codes
-  pub frames : count * frameSize l ≤ room .stored .frame
-  pub answers : count * 4 ≤ places
+-- over the stereo stage, from unmixed ones
+abbrev pub encodeStereoLine : (l : Layout) (count : ℕ) (t : LineLent) → LineLeft
+encodeStereoLine = lineOver encodeStereoFrame

@@ -1,11 +1,15 @@
-// Request A5, a whole line in one call: its types and definitions, and what it does to the tally and to a frame's answers.
+// Request A5, a whole line in one call, from mixed or from unmixed spectra: types, definitions, and what a line does to the tally and to a frame's answers.
 ghost use mathlib.Core.Path.{_≡_};
 ghost use Prim.Native.Nat.{_^_, _≤_, _<_};
 ghost use lib.ListN.{length};
 ghost use Rattle.rules.specs.Lent.{overwrite};
 ghost use Rattle.rules.specs.Refusals.{stageOutcome};
-ghost use Rattle.rules_line.specs.Line.{lineOutcome, lineIndex, answersOf, gained, tallyAfter, turnOutcome, turnIndex, OnTheWay, AnswersFit};
+ghost use Rattle.rules_stereo.specs.Stereo.{stereoOutcome};
+ghost use Rattle.rules_line.specs.Line.{lineOutcome, lineIndex, stereoLineOutcome, stereoLineIndex};
+ghost use Rattle.rules_line.specs.Line.{answersOf, gained, tallyAfter, turnOutcome, turnIndex};
+ghost use Rattle.rules_line.specs.Asked.{OnTheWay, AnswersFit};
 use rules::StageAnswer;
+use rules_stereo::StereoAnswer;
 
 // What a caller's lines have delivered so far.
 pub struct Tally {
@@ -26,6 +30,20 @@ pub enum LineAnswer {
 // The answer, and the tally after the call.
 pub struct LineEnd {
     pub answer: LineAnswer,
+    pub tally: Tally,
+}
+
+// The same of a line from unmixed spectra.
+pub enum StereoLineAnswer {
+    Delivered,
+    BadLayout,
+    BadBatch,
+    ShortBuffer,
+    Refused(usize, StereoAnswer),
+}
+
+pub struct StereoLineEnd {
+    pub answer: StereoLineAnswer,
     pub tally: Tally,
 }
 
@@ -54,6 +72,17 @@ impl Tally {
         };
         self.with(bits as u64, pairs as u64)
     }
+
+    pub fn after_stereo(self, answer: StereoAnswer) -> Tally
+        requires { ⌜ OnTheWay self ⌝ }
+        requires { ⌜ AnswersFit (stereoOutcome answer) ⌝ }
+        ensures { λ r. ⌜ r ≡ tallyAfter self (stereoOutcome answer) ⌝ }
+    {
+        match answer {
+            StereoAnswer::TooLoud => self,
+            StereoAnswer::Of(a) => self.after(a),
+        }
+    }
 }
 
 // What frame k's answer means for the line.
@@ -65,6 +94,21 @@ pub fn line_answer(k: usize, answer: StageAnswer) -> LineAnswer
         return LineAnswer::Refused(k, answer);
     };
     LineAnswer::Delivered
+}
+
+pub fn stereo_line_answer(k: usize, answer: StereoAnswer) -> StereoLineAnswer
+    ensures ended { λ r. ⌜ stereoLineOutcome r ≡ turnOutcome (stereoOutcome answer) ⌝ }
+    ensures index { λ r. ⌜ stereoLineIndex r ≡ turnIndex k (stereoOutcome answer) ⌝ }
+{
+    match answer {
+        StereoAnswer::TooLoud => StereoLineAnswer::Refused(k, answer),
+        StereoAnswer::Of(a) => {
+            let StageAnswer::Delivered(_, _, _, _) = a else {
+                return StereoLineAnswer::Refused(k, answer);
+            };
+            StereoLineAnswer::Delivered
+        }
+    }
 }
 
 // A delivered frame's four answers into its part; a refused one leaves it as it was.
@@ -80,4 +124,15 @@ pub fn store_answers(answer: StageAnswer, answers: &mut [u32])
     answers[1] = boundary as u32;
     answers[2] = pairs as u32;
     answers[3] = bits as u32;
+}
+
+pub fn store_stereo_answers(answer: StereoAnswer, answers: &mut [u32])
+    requires { ⌜ AnswersFit (stereoOutcome answer) ⌝ }
+    requires { ⌜ 4 ≤ length (now answers) ⌝ }
+    ensures { λ _. ⌜ now (answers .exit) ≡ overwrite (answersOf (stereoOutcome answer)) (now (answers .entry)) ⌝ }
+{
+    match answer {
+        StereoAnswer::TooLoud => {}
+        StereoAnswer::Of(a) => store_answers(a, answers),
+    }
 }

@@ -97,7 +97,7 @@ module _ (l : Layout) (t : StageLent) (h : StereoGood l t) where
   after-side = mixed-side l front front-side
 
   -- what is mixed is good
-  mixed-room : stageRoom (mixedLent l t) ≡ stageRoom t
+  pub mixed-room : stageRoom (mixedLent l t) ≡ stageRoom t
   unfolding mixedFront
   mixed-room =
       let p : length (overwrite (after .spectra) (t .spectra))

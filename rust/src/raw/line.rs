@@ -1,4 +1,4 @@
-//! The C function of a whole line, and its answers as it writes them.
+//! The C functions of a whole line, and its answers as they write them.
 use crate::Delivered;
 
 mod c {
@@ -12,6 +12,34 @@ mod c {
             spectra: *const f32,
             spectra_len: usize,
             intensities: *const u8,
+            intensities_len: usize,
+            scaled: *mut f32,
+            scaled_len: usize,
+            codes: *mut i32,
+            codes_len: usize,
+            factors: *mut u8,
+            factors_len: usize,
+            side: *mut u8,
+            side_len: usize,
+            frames: *mut u8,
+            frames_len: usize,
+            answers: *mut u32,
+            answers_len: usize,
+            tally: *mut u64,
+            tally_len: usize,
+            answer: *mut u32,
+            answer_len: usize,
+        ) -> u32;
+
+        pub fn hca_encode_stereo_line(
+            layout: *const u32,
+            layout_len: usize,
+            kinds: *const u8,
+            kinds_len: usize,
+            count: usize,
+            spectra: *mut f32,
+            spectra_len: usize,
+            intensities: *mut u8,
             intensities_len: usize,
             scaled: *mut f32,
             scaled_len: usize,
@@ -84,9 +112,60 @@ pub fn encode_line(
     }
 }
 
+/// A line of frames from unmixed spectra, which are left as mixed. `tally` is frames, bits, pairs; at a refusal `answer` has the number beside it
+/// and, from 3 on, the frame's index. Each delivered frame's four numbers go to `answers`.
+#[allow(clippy::too_many_arguments)]
+pub fn encode_stereo_line(
+    layout: &[u32],
+    kinds: &[u8],
+    count: usize,
+    spectra: &mut [f32],
+    intensities: &mut [u8],
+    scaled: &mut [f32],
+    codes: &mut [i32],
+    factors: &mut [u8],
+    side: &mut [u8],
+    frames: &mut [u8],
+    answers: &mut [u32],
+    tally: &mut [u64],
+    answer: &mut [u32],
+) -> u32 {
+    // SAFETY: each pointer goes with its slice's length, and the borrows keep
+    // written slices apart from all others for the length of the call.
+    unsafe {
+        c::hca_encode_stereo_line(
+            layout.as_ptr(),
+            layout.len(),
+            kinds.as_ptr(),
+            kinds.len(),
+            count,
+            spectra.as_mut_ptr(),
+            spectra.len(),
+            intensities.as_mut_ptr(),
+            intensities.len(),
+            scaled.as_mut_ptr(),
+            scaled.len(),
+            codes.as_mut_ptr(),
+            codes.len(),
+            factors.as_mut_ptr(),
+            factors.len(),
+            side.as_mut_ptr(),
+            side.len(),
+            frames.as_mut_ptr(),
+            frames.len(),
+            answers.as_mut_ptr(),
+            answers.len(),
+            tally.as_mut_ptr(),
+            tally.len(),
+            answer.as_mut_ptr(),
+            answer.len(),
+        )
+    }
+}
+
 const _: () = assert!(std::mem::size_of::<Delivered>() == 16);
 
-/// The answers of a line as the numbers that the C function writes.
+/// The answers of a line as the numbers that the C functions write.
 pub(crate) fn numbers_of(answers: &mut [Delivered]) -> &mut [u32] {
     // SAFETY: by repr(C) each is four u32 in their order with no gap, any of which may have any value.
     unsafe { std::slice::from_raw_parts_mut(answers.as_mut_ptr().cast(), 4 * answers.len()) }

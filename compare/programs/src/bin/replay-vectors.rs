@@ -9,6 +9,8 @@ mod line;
 mod list;
 #[path = "replay-vectors/stereo.rs"]
 mod stereo;
+#[path = "replay-vectors/stereo_line.rs"]
+mod stereo_line;
 #[path = "replay-vectors/wav.rs"]
 mod wav;
 
@@ -128,6 +130,7 @@ fn replay(file: &[u8]) -> (u32, Vec<u32>) {
             11 | 111 => stereo::replay(&mut b, numbers),
             12 | 112 => line::replay(&mut b, numbers),
             13 => header_back::replay(&mut b),
+            14 | 114 => stereo_line::replay(&mut b, numbers),
             _ => panic!("case {k} is of no kind"),
         };
         good && b.0.is_empty()

@@ -242,7 +242,8 @@ module _ {M : Type 1} (𝓤 : URA M) (H : Heap 𝓤) (A : Atoms 𝓤) (W : Given
   Leaves zs = lasts g.ended κsᵍ aᵍ zs
 
   abbrev Said : LineEnd → Lasts → Type 0
-  Said r zs = lineLeft (r .answer) (r .tally) (zs .1 .1 .1 .1 .0) (zs .1 .1 .1 .1 .1 .0) (zs .1 .1 .1 .1 .1 .1 .0) (zs .1 .1 .1 .1 .1 .1 .1 .0)
+  Said r zs = lineLeft (r .answer) (r .tally) (x₀ .now) (x₁ .now) (zs .1 .1 .1 .1 .0) (zs .1 .1 .1 .1 .1 .0) (zs .1 .1 .1 .1 .1 .1 .0)
+      (zs .1 .1 .1 .1 .1 .1 .1 .0)
       (zs .1 .1 .1 .1 .1 .1 .1 .1 .0) (zs .1 .1 .1 .1 .1 .1 .1 .1 .1 .0)
       ≡ encodeLine h n (lineLent (x₀ .now) (x₁ .now) (x₂ .now) (x₃ .now) (x₄ .now) (x₅ .now) (x₆ .now) (x₇ .now) (x .now))
 

@@ -1,8 +1,9 @@
 -- `line_gate::line_gate` meets its contract. Assumes nothing.
-use mathlib.Core.Path.{refl, sym, _∙_}
+use mathlib.Core.Path.{sym, _∙_}
 use borrow.Author.Needs.{needs}
 use Rattle.rules.proofs.Layouts.{legal-sizes}
-use Rattle.rules_line.specs.Line.{lineOutcome, lineIndex, lineGate}
+use Rattle.rules_line.specs.Line.{lineGate}
+use Rattle.line_gate.specs.Gate.{lineGateOutcome}
 use Rattle.rules_line.proofs.Gates.{batch-facts}
 use Rattle.line_gate.proofs.line_gate.Statement.{statement}
 use Rattle.line_gate.proofs.line_gate.Tie as tie
@@ -20,48 +21,42 @@ line-room-requires c κs = (
 )
 
 returns : tie.Need-returns
-unfolding lineOutcome lineIndex lineGate
-returns c = (
-  rw (
-    ← c .before .before .before .before .before .legal .ensures,
-    c .before .before .before .before .if1 .taken,
-    ← c .before .before .before .batch-fits .ensures,
-    c .before .before .if2 .taken,
-    ← c .before .line-room .ensures,
-    c .if3 .taken,
-  ),
-  refl,
-)
+unfolding lineGateOutcome lineGate
+returns c =
+    rw (
+      ← c .before .before .before .before .before .legal .ensures,
+      c .before .before .before .before .if1 .taken,
+      ← c .before .before .before .batch-fits .ensures,
+      c .before .before .if2 .taken,
+      ← c .before .line-room .ensures,
+      c .if3 .taken,
+    )
 
 returns-2 : tie.Need-returns-2
-unfolding lineOutcome lineIndex lineGate
-returns-2 c = (
-  rw (
-    ← c .before .before .before .before .before .legal .ensures,
-    c .before .before .before .before .if1 .taken,
-    ← c .before .before .before .batch-fits .ensures,
-    c .before .before .if2 .taken,
-    ← c .before .line-room .ensures,
-    c .if3 .left,
-  ),
-  refl,
-)
+unfolding lineGateOutcome lineGate
+returns-2 c =
+    rw (
+      ← c .before .before .before .before .before .legal .ensures,
+      c .before .before .before .before .if1 .taken,
+      ← c .before .before .before .batch-fits .ensures,
+      c .before .before .if2 .taken,
+      ← c .before .line-room .ensures,
+      c .if3 .left,
+    )
 
 returns-3 : tie.Need-returns-3
-unfolding lineOutcome lineIndex lineGate
-returns-3 c = (
-  rw (
-    ← c .before .before .before .legal .ensures,
-    c .before .before .if1 .taken,
-    ← c .before .batch-fits .ensures,
-    c .if2 .left,
-  ),
-  refl,
-)
+unfolding lineGateOutcome lineGate
+returns-3 c =
+    rw (
+      ← c .before .before .before .legal .ensures,
+      c .before .before .if1 .taken,
+      ← c .before .batch-fits .ensures,
+      c .if2 .left,
+    )
 
 returns-4 : tie.Need-returns-4
-unfolding lineOutcome lineIndex lineGate
-returns-4 c = (rw (← c .before .legal .ensures, c .if1 .left), refl)
+unfolding lineGateOutcome lineGate
+returns-4 c = rw (← c .before .legal .ensures, c .if1 .left)
 
 pub line-gate-spec : {M : Type 1} → statement M
 line-gate-spec =

@@ -3,7 +3,7 @@ use mathlib.Core.Path.{_∙_}
 use native.Mathlib.Omega.{arith}
 use borrow.Author.Needs.{needs}
 use Rattle.line_gate.proofs.Tests.{product-fits}
-use Rattle.line_turns.proofs.Placed.{placed, ends-low, ends-within, lent-long}
+use Rattle.line_turns.proofs.Placed.{stage-placed, ends-low, ends-within, lent-long}
 use Rattle.line_turns.proofs.encode_part.Statement.{statement}
 use Rattle.line_turns.proofs.encode_part.Tie as tie
 
@@ -123,10 +123,12 @@ returns c =
     let c15 = c .before .before .before .before .before .before .before .before .before .before .before .before .before .before .before in
     let s = c15 .before .before .before .before .before .before .before .before .before .before .before .before .before in
     let r = c .before .before .before .before .before .before .before .before .before .encode-frame in
+    let start = c15 .before .before .before .before .part-start .ensures in
+    let side-start = c15 .before .before .before .part-start2 .ensures in
     let at = c15 .before .before .part-start3 .ensures in
-    placed _ _ _ (s .args .spectra .now) (s .args .intensities .now) _ _ _ _ (s .args .frames .now) _ _ _ _ (r .last .1 .1 .1 .1 .1 .1 .1 .0) _ _ _
-    (c15 .before .before .before .before .part-start .ensures) (c15 .before .before .before .part-start2 .ensures) at
-    (r .kept .1 .1 .1 .1 .1 .1 .1 .0 ∙ lent-long _ _ _ (ends-within _ _ _ at _ (s .pre .1 .frames))) (r .ensures)
+    stage-placed _ _ (s .args .spectra .now) (s .args .intensities .now) _ _ _ _ (s .args .frames .now) _ _ _ start side-start at
+    (lent-long _ _ _ start _ (s .pre .1 .spectra)) (lent-long _ _ _ side-start _ (s .pre .1 .intensities)) _ _ _ _ _ (r .last .1 .1 .1 .1 .1 .1 .1 .0)
+    (r .kept .1 .1 .1 .1 .1 .1 .1 .0 ∙ lent-long _ _ _ at _ (s .pre .1 .frames)) (r .ensures)
 
 pub encode-part-spec : {M : Type 1} → statement M
 encode-part-spec =

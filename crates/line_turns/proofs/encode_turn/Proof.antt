@@ -3,10 +3,10 @@ use mathlib.Core.Path.{_≡_, sym, ap, subst}
 use native.Mathlib.Omega.{arith}
 use borrow.Author.Needs.{needs}
 use lib.ListN.{length-drop}
-use Rattle.rules.specs.Refusals.{stageOutcome}
-use Rattle.rules.specs.Stage.{StageLeft}
-use Rattle.rules_line.specs.Line.{AnswersFit}
-use Rattle.line_turns.proofs.Counts.{at-bounded, bounded-fits}
+use Rattle.rules_stereo.specs.Stereo.{StereoLeft}
+use Rattle.rules_line.specs.Line.{stageStep}
+use Rattle.rules_line.specs.Asked.{AnswersFit}
+use Rattle.line_turns.proofs.Counts.{stage-bounded, at-fits}
 use Rattle.line_turns.proofs.Placed.{turned}
 use Rattle.line_turns.proofs.encode_turn.Statement.{statement}
 use Rattle.line_turns.proofs.encode_turn.Tie as tie
@@ -43,9 +43,9 @@ part-store-answers-end c =
 store-answers-requires : tie.Need-store-answers-requires
 store-answers-requires c κs =
     let c15 = c .before .before .before .before .before .before .before .before .before .before .before .before .before .before .before in (
-      subst AnswersFit (sym (ap (λ (x : StageLeft). x .outcome)
+      subst AnswersFit (sym (ap (λ (x : StereoLeft). x .outcome)
           (c .before .before .before .before .before .before .before .before .before .before .before .encode-part .ensures)))
-          (bounded-fits _ (at-bounded _ _ _)),
+          (at-fits stageStep stage-bounded _ _ _),
       omega (
         arith,
         length-drop (c .before .part-start .result)
@@ -61,9 +61,9 @@ after-requires c κs =
       c15 .before .before .before .before .before .before .before .before .before .before .before .before .pre .1 .1 .1,
       subst AnswersFit
           (sym
-          (ap (λ (x : StageLeft). x .outcome)
+          (ap (λ (x : StereoLeft). x .outcome)
           (c .before .before .before .before .before .before .before .before .before .before .before .before .before .before .encode-part .ensures)))
-          (bounded-fits _ (at-bounded _ _ _)),
+          (at-fits stageStep stage-bounded _ _ _),
     )
 
 line-answer-requires : tie.Need-line-answer-requires
@@ -101,7 +101,7 @@ returns : tie.Need-returns
 returns c =
     let c15 = c .before .before .before .before .before .before .before .before .before .before .before .before .before .before .before in
     let s = c15 .before .before .before .before .before .before .before .before .before .before .before .before .before .before in
-    turned _ _ _ _ _ _ _ _ _ _ _ _ (s .args .answers .now) _ (c .before .before .before .before .before .before .part-start .ensures)
+    turned _ _ _ _ _ _ _ _ _ _ _ _ _ _ _ (s .args .answers .now) _ (c .before .before .before .before .before .before .part-start .ensures)
     (c15 .before .encode-part .ensures) (c .before .before .before .before .store-answers .ensures) (c .before .after .ensures)
     (c .line-answer .ensures .0) (c .line-answer .ensures .1)
 

@@ -1,22 +1,24 @@
 -- `line_turns::encode_turns` meets its contract. The invariant: the line so far, every frame delivered. Assumes nothing.
-use mathlib.Core.Path.{_∙_}
+use mathlib.Core.Path.{refl, _∙_, ap}
 use Prim.Native.Nat.{_≤_, _-_}
 use native.Mathlib.Omega.{arith}
 use borrow.Author.Needs.{needs}
-use Rattle.rules_line.specs.Line.{lineLent}
-use Rattle.line_turns.proofs.Going.{Going, going-none, going-counts, going-more, going-stop, going-all, turn-there, answers-there}
+use Rattle.rules_line.specs.Line.{lineOutcome, lineIndex, lineLent, stageStep}
+use Rattle.line_turns.proofs.Counts.{stage-bounded}
+use Rattle.line_turns.proofs.Going.{Going, going-none, going-counts, going-more, going-stop, going-all, turn-there, answers-there, line-stopping}
 use Rattle.line_turns.proofs.encode_turns.Statement.{statement}
 use Rattle.line_turns.proofs.encode_turns.Tie as tie
 
 abbrev Inv-loop : tie.InvT-loop
 Inv-loop layout count spectra intensities scaled₀ codes₀ factors₀ side₀ frames₀ answers₀ sum₀ k₀ scaled codes factors side frames answers sum k =
-    (k ≤ count) × Going layout (lineLent spectra intensities scaled₀ codes₀ factors₀ side₀ frames₀ answers₀ sum₀) k sum scaled codes factors side frames answers
+    (k ≤ count) × Going stageStep layout (lineLent spectra intensities scaled₀ codes₀ factors₀ side₀ frames₀ answers₀ sum₀) k sum spectra intensities scaled
+    codes factors side frames answers
 
 abbrev μ-loop : tie.MeasureT-loop
 μ-loop layout count spectra intensities scaled₀ codes₀ factors₀ side₀ frames₀ answers₀ sum₀ k₀ scaled codes factors side frames answers sum k = count - k
 
 loop-holds : tie.Need-loop-holds Inv-loop μ-loop
-loop-holds c = (omega arith, going-none _ _)
+loop-holds c = (omega arith, going-none _ _ _)
 
 encode-turn-requires : tie.Need-encode-turn-requires Inv-loop μ-loop
 encode-turn-requires c κs =
@@ -28,11 +30,10 @@ encode-turn-requires c κs =
     let h = c .before .before .before .before .before .before .loop-test .taken in (
       s .pre .0,
       (
-        turn-there _ t _ _ (l .frames) h (s .pre .1 .0 .few) (s .pre .1 .1) (g .frames),
+        turn-there _ _ t _ _ _ _ _ _ _ _ _ _ g _ (s .pre .1 .0) (s .pre .1 .1) h,
         (
-          answers-there (s .args .layout) t _ _ (l .answers) h (s .pre .1 .1) (g .answers),
-          going-counts _ _ _ _ _ _ _ _ _ _ g _ (s .pre .1 .0)
-              (omega arith),
+          answers-there _ _ t _ _ _ _ _ _ _ _ _ _ g _ (s .pre .1 .0) (s .pre .1 .1) h,
+          going-counts _ _ t _ _ _ _ _ _ _ _ _ _ g _ (s .pre .1 .0) (s .pre .1 .1) h stage-bounded,
         ),
       ),
     )
@@ -79,9 +80,9 @@ same-length-6 c =
 returns : tie.Need-returns Inv-loop μ-loop
 returns c =
     let c15 = c .before .before .before .before .before .before .before .before .before .before .before .before .before .before .before in
-    going-stop _ _ _ _ _ _ _ _ _ _ (c15 .before .before .before .before .before .loop .inv .1) _ _ _ _ _ _ _ _
+    going-stop _ _ _ _ _ _ _ _ _ _ _ _ _ (c15 .before .before .before .before .before .loop .inv .1) _ _ _ _ _ _ _ _ _ _ _
     (c .before .before .before .before .before .before .before .before .before .before .before .before .encode-turn .ensures) _
-    (c15 .before .before .before .before .loop-test .taken) (c .match .keys2)
+    (c15 .before .before .before .before .loop-test .taken) (line-stopping _ (c .match .keys2))
 
 add-k : tie.Need-add-k Inv-loop μ-loop
 add-k c =
@@ -93,12 +94,13 @@ loop-less : tie.Need-loop-less Inv-loop μ-loop
 loop-less c = search needs
 
 loop-again : tie.Need-loop-again Inv-loop μ-loop
+unfolding lineOutcome lineIndex
 loop-again c =
     let c15 = c .before .before .before .before .before .before .before .before .before .before .before .before .before .before .before in
     let r = c .before .before .before .before .before .before .before .before .before .before .before .before .before .before .encode-turn in (
       omega (arith, c15 .before .before .before .before .before .before .loop-test .taken),
-      going-more _ _ _ _ _ _ _ _ _ _ (c15 .before .before .before .before .before .before .before .loop .inv .1) _ _ _ _ _ _ _ _ (r .ensures)
-          (c .before .enum-told .given .1)
+      going-more _ _ _ _ _ _ _ _ _ _ _ _ _ (c15 .before .before .before .before .before .before .before .loop .inv .1) _ _ _ _ _ _ _ _ _ _ _ (r .ensures)
+          (ap lineOutcome (c .before .enum-told .given .1)) (ap lineIndex (c .before .enum-told .given .1)) refl refl
           (r .kept .1 .1 .1 .1 .0) (r .kept .1 .1 .1 .1 .1 .0) (r .kept .1 .1 .1 .1 .1 .1 .0) (r .kept .1 .1 .1 .1 .1 .1 .1 .0)
           (r .kept .1 .1 .1 .1 .1 .1 .1 .1 .0) (r .kept .1 .1 .1 .1 .1 .1 .1 .1 .1 .0),
     )
@@ -122,7 +124,8 @@ same-length-12 : tie.Need-same-length-12 Inv-loop μ-loop
 same-length-12 c = c .before .loop .inv .1 .answers
 
 returns-2 : tie.Need-returns-2 Inv-loop μ-loop
-returns-2 c = going-all _ _ _ _ _ _ _ _ _ _ (c .before .loop .inv .1) _ (omega arith)
+unfolding lineOutcome lineIndex
+returns-2 c = going-all _ _ _ _ _ _ _ _ _ _ _ _ _ (c .before .loop .inv .1) _ (omega arith)
 
 pub encode-turns-spec : {M : Type 1} → statement M
 encode-turns-spec =

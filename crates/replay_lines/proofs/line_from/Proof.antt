@@ -233,8 +233,8 @@ module _ {M : Type 1} (𝓤 : URA M) (H : Heap 𝓤) (A : Atoms 𝓤) (W : Given
 
     abbrev Says : LineAnswer → Lasts → Type 0
     Says r zs =
-        lineLeft r (last zs) (w₂ zs) (w₃ zs) (w₄ zs) (w₅ zs) (w₆ zs) (w₇ zs) ≡ encodeLine h n (lineLent (x₀ .now) (x₁ .now) (x₂ .now) (x₃ .now) (x₄ .now) (x₅
-        .now) (x₆ .now) (x₇ .now) t)
+        lineLeft r (last zs) (x₀ .now) (x₁ .now) (w₂ zs) (w₃ zs) (w₄ zs) (w₅ zs) (w₆ zs) (w₇ zs)
+        ≡ encodeLine h n (lineLent (x₀ .now) (x₁ .now) (x₂ .now) (x₃ .now) (x₄ .now) (x₅ .now) (x₆ .now) (x₇ .now) t)
 
     abbrev exitLasts : Lasts → f-lasts
     exitLasts zs = (tt, (tt, (tt, (tt, (w₂ zs, (w₃ zs, (w₄ zs, (w₅ zs, (w₆ zs, (w₇ zs, (tt, tt)))))))))))

@@ -124,34 +124,17 @@ impl Batch {
 
     /// Encodes the first frames; says how many were made, and why the next one was refused.
     fn encode(&mut self, count: usize) -> (usize, Option<Refusal>) {
-        if self.is_unmixed {
-            return self.encode_unmixed(count);
-        }
-        let (spectra, intensities) = (&self.spectra, &self.intensities);
+        let (spectra, intensities) = (&mut self.spectra, &mut self.intensities);
+        let (frames, answers) = (&mut self.frames, &mut self.answers);
         let mut tally = Tally::default();
-        let line = self.encoder.encode_line(count, spectra, intensities, &mut self.frames, &mut self.answers, &mut tally);
+        let line = match self.is_unmixed {
+            true => self.encoder.encode_stereo_line(count, spectra, intensities, frames, answers, &mut tally),
+            false => self.encoder.encode_line(count, spectra, intensities, frames, answers, &mut tally),
+        };
         match line {
             Ok(()) => (count, None),
             Err(no) => (no.frame.unwrap_or(0), Some(no.refusal)),
         }
-    }
-
-    /// The line's call takes mixed spectra alone.
-    fn encode_unmixed(&mut self, count: usize) -> (usize, Option<Refusal>) {
-        let size = self.encoder.layout().frame_size();
-        let channels = self.encoder.layout().channels();
-        for k in 0..count {
-            let spectra = &mut self.spectra[k * channels * 1024..][..channels * 1024];
-            let intensities = &mut self.intensities[k * channels * 8..][..channels * 8];
-            match self.encoder.encode_stereo_frame(spectra, intensities) {
-                Ok(done) => {
-                    self.answers[k] = done;
-                    self.frames[k * size..(k + 1) * size].copy_from_slice(self.encoder.frame());
-                }
-                Err(refusal) => return (k, Some(refusal)),
-            }
-        }
-        (count, None)
     }
 }
 

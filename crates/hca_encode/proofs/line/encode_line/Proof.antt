@@ -2,6 +2,7 @@
 use mathlib.Core.Path.{sym, _∙_}
 use borrow.Author.Tests.{not-true, not-false}
 use borrow.Author.Needs.{needs}
+use Rattle.rules_line.specs.Line.{stageStep}
 use Rattle.hca_layout.proofs.Naming.{named-five}
 use Rattle.hca_encode.proofs.LineStores.{line-unnamed, line-batch, line-few, line-short, line-done}
 use Rattle.hca_encode.proofs.line.encode_line.Statement.{statement}
@@ -19,7 +20,7 @@ same-length c = c .before .before .refuse .kept .1 .1 .0
 returns : tie.Need-returns
 returns c =
     let c15 = c .before .before .before .before .before .before .before .before .before .before .before .before .before .before .before in
-    let s = c15 .before .before in line-unnamed (s .args .layout .now) (s .args .kinds .now) (s .args .count) (s .args .spectra .now)
+    let s = c15 .before .before in line-unnamed stageStep (s .args .layout .now) (s .args .kinds .now) (s .args .count) (s .args .spectra .now)
     (s .args .intensities .now) (s .args .scaled .now) (s .args .codes .now) (s .args .factors .now) (s .args .side .now) (s .args .frames .now)
     (s .args .answers .now) (s .args .tally .now) (s .args .answer .now) _ _
     (sym (c .before .before .before .before .before .is-layout .ensures) ∙ not-true _ (c .before .before .before .before .if1 .taken))
@@ -44,7 +45,8 @@ returns-2 : tie.Need-returns-2
 returns-2 c =
     let c15 = c .before .before .before .before .before .before .before .before .before .before .before .before .before .before .before in
     let s = c15 .before .before .before .before .before .before in
-    line-batch (s .args .layout .now) (s .args .kinds .now) (s .args .count) (s .args .spectra .now) (s .args .intensities .now) (s .args .scaled .now)
+    line-batch stageStep (s .args .layout .now) (s .args .kinds .now) (s .args .count) (s .args .spectra .now) (s .args .intensities .now)
+    (s .args .scaled .now)
     (s .args .codes .now) (s .args .factors .now) (s .args .side .now) (s .args .frames .now) (s .args .answers .now) (s .args .tally .now)
     (s .args .answer .now) (sym (c .before .before .before .before .before .before .before .before .before .is-layout .ensures)
     ∙ not-false _ (c .before .before .before .before .before .before .before .before .if1 .left)) _
@@ -65,7 +67,7 @@ returns-3 : tie.Need-returns-3
 returns-3 c =
     let c15 = c .before .before .before .before .before .before .before .before .before .before .before .before .before .before .before in
     let s = c15 .before .before .before .before .before .before .before in
-    line-few (s .args .layout .now) (s .args .kinds .now) (s .args .count) (s .args .spectra .now) (s .args .intensities .now) (s .args .scaled .now)
+    line-few stageStep (s .args .layout .now) (s .args .kinds .now) (s .args .count) (s .args .spectra .now) (s .args .intensities .now) (s .args .scaled .now)
     (s .args .codes .now) (s .args .factors .now) (s .args .side .now) (s .args .frames .now) (s .args .answers .now) (s .args .tally .now)
     (s .args .answer .now) (sym (c .before .before .before .before .before .before .before .before .before .before .is-layout .ensures)
     ∙ not-false _ (c .before .before .before .before .before .before .before .before .before .if1 .left)) _
@@ -80,7 +82,8 @@ returns-4 : tie.Need-returns-4
 returns-4 c =
     let c15 = c .before .before .before .before .before .before .before .before .before .before .before .before .before .before .before in
     let s = c15 .before .before .before .before in
-    line-short (s .args .layout .now) (s .args .kinds .now) (s .args .count) (s .args .spectra .now) (s .args .intensities .now) (s .args .scaled .now)
+    line-short stageStep (s .args .layout .now) (s .args .kinds .now) (s .args .count) (s .args .spectra .now) (s .args .intensities .now)
+    (s .args .scaled .now)
     (s .args .codes .now) (s .args .factors .now) (s .args .side .now) (s .args .frames .now) (s .args .answers .now) (s .args .tally .now)
     (s .args .answer .now) (sym (c .before .before .before .before .before .before .before .is-layout .ensures)
     ∙ not-false _ (c .before .before .before .before .before .before .if1 .left)) _ (c .before .before .before .before .tally-in .ensures)
@@ -138,7 +141,7 @@ returns-5 c =
     let c15 = c .before .before .before .before .before .before .before .before .before .before .before .before .before .before .before in
     let c30 = c15 .before .before .before .before .before .before .before .before .before .before .before .before .before .before .before in
     let s = c30 .before .before .before .before .before .before .before .before .before .before .before .before .before .before in
-    line-done (s .args .layout .now) (s .args .kinds .now) (s .args .count) (s .args .spectra .now) (s .args .intensities .now) (s .args .scaled .now)
+    line-done stageStep (s .args .layout .now) (s .args .kinds .now) (s .args .count) (s .args .spectra .now) (s .args .intensities .now) (s .args .scaled .now)
     (s .args .codes .now) (s .args .factors .now) (s .args .side .now) (s .args .frames .now) (s .args .answers .now) (s .args .tally .now)
     (s .args .answer .now) (sym (c30 .before .before .is-layout .ensures) ∙ not-false _ (c30 .before .if1 .left)) _
     (c15 .before .before .before .before .before .before .before .before .before .before .before .before .before .before .tally-in .ensures)

@@ -2,6 +2,7 @@
 use mathlib.Core.Path.{sym, subst}
 use borrow.Author.Needs.{needs}
 use Rattle.rules_line.specs.Line.{LineLeft}
+use Rattle.line_turns.proofs.Counts.{stage-bounded}
 use Rattle.hca_encode.specs.EncodeLine.{LineSmall}
 use Rattle.hca_encode.proofs.LineBounds.{line-stores}
 use Rattle.hca_encode.proofs.LineStores.{line-stores-so}
@@ -19,7 +20,7 @@ store-tally-requires c κs =
 store-line-requires : tie.Need-store-line-requires
 store-line-requires c κs =
     let c15 = c .before .before .before .before .before .before .before .before .before .before .before .before .before .before .before in
-    subst (λ (x : LineLeft). LineSmall (x .outcome) (x .index)) (sym (c15 .before .before .encode-frames .ensures)) (line-stores _ _ _)
+    subst (λ (x : LineLeft). LineSmall (x .outcome) (x .index)) (sym (c15 .before .before .encode-frames .ensures)) (line-stores _ stage-bounded _ _ _)
 
 same-length : tie.Need-same-length
 same-length c =
@@ -60,7 +61,8 @@ same-length-8 c = c .before .before .store-line .kept .1 .0
 returns : tie.Need-returns
 returns c =
     let c15 = c .before .before .before .before .before .before .before .before .before .before .before .before .before .before .before in
-    line-stores-so _ _ _ _ _ _ _ _ _ _ _ _ _ _ (c15 .before .before .before .before .before .encode-frames .ensures) (c .before .before .store-line .ensures .0)
+    line-stores-so _ _ _ _ _ _ _ _ _ _ _ _ _ _ _ _ _ (c15 .before .before .before .before .before .encode-frames .ensures)
+    (c .before .before .store-line .ensures .0)
     (c .before .before .store-line .ensures .1) (c .before .before .before .before .before .before .store-tally .ensures)
 
 pub line-and-store-spec : {M : Type 1} → statement M

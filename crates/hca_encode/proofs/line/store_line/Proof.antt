@@ -4,7 +4,7 @@ use borrow.Author.Needs.{needs}
 use Rattle.rules_line.specs.Line.{lineOutcome, lineIndex}
 use Rattle.hca_answers.specs.Outcomes.{resultOf}
 use Rattle.hca_encode.specs.EncodeLine.{indexIn}
-use Rattle.hca_encode.proofs.LinePlaces.{stored-none, line-fits, line-stored}
+use Rattle.hca_encode.proofs.LinePlaces.{stored-none, line-refusing, line-fits, line-stored}
 use Rattle.hca_encode.proofs.line.store_line.Statement.{statement}
 use Rattle.hca_encode.proofs.line.store_line.Tie as tie
 
@@ -18,16 +18,19 @@ line-refusal-requires : tie.Need-line-refusal-requires
 line-refusal-requires c κs = search needs
 
 refuse-requires : tie.Need-refuse-requires
-refuse-requires c κs = line-fits _ _ (c .before .before .before .before .before .before .match .keys2)
-    (c .before .before .before .before .before .before .before .before .pre) (c .before .line-refusal .ensures)
+refuse-requires c κs =
+    let small = c .before .before .before .before .before .before .before .before .pre in
+    line-fits _ _ _ (line-refusing _ (c .before .before .before .before .before .before .match .keys2) small) small (c .before .line-refusal .ensures)
 
 same-length : tie.Need-same-length
 same-length c = c .before .before .refuse .kept .1 .1 .0 ∙ c .before .before .before .before .before .before .before .name-frame .kept .1 .0
 
 returns : tie.Need-returns
-returns c = line-stored _ _ (c .before .before .before .before .before .before .before .before .before .match .keys2)
-    (c .before .before .before .before .before .before .before .before .before .before .before .pre) (c .before .before .before .before .line-refusal .ensures)
-    _ _ _ _ (c .before .before .before .before .before .before .before .name-frame .ensures) (c .before .before .refuse .ensures)
+returns c =
+    let small = c .before .before .before .before .before .before .before .before .before .before .before .pre in
+    line-stored _ _ _ (line-refusing _ (c .before .before .before .before .before .before .before .before .before .match .keys2) small) small
+    (c .before .before .before .before .line-refusal .ensures) _ _ _ _ (c .before .before .before .before .before .before .before .name-frame .ensures)
+    (c .before .before .refuse .ensures)
 
 returns-2 : tie.Need-returns-2
 unfolding lineOutcome lineIndex resultOf indexIn

@@ -2,7 +2,8 @@
 use mathlib.Core.Path.{_∙_}
 use borrow.Author.Needs.{needs}
 use Rattle.rules.specs.Refusals.{stageOutcome}
-use Rattle.rules_line.specs.Line.{tallyAfter, AnswersFit}
+use Rattle.rules_line.specs.Line.{tallyAfter}
+use Rattle.rules_line.specs.Asked.{AnswersFit}
 use Rattle.rules_line.proofs.Answers.{refused-counted, four-fit}
 use Rattle.rules_line.proofs.Tally.after.Statement.{statement}
 use Rattle.rules_line.proofs.Tally.after.Tie as tie
