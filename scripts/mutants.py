@@ -44,6 +44,7 @@ GROUPS = {
         'seconds': 3,
     },
     'rules_line': {'above': ['line_demands'], 'slow': ['line_demands/proofs/WorkedLine'], 'late': [], 'seconds': 2},
+    'rules_finest': {'above': [], 'slow': [], 'late': [], 'seconds': 2},
     'rules': {
         'above': ['rules_formats', 'rules_demands', 'rules_worked'],
         'slow': ['rules_worked/proofs/Worked', 'rules_worked/proofs/Runs', 'rules_worked/proofs/Empty', 'rules_worked/proofs/Refusal7'],
