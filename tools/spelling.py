@@ -119,6 +119,11 @@ def rows():
 
 def turn():
     new = rows()
+    # a lemma takes `_lem` where a definition takes its name: once, while the definitions still have their old names
+    camel = {o for o in new if re.search(r"[a-z0-9][A-Z]", o)}
+    if not any(camel & set(re.findall(WORD, code(open(p, encoding="utf-8").read()))) for p in sources() if p.endswith(".antt")):
+        print("every name is in today's spelling")
+        return
     plain = {o for o in new if "-" not in o and new[o].endswith("_lem")}
     changed = 0
     for p in sources():
