@@ -1,8 +1,11 @@
 // Prints the length and the checksum of each message that it reads. A message is its length in two bytes, the high byte first, and then its
 // bytes. make_vectors.py writes the messages, and what is to be printed, by a division bit by bit.
+#![tactic(auto)]
+
 ghost use Rattle.std.specs.Prelude.{◌<◌};
 
-use libc::STDOUT_FILENO;
+// C's number of the standard output.
+const STDOUT_FILENO: i32 = 1;
 
 fn line(message: &[u8]) {
     io::print_decimal(STDOUT_FILENO, message.len() as u64);

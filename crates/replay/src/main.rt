@@ -1,4 +1,6 @@
 // Replays two lines of frames, then fixed calls of the frame stage, the strict reader, the record writer and the checksum, and compares what they leave.
+#![tactic(auto)]
+
 use self::frames::stage_case;
 use self::records::{check_case, read_case, write_case};
 use replay_lines::replay_lines;
@@ -6,6 +8,9 @@ use replay_vectors::data::bytes_at;
 use replay_vectors::lines::{
     CaseOutcome, Tally, Verdict, add_to_tally, is_damaged, not_run, say_outcome, say_tally,
 };
+use std::fs::File;
+use std::os::fd::AsRawFd;
+use std::rt::Files;
 use system::forms::say_form;
 use system::lines::say;
 use system::places::ahead;
@@ -60,41 +65,43 @@ fn replay_cases(data: &[u8], tally: Tally) -> Tally {
 }
 
 // The head: mark, version and number of cases.
-fn replay_data(path: &[u8], data: &[u8], tally: Tally) -> Tally {
+fn replay_data(path: &str, data: &[u8], tally: Tally) -> Tally {
     if word(data, 0) != 0x5641_4348 {
-        say(1, path);
+        say(1, path.as_bytes());
         say(1, b" damaged: no file of vectors\n");
         return add_to_tally(tally, Verdict::Damaged);
     }
     let version = word(data, 4);
     if version != 1 {
-        say(1, path);
+        say(1, path.as_bytes());
         say_form(1, b" damaged: its version is not 1 but #\n", &[version]);
         return add_to_tally(tally, Verdict::Damaged);
     }
     replay_cases(data, tally)
 }
 
-fn replay_open(path: &[u8], fd: i32, tally: Tally) -> Tally {
+// The file is closed before its cases are run.
+fn replay_open(path: &str, file: File, tally: Tally) -> Tally {
     let mut data = [0u8; 131072];
-    let n = io::read_full(fd, &mut data);
-    libc::close(fd);
+    let n = io::read_full(file.as_raw_fd(), &mut data);
+    drop(file);
     replay_data(path, &data[..n], tally)
 }
 
-fn replay_file(path: &[u8], tally: Tally) -> Tally {
-    let fd = os::open_read(path);
-    if fd < 0 {
-        os::fail(path);
-        return add_to_tally(tally, Verdict::Damaged);
+fn replay_file<R: Files<File = File> + Eprint>(rt: &R, path: &str, tally: Tally) -> Tally {
+    match File::open(rt, path) {
+        Ok(file) => replay_open(path, file, tally),
+        Err(error) => {
+            let _ = eprintln!(rt; "{path}: {error}");
+            add_to_tally(tally, Verdict::Damaged)
+        }
     }
-    replay_open(path, fd, tally)
 }
 
-fn main() {
+fn main(rt: HostRuntime) {
     let none = Tally { counts: [0; 4] };
     replay_lines();
-    let first = replay_file(b"stage.vec", none);
-    let both = replay_file(b"records.vec", first);
+    let first = replay_file(&rt, "stage.vec", none);
+    let both = replay_file(&rt, "records.vec", first);
     say_tally(both);
 }

@@ -1,4 +1,6 @@
 // Two lines of three fixed frames each by `encode_line`; the tally of the first goes into the second, which is refused on the way.
+#![tactic(auto)]
+
 ghost use Rattle.std.specs.Prelude.{◌≡◌};
 ghost use Rattle.rules_line.specs.Line.{line_lent, line_left, encode_line};
 
@@ -9,7 +11,7 @@ use rules::{Channel, ChannelType, Layout, Mode};
 use rules_line::{LineAnswer, LineEnd, Tally};
 use system::forms::say_form;
 
-// A line, its tally by value. Who makes a `&mut` of a struct is proved by a walk of its code, so that is all it does.
+// A line, its tally by value.
 fn line_from(
     layout: Layout,
     count: usize,

@@ -5,14 +5,14 @@ use system::places::{ahead, at_most, end};
 use system::words::{word, word_past};
 
 // From a start to an end.
-#[derive(Drop)]
+#[derive(Clone, Copy)]
 pub struct Part {
     pub start: usize,
     pub end: usize,
 }
 
 // Five numbers in a row: a refusal number, 0 for none, with the four answer places; the lengths of the stage's buffers; or their sums.
-#[derive(Drop)]
+#[derive(Clone, Copy)]
 pub struct Numbers {
     pub a: usize,
     pub b: usize,

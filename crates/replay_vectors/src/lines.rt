@@ -5,7 +5,7 @@ use system::forms::{put_entry, put_form, say_form};
 use system::lines::say_line;
 use system::places::{ahead, more};
 
-#[derive(Drop)]
+#[derive(Clone, Copy)]
 pub enum Verdict {
     Same,
     Different,
@@ -14,20 +14,20 @@ pub enum Verdict {
 }
 
 // What a call answers, and the sums of the buffers that it may write; 0 for those that it has not.
-#[derive(Drop)]
+#[derive(Clone, Copy)]
 pub struct Left {
     pub answer: Numbers,
     pub sums: Numbers,
 }
 
-#[derive(Drop)]
+#[derive(Clone, Copy)]
 pub struct CaseOutcome {
     pub answer: Numbers,
     pub verdict: Verdict,
 }
 
 // How many cases came to what, by the verdict's number.
-#[derive(Drop)]
+#[derive(Clone, Copy)]
 pub struct Tally {
     pub counts: [usize; 4],
 }
