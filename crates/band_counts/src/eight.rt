@@ -13,7 +13,7 @@ ghost use Rattle.band_counts.specs.Counts.{four_within, eight_within, EachWithin
 
 use rules::Mode;
 
-#[derive(Drop)]
+#[derive(Clone, Copy)]
 pub struct Eight {
     pub v0: f32,
     pub v1: f32,

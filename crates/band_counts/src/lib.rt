@@ -1,5 +1,7 @@
 // Document 01, **Estimate**: a band's bits at all sixteen resolutions, its eight values counted once for each. They stand two to a number in a lent buffer
 // of i32: entry b * 8 + k of a channel holds those of band b at resolution k and, eight bits higher, at k + 8.
+#![tactic(auto)]
+
 ghost use Rattle.std.specs.Prelude.{◌≡◌, ◌+◌, ◌*◌, ◌≤◌, ◌<◌, pos, nat_abs, length};
 ghost use Rattle.buffers.specs.Walk.{build};
 ghost use Rattle.rules.specs.Layout.{LegalLayout, spectrum_length};

@@ -1,16 +1,18 @@
 // High-bit-first bit fields in a lent frame.
+#![tactic(auto)]
+
 ghost use Rattle.std.specs.Prelude.{◌≡◌, ◌-◌, ◌%◌, ◌^◌, ◌<◌, ◌≤◌, get_or};
 ghost use Rattle.bits.specs.Bits.{word_at};
 ghost use Rattle.bits.specs.Place.{field_at, look_at};
 
 // A bit place, counted from the first bit of the frame or part that it is used with.
-#[derive(Drop)]
+#[derive(Clone, Copy)]
 pub struct Place {
     pub at: usize,
 }
 
 // What reading a field finds: its value and the place after it, or that it would pass the end, with its first bit.
-#[derive(Drop)]
+#[derive(Clone, Copy)]
 pub enum Field {
     Of(u32, Place),
     Past(usize),

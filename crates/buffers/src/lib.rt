@@ -1,4 +1,6 @@
 // Clearing of lent buffers; the lesser of two numbers.
+#![tactic(auto)]
+
 ghost use Rattle.std.specs.Prelude.{◌≡◌, false, min, pos, length, replicate};
 ghost use Rattle.std.specs.Float.{fin};
 

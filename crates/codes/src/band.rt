@@ -12,7 +12,7 @@ use quantizer::tables::step_of;
 use rules::Mode;
 
 // The step, the most that is truncated, and the bits that stand for code 0.
-#[derive(Drop)]
+#[derive(Clone, Copy)]
 pub struct Column {
     pub step: f32,
     pub top: f32,

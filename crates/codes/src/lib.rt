@@ -1,5 +1,6 @@
 // Document 01, **Code**: the codes of all channels, by channel, subframe and band. The scaled values are within the clip, so that no clamp acts and a code is
 // had without a branch; a band's eight are worked out one after the other, and clang takes four bands at a time.
+#![tactic(auto)]
 
 // The codes of one band.
 mod band;

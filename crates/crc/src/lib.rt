@@ -1,5 +1,7 @@
 // The check of a frame: CRC16, high bit first, start 0, polynomial 0x8005. Byte by byte, from a table of 256 numbers.
 // Eight bytes at a time it is in crc_sliced; the checksum of a whole message, and frames sealed by it, are in sealing.
+#![tactic(auto)]
+
 ghost use Rattle.std.specs.Prelude.{◌≡◌, [], ◌∷◌};
 ghost use Rattle.crc.specs.Check.{checksum};
 ghost use Rattle.crc.specs.Table.{IsTable, fed, feed};

@@ -1,4 +1,6 @@
 // The check of a frame, eight bytes at a time, from 8 x 256 numbers. It is the checksum that crc has byte by byte.
+#![tactic(auto)]
+
 ghost use Rattle.std.specs.Prelude.{◌≡◌, ◌∷◌, ◌<◌, ◌%◌, length, replicate};
 ghost use Rattle.crc.specs.Check.{checksum};
 ghost use Rattle.crc.specs.Table.{feed};

@@ -1,10 +1,12 @@
 // Bit fields, high bit first, gathered in a number and stored eight bytes at a time into a lent frame.
+#![tactic(auto)]
+
 ghost use Rattle.std.specs.Prelude.{◌≡◌, ◌++◌, ℕ, ◌+◌, ◌*◌, ◌/◌, ◌%◌, ◌^◌, ◌<◌, ◌≤◌, length, take};
 ghost use Rattle.bits.specs.Bits.{bits};
 ghost use Rattle.emission.specs.Run.{Stored, Flushes, Emits, Closes, Fits, Joined, AllFit, field_bits};
 
 // The place behind the last bit: byte `at`, after n bits of it. These n bits are the low ones of `bits`.
-#[derive(Drop)]
+#[derive(Clone, Copy)]
 pub struct Run {
     pub bits: u64,
     pub n: u32,
@@ -12,7 +14,7 @@ pub struct Run {
 }
 
 // A field: the low `length` bits of a word that has no more.
-#[derive(Drop)]
+#[derive(Clone, Copy)]
 pub struct Piece {
     pub word: u32,
     pub length: u32,

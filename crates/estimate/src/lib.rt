@@ -1,5 +1,6 @@
 // Document 01, **Estimate**: the values of all bands, summed from their counts, and the bits with the part that is fixed. The scaled values are not read any
 // more: they stand for what the counts are of.
+#![tactic(auto)]
 
 // The bits that no level or boundary changes.
 pub mod fixed_part;

@@ -1,4 +1,5 @@
 // The file header: 96 bytes in front of the frames, written into a lent buffer, and read back.
+#![tactic(auto)]
 
 // Loop points as the fields of the loop chunk.
 pub mod loop_points;

@@ -1,4 +1,5 @@
 // Single-precision leaves: what Rust's `f32` has as methods, and a running average of magnitudes.
+#![tactic(auto)]
 
 // Sums of magnitudes that look at no bits.
 pub mod magnitudes;
@@ -123,7 +124,7 @@ pub fn peak(xs: &[f32], at: usize, stride: usize) -> f32
 }
 
 // A running sum of magnitudes, and how many values went into it.
-#[derive(Drop)]
+#[derive(Clone, Copy)]
 pub struct Average {
     pub sum: f32,
     pub count: usize,

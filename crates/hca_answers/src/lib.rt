@@ -1,4 +1,6 @@
 // An answer as numbers: the one that is returned, and those that are stored. An answer under four places stays untouched.
+#![tactic(auto)]
+
 pub mod stereo;
 
 ghost use Rattle.std.specs.Prelude.{[], ◌∷◌, ◌<◌};

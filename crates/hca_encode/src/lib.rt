@@ -1,4 +1,5 @@
 // The calls that encode, by numbers and slices only, no `requires`.
+#![tactic(auto)]
 
 // The frame stage.
 pub mod frame;

@@ -1,4 +1,5 @@
 // The calls on files, by numbers and slices only, no `requires`.
+#![tactic(auto)]
 
 // The file header: its writer, its reader.
 pub mod header;

@@ -1,4 +1,6 @@
 // A layout from two slices: its five to eight numbers, and a kind for each channel.
+#![tactic(auto)]
+
 ghost use Rattle.std.specs.Prelude.{◌≡◌, ◌≤◌, length, get_or};
 ghost use Rattle.buffers.specs.Walk.{first, build};
 ghost use Rattle.hca_layout.specs.Layouts.{channel_of, channel_at, mode_of, layout_of, bad_kind, is_layout};

@@ -1,4 +1,5 @@
 // The calls on records, by numbers and slices only, no `requires`.
+#![tactic(auto)]
 
 // The record writer.
 pub mod write;

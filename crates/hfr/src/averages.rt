@@ -11,7 +11,7 @@ use floats::magnitudes::add_magnitude;
 use rules::Layout;
 
 // Of four groups: a number, a sum, a running average of each.
-#[derive(Drop)]
+#[derive(Clone, Copy)]
 pub struct Four {
     pub a: usize,
     pub b: usize,
@@ -19,7 +19,7 @@ pub struct Four {
     pub d: usize,
 }
 
-#[derive(Drop)]
+#[derive(Clone, Copy)]
 pub struct Sums {
     pub a: f32,
     pub b: f32,
@@ -27,7 +27,7 @@ pub struct Sums {
     pub d: f32,
 }
 
-#[derive(Drop)]
+#[derive(Clone, Copy)]
 pub struct Averages {
     pub a: Average,
     pub b: Average,

@@ -1,4 +1,5 @@
 // Document 01, **HFR**: the scales and the side values.
+#![tactic(auto)]
 
 // A group's two averages, and the value that its scale is the factor of.
 pub mod averages;

@@ -1,4 +1,6 @@
 // What a layout says: whether it is legal and has room, its coded counts, its HFR groups and its side values.
+#![tactic(auto)]
+
 ghost use Rattle.std.specs.Prelude.{◌≡◌, true, false, ◌+◌, ◌-◌, ◌≤◌, ◌<◌};
 ghost use Rattle.rules.specs.Layout.{legal_pair, legal_layout, LegalLayout, secondary_at, coded_count_at, start_band};
 ghost use Rattle.rules.specs.Layout.{bands_per_group, group_count, kind_at, side_count_at, side_width, has_room};

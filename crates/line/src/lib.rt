@@ -1,4 +1,6 @@
 // Request A5: a whole line of frames of one layout in one call, from mixed or from unmixed spectra, in buffers that the caller lends.
+#![tactic(auto)]
+
 ghost use Rattle.std.specs.Prelude.{◌≡◌};
 ghost use Rattle.rules_line.specs.Line.{line_lent, line_left, stereo_line_left, encode_line, encode_stereo_line};
 

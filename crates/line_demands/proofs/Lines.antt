@@ -29,7 +29,7 @@ use Rattle.rules_line.specs.declared.LineAnswer.{LineAnswer}
 use Rattle.rules_line.specs.declared.LineAnswer.TheVariants.{Delivered, BadLayout, BadBatch, ShortBuffer, Refused}
 use Rattle.rules_line.proofs.Steps.{stage_spectra, stage_intensities}
 use Rattle.line_demands.proofs.Singles.{stage_late, stage_step_lem}
-use Rattle.line_demands.proofs.Standing.{single, answers_at_lem, tally_over}
+use Rattle.line_demands.proofs.Standing.{single, answers_at, tally_over}
 use Rattle.line_demands.proofs.Over.{Admits, tried_of, done_over, frame_with, WorkRoom, Works, Whole, Stopped, last_turn, over-frame, over-signal}
 use Rattle.line_demands.proofs.Over.{over_held_read, over-tally, over_delivers, over_stops, over_work, over_work_refused, over_none, over_keeps}
 use Rattle.line_demands.proofs.OverExactly.{BatchOver, AllRoom, AllDeliver, over-numbers, over_one_exactly, over_eighteen_exactly, over_two_exactly}

@@ -33,7 +33,7 @@ use Rattle.rules_line.specs.Line.{line_behind_gate, line_over}
 use Rattle.rules_line.proofs.Gates.{Admitted, gate_open, gate_grants, gate_case}
 use Rattle.rules_line.proofs.Turns.{turn_after, after_next, after_stays}
 use Rattle.line_demands.proofs.Singles.{Roomy, StepFacts}
-use Rattle.line_demands.proofs.Standing.{all_lent, single, spectra_at, intensities_at, bytes_at, answers_at_lem, tally_over, Tried, Ran, Ended, Stands, ran, ended}
+use Rattle.line_demands.proofs.Standing.{all_lent, single, spectra_at, intensities_at, bytes_at, answers_at, tally_over, Tried, Ran, Ended, Stands, ran, ended}
 use Rattle.line_demands.proofs.Standing.{stands, spectra-long, intensities-long, bytes-long, answers-long, frame-granted}
 use Rattle.line_demands.proofs.Standing.{lent_roomy, with_work, now-single}
 
@@ -150,14 +150,14 @@ module _ (step : Step) (late : List ℕ) (Keeps Clears : ℕ → Type 0) (facts 
 
   record Given (x : LineLeft) (k : ℕ) : Type 0 where
     below : k < count
-    outcome : (single step l t k).outcome ≡ delivered (answers_at_lem step l t k)
-    answers : part 4 x.answers k ≡ answers_at_lem step l t k
+    outcome : (single step l t k).outcome ≡ delivered (answers_at step l t k)
+    answers : part 4 x.answers k ≡ answers_at step l t k
     tried : TriedAt x k
 
-  answers_at_lem : (n k : ℕ) (x y : LineLeft) → Ran step l t n y → x.answers ≡ y.answers → k < n → part 4 x.answers k ≡ answers_at_lem step l t k
+  answers_at_lem : (n k : ℕ) (x y : LineLeft) → Ran step l t n y → x.answers ≡ y.answers → k < n → part 4 x.answers k ≡ answers_at step l t k
   answers_at_lem n k x y r e h =
       ap (λ ys. part 4 ys k) (e ∙ r.answers)
-      ∙ blocks_at (answers_at_lem step l t) 4 n (λ j g. answers-long step late Keeps Clears facts l t count granted j (r.each j g)) n k (drop (n * 4)
+      ∙ blocks_at (answers_at step l t) 4 n (λ j g. answers-long step late Keeps Clears facts l t count granted j (r.each j g)) n k (drop (n * 4)
       t.answers) (omega arith) h
 
   tried_at : (n k : ℕ) (x : LineLeft) → n ≤ count → Tried step l t n x → k < n → TriedAt x k
@@ -271,7 +271,7 @@ module _ (step : Step) (late : List ℕ) (Keeps Clears : ℕ → Type 0) (facts 
             (intensities-long step late Keeps Clears facts l t count granted) r.tried.intensities;
         frames = behind (bytes_at step l t) (frame_size l) count x.frames t.frames (bytes-long step late Keeps Clears facts l t count granted)
             r.tried.frames;
-        answers = behind (answers_at_lem step l t) 4 count x.answers t.answers (λ j g. answers-long step late Keeps Clears facts l t count granted j
+        answers = behind (answers_at step l t) 4 count x.answers t.answers (λ j g. answers-long step late Keeps Clears facts l t count granted j
             (r.each j g)) r.answers;
       }
   whole_by (ended n g i j e) h = let z : ◌≡◌ {A = ℕ} 0 1 = cc (sym i ∙ h) in absurd (omega arith)
@@ -326,7 +326,7 @@ module _ (step : Step) (late : List ℕ) (Keeps Clears : ℕ → Type 0) (facts 
                 e.tried.spectra;
             later-intensities = behind (intensities_at step l t) (side_length l) (n + 1) x.intensities t.intensities
                 (λ m s. intensities-long step late Keeps Clears facts l t count granted m (omega arith)) e.tried.intensities;
-            answers = behind (answers_at_lem step l t) 4 n x.answers t.answers (λ m s. answers-long step late Keeps Clears facts l t count granted m
+            answers = behind (answers_at step l t) 4 n x.answers t.answers (λ m s. answers-long step late Keeps Clears facts l t count granted m
                 (e.before.each m s))
                 (e.answers ∙ e.before.answers);
           }

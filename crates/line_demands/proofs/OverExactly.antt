@@ -22,7 +22,7 @@ use Rattle.rules_line.specs.Line.{LineLent, LineLeft, line_room, batch_fits, lin
 use Rattle.rules_line.specs.Asked.{Batch, LineHasRoom}
 use Rattle.rules_line.specs.declared.Tally.{Tally}
 use Rattle.rules_line.proofs.Gates.{batch_true, batch_facts, room_true, room_facts}
-use Rattle.line_demands.proofs.Standing.{single, answers_at_lem, Stands, ran, ended}
+use Rattle.line_demands.proofs.Standing.{single, answers_at, Stands, ran, ended}
 use Rattle.line_demands.proofs.Singles.{StepFacts}
 use Rattle.line_demands.proofs.Over.{Admits, over-after, standing, over_delivers, over_stops}
 
@@ -38,7 +38,7 @@ AllRoom l count t = LineHasRoom l count (line_room t) (length t.answers)
 
 -- the single call on each of the first k frames delivers
 abbrev pub AllDeliver : (step : Step) (l : Layout) (t : LineLent) (k : ℕ) → Type 0
-AllDeliver step l t k = (j : ℕ) → j < k → (single step l t j).outcome ≡ delivered (answers_at_lem step l t j)
+AllDeliver step l t k = (j : ℕ) → j < k → (single step l t j).outcome ≡ delivered (answers_at step l t j)
 
 -- ---- tests and facts
 

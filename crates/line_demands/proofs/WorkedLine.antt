@@ -18,7 +18,7 @@ use Rattle.rules.specs.Refusals.{delivered}
 use Rattle.rules.specs.Lent.{no_side}
 use Rattle.rules.specs.Stage.{StageLent, StageLeft, stage_room, stage_has_room, stage_record, after_level, stage_overwrite, encode_frame}
 use Rattle.rules.specs.declared.Layout.{Layout}
-use Rattle.rules.proofs.Cuts.{getD_copies}
+use Rattle.rules.proofs.Cuts.{get_or_copies}
 use Rattle.rules_worked.proofs.Runs.{Example, Right, stage_made, done, settled_done, run_made}
 use Rattle.rules_worked.proofs.Inputs.{loud, later, right, frames, loud_bytes, later_bytes}
 use Rattle.rules_stereo.specs.Stereo.{with_signal, lent_signal}
@@ -38,7 +38,7 @@ module _ (e : Example) (r : Right e) (bytes : List ℕ) (f : frame_of e.layout (
       let l = e.layout in
       let exact : length u.spectra ≡ spectrum_length l = ap length s ∙ ap (λ w. w.size) r in
       let counted : length (fields l (stage_record l e.analysis)) ≡ e.bits = ap (λ w. w.bits) r in
-      stage_made l u (ap (λ w. w.legal) r) room exact (rw s (ap (λ w. w.whole) r)) (λ j. rw i (omega (arith, getD_copies {A = ℕ} 0 (side_length l) j)))
+      stage_made l u (ap (λ w. w.legal) r) room exact (rw s (ap (λ w. w.whole) r)) (λ j. rw i (omega (arith, get_or_copies {A = ℕ} 0 (side_length l) j)))
       ∙ ap (λ m. stage_overwrite u (after_level l m))
       (rw (
         take_all (spectrum_length l) u.spectra (omega arith),

@@ -1,4 +1,6 @@
 // Request A5, the gate of a line: refusals 1, 18 and 2, and where each frame's part of a buffer begins.
+#![tactic(auto)]
+
 ghost use Rattle.std.specs.Prelude.{◌≡◌, ◌+◌, ◌*◌, ◌^◌, ◌≤◌};
 ghost use Rattle.rules.specs.Layout.{LegalLayout};
 ghost use Rattle.rules_line.specs.Line.{batch_fits, line_has_room, line_gate};
@@ -8,7 +10,7 @@ use rules::{Layout, StageRoom};
 use rules_line::Tally;
 
 // The first refusal in its order, or an open gate.
-#[derive(Drop)]
+#[derive(Clone, Copy)]
 pub enum LineGate {
     Open,
     BadLayout,

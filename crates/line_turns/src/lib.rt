@@ -1,4 +1,5 @@
 // The frames of a line one after the other, behind the line's gate; and the whole call, the tally by value. Here from mixed spectra.
+#![tactic(auto)]
 
 // A line from unmixed spectra.
 pub mod stereo_line;

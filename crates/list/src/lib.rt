@@ -1,4 +1,5 @@
 // The list beside the bank: its writer, its reader, the lookup by frame number and the summary.
+#![tactic(auto)]
 
 // Whether bytes are a list, and one entry of its bytes.
 pub mod judging;

@@ -22,7 +22,7 @@ use Rattle.rules_files.specs.declared.list.Entry.{Entry}
 use Rattle.rules_files.specs.List.{entry_numbers, entry_at, write_list, list_entry}
 use Rattle.rules_files.proofs.Entries.{entries-front}
 use Rattle.line_demands.proofs.Singles.{StepFacts}
-use Rattle.line_demands.proofs.Standing.{all_lent, single, answers_at_lem, Stands, ran, ended, answers-long, bytes-long}
+use Rattle.line_demands.proofs.Standing.{all_lent, single, answers_at, Stands, ran, ended, answers-long, bytes-long}
 use Rattle.line_demands.proofs.Over.{Admits, done_of, done_over, granted, standing, over-frame}
 use Rattle.list_demands.proofs.StageEntries.{FromStage, stage_list_written}
 use Rattle.list_demands.proofs.Agreement.{head_agrees, list_agrees, list_agrees_in_range}
@@ -55,13 +55,13 @@ module _ (step : Step) (late : List ℕ) (Keeps Clears : ℕ → Type 0) (facts 
     few : done_of x.index count ≤ count
     long : done_of x.index count * 4 ≤ length x.answers
 
-  ran_long : (n : ℕ) (xs : List ℕ) → ((j : ℕ) → j < n → (single step l t j).outcome ≡ delivered (answers_at_lem step l t j))
-      → xs ≡ blocks (answers_at_lem step l t) n ++ drop (n * 4) t.answers → n * 4 ≤ length xs
+  ran_long : (n : ℕ) (xs : List ℕ) → ((j : ℕ) → j < n → (single step l t j).outcome ≡ delivered (answers_at step l t j))
+      → xs ≡ blocks (answers_at step l t) n ++ drop (n * 4) t.answers → n * 4 ≤ length xs
   ran_long n xs each e =
-      let is : length (blocks (answers_at_lem step l t) n) ≡ n * 4 =
-      length-blocks (answers_at_lem step l t) 4 n (λ j h. answers-long step late Keeps Clears facts l t count
+      let is : length (blocks (answers_at step l t) n) ≡ n * 4 =
+      length-blocks (answers_at step l t) 4 n (λ j h. answers-long step late Keeps Clears facts l t count
       (granted step late Keeps Clears facts l count t a) j (each j h)) n (omega arith) in
-      rw e (omega (arith, is, length-append (blocks (answers_at_lem step l t) n) (drop (n * 4) t.answers)))
+      rw e (omega (arith, is, length-append (blocks (answers_at step l t) n) (drop (n * 4) t.answers)))
 
   covered_by : (x : LineLeft) → Stands step l t count x → Covered x
   covered_by x (ran i r) = record { few = rw i (omega arith); long = rw i (ran_long count x.answers r.each r.answers) }

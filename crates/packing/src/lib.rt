@@ -1,4 +1,6 @@
 // Document 01, **Frame** and **Check**: a record's frame, written into a lent buffer.
+#![tactic(auto)]
+
 ghost use Rattle.std.specs.Prelude.{◌≡◌, cond, ◌*◌, ◌≤◌, ltb, length, replicate};
 ghost use Rattle.bits.specs.Place.{Written};
 ghost use Rattle.rules.specs.Layout.{LegalLayout, frame_size};

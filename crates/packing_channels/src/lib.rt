@@ -1,4 +1,5 @@
 // Document 01, **Frame**: each channel's factors and side values.
+#![tactic(auto)]
 
 // Sync with level and boundary, and one factor by its delta.
 pub mod values;

@@ -1,4 +1,6 @@
 // Document 01, **Frame**: the codes, subframe by subframe, channel by channel, band by band; a subframe's fields by columns.
+#![tactic(auto)]
+
 ghost use Rattle.std.specs.Prelude.{◌≡◌, ◌++◌, ◌+◌, ◌*◌, ◌/◌, ◌%◌, ◌^◌, ◌<◌, ◌≤◌, nat_abs, length, get_or, take, drop};
 ghost use Rattle.buffers.specs.Walk.{build, AtMost};
 ghost use Rattle.emission.specs.Run.{Emits};

@@ -14,7 +14,7 @@ use rules::Mode;
 
 // Below resolution 8: the step, and the whole numbers at which the length of a code changes. It is `low`, from 1 on `high` more, from
 // near to far one less, and from past on `drop` less.
-#[derive(Drop)]
+#[derive(Clone, Copy)]
 pub struct Marks {
     pub step: f32,
     pub near: f32,

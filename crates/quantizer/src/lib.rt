@@ -1,4 +1,6 @@
 // Document 01, **Code** and **Estimate**, one value at a time: what estimate, quantiser, packer and reader share.
+#![tactic(auto)]
+
 ghost use Rattle.std.specs.Prelude.{◌≡◌};
 ghost use Rattle.rules.specs.Signed.{held_z};
 

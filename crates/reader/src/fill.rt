@@ -9,14 +9,14 @@ use bits::Place;
 use rules::ReadAnswer;
 
 // Whether the fill is zero, or its first 1.
-#[derive(Drop)]
+#[derive(Clone, Copy)]
 pub enum Fill {
     Zero,
     One(usize),
 }
 
 // Level, boundary and the frame's bit after the last code, or the answer that refuses the frame.
-#[derive(Drop)]
+#[derive(Clone, Copy)]
 pub enum FrameFound {
     Of(usize, usize, usize),
     Refused(ReadAnswer),

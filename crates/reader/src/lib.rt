@@ -1,4 +1,5 @@
 // The strict reader: a frame back to its record, or the first thing that is wrong with it.
+#![tactic(auto)]
 
 // The fill after the last code.
 pub mod fill;

@@ -16,7 +16,7 @@ use Rattle.rules.specs.Fields.{as_previous}
 use Rattle.widths.specs.Previous.{factor_before}
 use Rattle.rules.specs.Reading.{read_factor, read_factors}
 use Rattle.rules_formats.proofs.Turns.{onto, onto-none, walk_turn, walk_stop}
-use Rattle.rules.proofs.Cuts.{getD_copies, pad-back, set_keeps}
+use Rattle.rules.proofs.Cuts.{get_or_copies, pad-back, set_keeps}
 use Rattle.reader_channels.specs.declared.values.faults.Fault.{Fault}
 use Rattle.reader_channels.specs.Steps.{fault_number, fault_bit}
 use Rattle.reader_channels.specs.declared.values.Value.{Value}
@@ -46,7 +46,7 @@ row_of n k xs h l e p = record {
   where
     zeroed : (j : ℕ) → n + (j - n) ≡ j → get_or xs j 0 ≡ 0
     zeroed j z = ap (λ m. get_or xs m 0) (sym z) ∙ sym (get_or-drop n xs (j - n) 0) ∙ ap (λ l. get_or l (j - n) 0) e ∙ get_or-drop n (replicate k 0) (j - n) 0
-        ∙ getD_copies 0 k (n + (j - n))
+        ∙ get_or_copies 0 k (n + (j - n))
 
 module _ {S : Type 0} {next : S → ℕ → S} {f : S → Unit {0} → Reader ℕ} {s : List ℕ} {x : Read (List ℕ)} where
   pub going_none : (n k at : ℕ) (state : S) → at ≤ 8 * length s → x ≡ walk next f state (times n) (left_at s at) → (xs : List ℕ) (m : ℕ) → xs ≡ replicate m 0 → m
@@ -57,7 +57,7 @@ module _ {S : Type 0} {next : S → ℕ → S} {f : S → Unit {0} → Reader �
     within = h;
     long = length-replicate k 0;
     blank = refl;
-    small = λ j. omega (arith, getD_copies {A = ℕ} 0 k j);
+    small = λ j. omega (arith, get_or_copies {A = ℕ} 0 k j);
     is = let z : n ≡ n - 0 = omega arith in e ∙ ap (λ m. walk next f state (times m) (left_at s at)) z ∙ onto-none _;
   })
 
@@ -127,5 +127,5 @@ factors-none s q h w n z g xs m c e =
     rw (z, c, e)
     (record {
       done = record { is = ap (λ l. ok l (left_at s q.at)) (sym (take_copies 0 n 128 g)); within = h };
-      held = row_of n 128 (replicate 128 0) g (length-replicate {A = ℕ} 128 0) refl (λ j. omega (arith, getD_copies {A = ℕ} 0 128 j));
+      held = row_of n 128 (replicate 128 0) g (length-replicate {A = ℕ} 128 0) refl (λ j. omega (arith, get_or_copies {A = ℕ} 0 128 j));
     })

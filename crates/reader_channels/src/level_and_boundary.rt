@@ -7,7 +7,7 @@ use crate::values::faults::{Fault, Step};
 use bits::{Field, Place};
 
 // Level, boundary and the place after the fields that were read, or a refusal at a bit of the part.
-#[derive(Drop)]
+#[derive(Clone, Copy)]
 pub enum Head {
     Of(usize, usize, Place),
     Refused(Fault),

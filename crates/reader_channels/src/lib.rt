@@ -1,4 +1,5 @@
 // The strict reader's channels: after level and boundary each channel's width, factors and side values.
+#![tactic(auto)]
 
 // One value: a number, and a factor; with the refusals found in a field.
 pub mod values;

@@ -14,7 +14,7 @@ use crate::values::faults::{Fault, Step};
 use bits::{Field, Place};
 
 // A value and the place after it, or a refusal.
-#[derive(Drop)]
+#[derive(Clone, Copy)]
 pub enum Value {
     Of(u32, Place),
     Refused(Fault),

@@ -22,7 +22,7 @@ use Rattle.rules.specs.Fields.{small_bits}
 use Rattle.rules.specs.Reading.{codes_to}
 use Rattle.rules_formats.proofs.Formats.{ahead_yes, ahead_no}
 use Rattle.rules_formats.proofs.Numbers.{leb_case}
-use Rattle.rules_formats.proofs.Prefix.{is_read, oneOf_full}
+use Rattle.rules_formats.proofs.Prefix.{is_read, one_of_full}
 use Rattle.rules_formats.proofs.Codes.{tables_full, word_fits}
 use Rattle.reader_codes.specs.Seen.{word_bits, code_of_read, left_of_read, code_seen, length_seen}
 
@@ -70,7 +70,7 @@ module _ (r : ℕ) (h : r < 8) (s : List Bool) where
   begins =
       let e : bits (word_bits r) (value seen_bits) ≡ seen_bits = rw look_length at (bits-value seen_bits) in
       rw e (go (one_of (small_bits r) (codes_to r) seen_bits) refl
-      (oneOf_full (small_bits r) (codes_to r) (word_bits r) (tables_full r h) seen_bits (omega (arith, look_length))))
+      (one_of_full (small_bits r) (codes_to r) (word_bits r) (tables_full r h) seen_bits (omega (arith, look_length))))
     where
       go : (x : Read ℤ) → one_of (small_bits r) (codes_to r) seen_bits ≡ x → T (is_read x) → (seen_bits ≡ small_bits r (code_of_read x) ++ left_of_read x)
           × (nat_abs (code_of_read x) ≤ r)

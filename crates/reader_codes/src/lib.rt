@@ -1,4 +1,5 @@
 // The strict reader's codes, from the part of a frame between its sync and its check.
+#![tactic(auto)]
 
 // A code from the numbers that its bits make.
 pub mod lookup;

@@ -11,7 +11,7 @@ use bits::{Field, Place};
 use quantizer::tables::magnitude_bits;
 
 // A code and the place after it, or the first bit of a code that passes the part's end.
-#[derive(Drop)]
+#[derive(Clone, Copy)]
 pub enum Code {
     Of(i32, Place),
     Past(usize),

@@ -1,4 +1,5 @@
 // The refusals of every call: the number, and the number beside it. Here those of the three calls of document 01.
+#![tactic(auto)]
 
 // The stereo call's.
 pub mod stereo;
@@ -18,7 +19,7 @@ ghost use Rattle.refusals.specs.Refusals.{refusal_of};
 use rules::{ReadAnswer, StageAnswer, WriteAnswer};
 
 // A number of 0 stands for no refusal.
-#[derive(Drop)]
+#[derive(Clone, Copy)]
 pub struct Refusal {
     pub number: usize,
     pub beside: usize,

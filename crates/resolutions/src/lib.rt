@@ -1,4 +1,5 @@
 // Document 01, **Resolution**: of a factor at a noise, of a channel's bands, of all channels.
+#![tactic(auto)]
 
 // The noise of a band, and the curve that a resolution is read from.
 pub mod noise_curve;

@@ -115,10 +115,10 @@ module _ {A : Type 0} (k j : ℕ) (xs ys : List A) (h : j * k + k ≤ length xs)
 
 -- ---- rows padded to a length
 
-pub getD_copies : {A : Type 0} (d : A) (n i : ℕ) → get_or (replicate n d) i d ≡ d
-getD_copies d zero i = refl
-getD_copies d (suc n) zero = refl
-getD_copies d (suc n) (suc i) = getD_copies d n i
+pub get_or_copies : {A : Type 0} (d : A) (n i : ℕ) → get_or (replicate n d) i d ≡ d
+get_or_copies d zero i = refl
+get_or_copies d (suc n) zero = refl
+get_or_copies d (suc n) (suc i) = get_or_copies d n i
 
 module _ {A : Type 0} (d : A) (k : ℕ) where
   pub length-pad : (xs : List A) → length (pad d k xs) ≡ k
@@ -132,7 +132,7 @@ module _ {A : Type 0} (d : A) (k : ℕ) where
   pad-blank xs i h g =
       let e : length xs + (i - length xs) ≡ i = omega arith in
       get_or-take k (xs ++ replicate k d) i d g
-      ∙ ap (λ j. get_or (xs ++ replicate k d) j d) (sym e) ∙ get_or-append-add xs (replicate k d) (i - length xs) d ∙ getD_copies d k (i - length xs)
+      ∙ ap (λ j. get_or (xs ++ replicate k d) j d) (sym e) ∙ get_or-append-add xs (replicate k d) (i - length xs) d ∙ get_or_copies d k (i - length xs)
 
   pub pad-written : (xs : List A) (i : ℕ) → i < length xs → i < k → get_or (pad d k xs) i d ≡ get_or xs i d
   pad-written xs i h g = get_or-take k (xs ++ replicate k d) i d g ∙ get_or-append xs (replicate k d) d i h

@@ -23,7 +23,7 @@ use Rattle.rules.specs.Fields.{small_bits, code_bits}
 use Rattle.rules.specs.Record.{code_range}
 use Rattle.rules.specs.declared.Mode.{Mode}
 use Rattle.rules.specs.declared.Mode.TheVariants.{Rust, Held}
-use Rattle.rules.proofs.Cuts.{getD_copies}
+use Rattle.rules.proofs.Cuts.{get_or_copies}
 
 -- ---- what is held to plus or minus n is no larger
 pub held-within : (n : ℕ) (z : ℤ) → nat_abs (held_z (neg_ℤ (pos n)) (pos n) z) ≤ n
@@ -58,7 +58,7 @@ place-held (negsuc k) = go (ltb 7 k) refl
 -- ---- IN PACKING ALIKE: what the estimate counts is what is written
 none_at_zero : (p : ℕ) → get_or (get_or spectrum_bits 0 []) p 0 ≡ 0
 unfolding spectrum_bits
-none_at_zero p = getD_copies 0 16 p
+none_at_zero p = get_or_copies 0 16 p
 
 -- a band of resolution 0 takes none
 pub silent-bits : (mode : Mode) (x : Float) → value_bits mode 0 x ≡ 0

@@ -1,26 +1,27 @@
 // Document 01 as types and definitions: what every crate above works on, and what a reader must believe.
+#![tactic(auto)]
 
-#[derive(Drop)]
+#[derive(Clone, Copy)]
 pub enum ChannelType {
     Discrete,
     StereoPrimary,
     StereoSecondary,
 }
 
-#[derive(Drop)]
+#[derive(Clone, Copy)]
 pub struct Channel {
     pub kind: ChannelType,
 }
 
 // Whether a code may leave its range below resolution 8, as in the Rust, or is held within it.
-#[derive(Drop)]
+#[derive(Clone, Copy)]
 pub enum Mode {
     Rust,
     Held,
 }
 
 // A stream's layout: how many channels of which kinds, the bands, the frame's size in bytes, the lowest and the highest resolution, the mode.
-#[derive(Drop)]
+#[derive(Clone, Copy)]
 pub struct Layout {
     pub channels: usize,
     pub kinds: [Channel; 16],
@@ -34,7 +35,7 @@ pub struct Layout {
 }
 
 // The lengths of the lent buffers of a record and of its frame.
-#[derive(Drop)]
+#[derive(Clone, Copy)]
 pub struct Room {
     pub factors: usize,
     pub side: usize,
@@ -43,7 +44,7 @@ pub struct Room {
 }
 
 // The lengths of all that is lent to the stage.
-#[derive(Drop)]
+#[derive(Clone, Copy)]
 pub struct StageRoom {
     pub spectra: usize,
     pub intensities: usize,
@@ -52,7 +53,7 @@ pub struct StageRoom {
 }
 
 // What the stage answers: level, boundary, pairs removed and bits written, or a refusal with the number beside it.
-#[derive(Drop)]
+#[derive(Clone, Copy)]
 pub enum StageAnswer {
     Delivered(usize, usize, usize, usize),
     BadLayout,
@@ -64,7 +65,7 @@ pub enum StageAnswer {
 }
 
 // What the record writer answers: level, boundary and bits written, or a refusal; beside TooLong the bits that all fields need.
-#[derive(Drop)]
+#[derive(Clone, Copy)]
 pub enum WriteAnswer {
     Delivered(usize, usize, usize),
     BadLayout,
@@ -74,7 +75,7 @@ pub enum WriteAnswer {
 }
 
 // What the strict reader answers: level, boundary and bits read, or a refusal with the bit that it names.
-#[derive(Drop)]
+#[derive(Clone, Copy)]
 pub enum ReadAnswer {
     Delivered(usize, usize, usize),
     BadLayout,

@@ -50,6 +50,7 @@ longer r [] = true
 longer r (c ∷ cs) = leb (length (small_bits r (pos 0))) (length (small_bits r c)) && longer r cs
 
 longer-at : (r : ℕ) (c : ℤ) (cs : List ℤ) → T (longer r cs) → Memᴰ c cs → length (small_bits r (pos 0)) ≤ length (small_bits r c)
+longer-at r c [] h x'' = elim x'' [ ]
 longer-at r c (d ∷ cs) h (Memᴰ.head e) =
     rw e (leb→le _ _ (both (leb (length (small_bits r (pos 0))) (length (small_bits r d))) (longer r cs) h).0)
 longer-at r c (d ∷ cs) h (Memᴰ.tail m) = longer-at r c cs (both (leb (length (small_bits r (pos 0))) (length (small_bits r d))) (longer r cs) h).1 m

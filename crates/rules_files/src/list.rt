@@ -1,7 +1,7 @@
 // Request A7, the list beside the bank: what its calls answer.
 
 // One frame's numbers: level, boundary, pairs removed and bits written.
-#[derive(Drop)]
+#[derive(Clone, Copy)]
 pub struct Entry {
     pub level: u32,
     pub boundary: u32,
@@ -10,7 +10,7 @@ pub struct Entry {
 }
 
 // The highest level, the most pairs and the total of bits.
-#[derive(Drop)]
+#[derive(Clone, Copy)]
 pub struct Summary {
     pub level: u64,
     pub pairs: u64,
@@ -18,7 +18,7 @@ pub struct Summary {
 }
 
 // What a look at the whole list finds: how many frames a good one has, or what is wrong with it. A bad entry is one of so many frames.
-#[derive(Drop)]
+#[derive(Clone, Copy)]
 pub enum Judgement {
     Good(usize),
     BadMark,
@@ -27,7 +27,7 @@ pub enum Judgement {
 }
 
 // What the list's writer answers.
-#[derive(Drop)]
+#[derive(Clone, Copy)]
 pub enum ListWritten {
     Delivered,
     ShortBuffer,
@@ -35,7 +35,7 @@ pub enum ListWritten {
 }
 
 // What the list's reader answers: how many frames, or a refusal.
-#[derive(Drop)]
+#[derive(Clone, Copy)]
 pub enum ListAnswer {
     Delivered(usize),
     ShortBuffer,
@@ -45,7 +45,7 @@ pub enum ListAnswer {
 }
 
 // What the lookup by frame number answers.
-#[derive(Drop)]
+#[derive(Clone, Copy)]
 pub enum EntryAnswer {
     Found(Entry),
     BadMark,
@@ -55,7 +55,7 @@ pub enum EntryAnswer {
 }
 
 // What the summary answers.
-#[derive(Drop)]
+#[derive(Clone, Copy)]
 pub enum SummaryAnswer {
     Summed(Summary),
     BadMark,

@@ -1,7 +1,7 @@
 // A take from its WAV file: request A13.
 
 // What a `fmt ` chunk says.
-#[derive(Drop)]
+#[derive(Clone, Copy)]
 pub struct WavFormat {
     pub channels: usize,
     pub rate: usize,
@@ -9,7 +9,7 @@ pub struct WavFormat {
 }
 
 // The data chunk: the format that holds there, where its body begins, and its size field.
-#[derive(Drop)]
+#[derive(Clone, Copy)]
 pub struct WavData {
     pub format: WavFormat,
     pub body: usize,
@@ -17,20 +17,20 @@ pub struct WavData {
 }
 
 // Where the walk over the chunks came to.
-#[derive(Drop)]
+#[derive(Clone, Copy)]
 pub enum WavWalk {
     Found(WavData),
     Ended,
 }
 
 // Peak and mean magnitude of a take's samples.
-#[derive(Drop)]
+#[derive(Clone, Copy)]
 pub struct LevelNote {
     pub peak: f32,
     pub mean: f32,
 }
 
-#[derive(Drop)]
+#[derive(Clone, Copy)]
 pub struct Take {
     pub channels: usize,
     pub rate: usize,
@@ -40,7 +40,7 @@ pub struct Take {
 }
 
 // What the WAV reader answers: the take, or a refusal.
-#[derive(Drop)]
+#[derive(Clone, Copy)]
 pub enum WavAnswer {
     Taken(Take),
     NotWave,

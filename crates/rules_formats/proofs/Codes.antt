@@ -21,7 +21,7 @@ use Rattle.rules.specs.Reading.{codes_to, signed, read_code}
 use Rattle.rules.proofs.Words.{free, below, words_free}
 use Rattle.rules_formats.proofs.Formats.{twice, pure_fits, iff_fits, bind_fits, whole-fits}
 use Rattle.rules_formats.proofs.Numbers.{bool_case, leb_case, eqb_case, number_fits}
-use Rattle.rules_formats.proofs.Prefix.{both, every, is_read, oneOf_fits, oneOf_full}
+use Rattle.rules_formats.proofs.Prefix.{both, every, is_read, one_of_fits, one_of_full}
 
 -- a test at each number below n holds at one of them
 pub below_at : (f : ℕ → Bool) (n : ℕ) → T (below f n) → (k : ℕ) → k < n → T (f k)
@@ -46,6 +46,7 @@ codes_are r c = (to r, from r c)
   where
     to : (r : ℕ) → Memᴰ c (codes_to r) → nat_abs c ≤ r
     to zero (Memᴰ.head e) = rw e (omega arith)
+    to zero (Memᴰ.tail x) = elim x [ ]
     to (suc r) (Memᴰ.head e) = rw e (omega arith)
     to (suc r) (Memᴰ.tail (Memᴰ.head e)) = rw e (omega arith)
     to (suc r) (Memᴰ.tail (Memᴰ.tail m)) = omega (arith, to r m)
@@ -65,7 +66,7 @@ codes_are r c = (to r, from r c)
         (λ l. let e : n ≡ r = omega arith in Memᴰ.tail (Memᴰ.head (ap negsuc e)))
 
 pub word_fits : (r : ℕ) → r < 8 → Lawful (λ c. nat_abs c ≤ r) (small_bits r) (one_of (small_bits r) (codes_to r))
-word_fits r h = iff_fits (codes_are r) (oneOf_fits (small_bits r) (codes_to r) (tables_free r h))
+word_fits r h = iff_fits (codes_are r) (one_of_fits (small_bits r) (codes_to r) (tables_free r h))
 
 -- the same two in plain words
 pub words_apart : (r : ℕ) → r < 8 → (c d : ℤ) → nat_abs c ≤ r → nat_abs d ≤ r → (t : List Bool) → small_bits r d ≡ small_bits r c ++ t → c ≡ d
@@ -76,7 +77,7 @@ words_apart r h c d k m t e =
     cc
 
 pub word_begins : (r : ℕ) → r < 8 → (s : List Bool) → get_or max_bit_table r 0 ≤ length s → (c : ℤ) × (t : List Bool) × (nat_abs c ≤ r) × (s ≡ small_bits r c ++ t)
-word_begins r h s l = go (one_of (small_bits r) (codes_to r) s) refl (oneOf_full (small_bits r) (codes_to r) (get_or max_bit_table r 0) (tables_full r h) s l)
+word_begins r h s l = go (one_of (small_bits r) (codes_to r) s) refl (one_of_full (small_bits r) (codes_to r) (get_or max_bit_table r 0) (tables_full r h) s l)
   where
     go : (x : Read ℤ) → one_of (small_bits r) (codes_to r) s ≡ x → T (is_read x) → (c : ℤ) × (t : List Bool) × (nat_abs c ≤ r) × (s ≡ small_bits r c ++ t)
     go (ok c t) e k = let (m, q) = (word_fits r h).back s c t e in (c, t, m, q)

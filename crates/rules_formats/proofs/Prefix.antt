@@ -42,11 +42,13 @@ strip-none (false ∷ u) (false ∷ v) t h = strip-none u v t h
 
 module _ {A : Type 0} (w : A → List Bool) where
   apart-at : (c a : A) (cs : List A) → T (clashless w c cs) → Memᴰ a cs → T (not (clash (w c) (w a)))
+  apart-at c a [] h x'' = elim x'' [ ]
   apart-at c a (d ∷ cs) h (Memᴰ.head e) = rw e (both (not (clash (w c) (w d))) (clashless w c cs) h).0
   apart-at c a (d ∷ cs) h (Memᴰ.tail m) = apart-at c a cs (both (not (clash (w c) (w d))) (clashless w c cs) h).1 m
 
   one-there : (cs : List A) → T (free w cs) → (a : A) (t : List Bool) → Memᴰ a cs → one_of w cs (w a ++ t) ≡ ok a t
   unfolding one_of strip
+  one-there [] h a t x'' = elim x'' [ ]
   one-there (c ∷ cs) h a t (Memᴰ.head e) = rw (← e, strip_self (w a) t)
   one-there (c ∷ cs) h a t (Memᴰ.tail m) =
       let (h₀, h₁) = both (clashless w c cs) (free w cs) h in
@@ -62,8 +64,8 @@ module _ {A : Type 0} (w : A → List Bool) where
       go (some u) p q r = let z : a ≡ c = cc in (Memᴰ.head z, rw z (cc (strip-is (w c) s u p)))
       go none p q r = let (m, z) = r q in (Memᴰ.tail m, z)
 
-  pub oneOf_fits : (cs : List A) → T (free w cs) → Lawful (λ a. Memᴰ a cs) w (one_of w cs)
-  oneOf_fits cs h = record { there = one-there cs h; back = one-back cs }
+  pub one_of_fits : (cs : List A) → T (free w cs) → Lawful (λ a. Memᴰ a cs) w (one_of w cs)
+  one_of_fits cs h = record { there = one-there cs h; back = one-back cs }
 
 -- FULL: each run of k bits begins with a word, so that only too few bits are refused
 abbrev pub every : ℕ → (List Bool → Bool) → Bool
@@ -106,7 +108,7 @@ module _ {A : Type 0} (w : A → List Bool) where
       go none e g f = pass (strip (w c) (s ++ t)) (one_of w cs (s ++ t)) (f g)
       go (some r) e g f = rw (strip_more (w c) s r t e) tt
 
-  pub oneOf_full : (cs : List A) (k : ℕ) → T (every k (λ s. is_read (one_of w cs s))) → (s : List Bool) → k ≤ length s → T (is_read (one_of w cs s))
-  oneOf_full cs k h s l =
+  pub one_of_full : (cs : List A) (k : ℕ) → T (every k (λ s. is_read (one_of w cs s))) → (s : List Bool) → k ≤ length s → T (is_read (one_of w cs s))
+  one_of_full cs k h s l =
       subst (λ x. T (is_read (one_of w cs x))) (take-append-drop k s)
       (more cs (take k s) (drop k s) (every-at k (λ s. is_read (one_of w cs s)) h (take k s) (length-take-le k s l)))

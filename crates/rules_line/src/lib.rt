@@ -1,4 +1,6 @@
 // Request A5, a whole line in one call, from mixed or from unmixed spectra: types, definitions, and what a line does to the tally and to a frame's answers.
+#![tactic(auto)]
+
 ghost use Rattle.std.specs.Prelude.{◌≡◌, ◌^◌, ◌≤◌, ◌<◌, length};
 ghost use Rattle.rules.specs.Lent.{overwrite};
 ghost use Rattle.rules.specs.Refusals.{stage_outcome};
@@ -11,7 +13,7 @@ use rules::StageAnswer;
 use rules_stereo::StereoAnswer;
 
 // What a caller's lines have delivered so far.
-#[derive(Drop)]
+#[derive(Clone, Copy)]
 pub struct Tally {
     pub frames: u64,
     pub bits: u64,
@@ -19,7 +21,7 @@ pub struct Tally {
 }
 
 // What a line answers: a frame that the single call refused comes with its index and that call's answer.
-#[derive(Drop)]
+#[derive(Clone, Copy)]
 pub enum LineAnswer {
     Delivered,
     BadLayout,
@@ -29,14 +31,14 @@ pub enum LineAnswer {
 }
 
 // The answer, and the tally after the call.
-#[derive(Drop)]
+#[derive(Clone, Copy)]
 pub struct LineEnd {
     pub answer: LineAnswer,
     pub tally: Tally,
 }
 
 // The same of a line from unmixed spectra.
-#[derive(Drop)]
+#[derive(Clone, Copy)]
 pub enum StereoLineAnswer {
     Delivered,
     BadLayout,
@@ -45,7 +47,7 @@ pub enum StereoLineAnswer {
     Refused(usize, StereoAnswer),
 }
 
-#[derive(Drop)]
+#[derive(Clone, Copy)]
 pub struct StereoLineEnd {
     pub answer: StereoLineAnswer,
     pub tally: Tally,

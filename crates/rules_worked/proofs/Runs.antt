@@ -31,7 +31,7 @@ use Rattle.rules.specs.Lent.{no_floats, no_codes, no_factors, no_side, no_frame,
 use Rattle.rules.specs.Stage.{StageLent, StageLeft, Analysis, cleared, stage_overwrite, behind_gate, stage_room, stage_has_room, bad_intensity, bad_spectrum, gate}
 use Rattle.rules.specs.Stage.{level_found, boundary_for, analysis_from, analysis, stage_record, delivery, after_packing, after_level, encode_frame}
 use Rattle.rules.specs.declared.Layout.{Layout}
-use Rattle.rules.proofs.Cuts.{getD_copies}
+use Rattle.rules.proofs.Cuts.{get_or_copies}
 use Rattle.rules_demands.proofs.MadeRecord.{finished_outcome}
 use Rattle.rules.proofs.Refused.{settled_none}
 
@@ -238,7 +238,7 @@ module _ (e : Example) (r : Right e) where
   run =
       let exact : length e.spectra ≡ spectrum_length e.layout = ap (λ w. w.size) r in
       stage_made e.layout (lent e.layout e.spectra) (ap (λ w. w.legal) r) (ap (λ w. w.room) r) exact (ap (λ w. w.whole) r)
-      (λ i. omega (arith, getD_copies {A = ℕ} 0 (side_length e.layout) i))
+      (λ i. omega (arith, get_or_copies {A = ℕ} 0 (side_length e.layout) i))
       ∙ ap (λ m. stage_overwrite (lent e.layout e.spectra) (after_level e.layout m))
       (rw (
         take_all (spectrum_length e.layout) e.spectra (omega arith),

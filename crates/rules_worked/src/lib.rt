@@ -1,1 +1,2 @@
 // The definition of the stage, worked out on inputs; no code.
+#![tactic(auto)]

@@ -1,4 +1,6 @@
 // The checksum of a whole message, a frame sealed by it, and the test whether a frame is. What a checksum is stands in crc.
+#![tactic(auto)]
+
 ghost use Rattle.std.specs.Prelude.{◌≡◌, ◌<◌, ◌≤◌, length};
 ghost use Rattle.crc.specs.Check.{checksum};
 ghost use Rattle.crc.specs.Table.{feed};

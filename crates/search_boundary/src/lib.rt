@@ -1,4 +1,5 @@
 // Document 01, **Boundary**: the Rust's search over 0..127 at a level.
+#![tactic(auto)]
 
 // The bits at a boundary from those at a lower one.
 pub mod moves;
@@ -15,6 +16,7 @@ use crate::moves::move_boundary;
 use rules::Layout;
 
 // Where the search stops: one is left, or the higher of two is probed.
+#[tactic(auto, using(crate::proofs::Last::lower_decides, crate::proofs::Last::higher_decides))]
 fn higher_or_lower(
     layout: Layout,
     curve: &[u8; 688],

@@ -12,7 +12,7 @@ use layouts::coded_count;
 use rules::Layout;
 
 // What the bands that were passed take at the finer noise, and what they took at the level's.
-#[derive(Drop)]
+#[derive(Clone, Copy)]
 struct Change {
     rise: usize,
     fall: usize,

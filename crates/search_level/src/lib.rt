@@ -1,4 +1,6 @@
 // Document 01, **Level**: the halving, and the removal of pairs of bands while there is no level.
+#![tactic(auto)]
+
 ghost use Rattle.std.specs.Prelude.{◌≡◌, ◌+◌, ◌*◌, ◌≤◌, ◌<◌, length};
 ghost use Rattle.buffers.specs.Walk.{AtMost};
 ghost use Rattle.rules.specs.Layout.{LegalLayout, frame_size, spectrum_length, factor_length};
@@ -15,7 +17,7 @@ use resolutions::noise_curve::fill_places;
 use rules::Layout;
 
 // The level, 255 where there is none, and the bits that the estimate has at it.
-#[derive(Drop)]
+#[derive(Clone, Copy)]
 struct Halving {
     level: usize,
     used: usize,
@@ -122,7 +124,7 @@ fn clear_pair(layout: Layout, factors: &mut [u8], band: usize)
 }
 
 // The level, 255 where there is none, the pairs removed, and the bits that the estimate has at the level.
-#[derive(Drop)]
+#[derive(Clone, Copy)]
 pub struct Removal {
     pub level: usize,
     pub pairs: usize,

@@ -1,4 +1,5 @@
 // Document 01's frame stage: from a frame's spectra to its finished frame, in buffers that the caller lends.
+#![tactic(auto)]
 
 // The run behind the gate, on buffers of the stated lengths.
 pub mod run;

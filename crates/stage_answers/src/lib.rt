@@ -1,4 +1,6 @@
 // How the stage ends, by plain numbers: document 01's refusals 5 and 7, or what is delivered.
+#![tactic(auto)]
+
 ghost use Rattle.std.specs.Prelude.{◌≡◌, [], ◌∷◌, cond, ltb};
 ghost use Rattle.rules.specs.Refusals.{delivered, refused, stage_outcome};
 

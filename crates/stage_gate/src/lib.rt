@@ -1,4 +1,6 @@
 // Document 01, **Refusal numbers** 1 to 4: what is refused before anything is written.
+#![tactic(auto)]
+
 ghost use Rattle.std.specs.Prelude.{◌≡◌, ◌≤◌, ltb, length};
 ghost use Rattle.buffers.specs.Walk.{first};
 ghost use Rattle.rules.specs.Layout.{LegalLayout};
@@ -10,7 +12,7 @@ use layouts::{has_room, is_secondary, legal};
 use rules::{Layout, StageRoom};
 
 // Whether a call may go on, or its first refusal.
-#[derive(Drop)]
+#[derive(Clone, Copy)]
 pub enum Gate {
     Open,
     BadLayout,

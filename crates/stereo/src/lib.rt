@@ -1,4 +1,6 @@
 // Request A2's stereo stage: from a frame's unmixed spectra to its finished frame, in buffers that the caller lends.
+#![tactic(auto)]
+
 ghost use Rattle.std.specs.Prelude.{◌≡◌, ◌≤◌, length, take};
 ghost use Rattle.rules.specs.Layout.{LegalLayout, spectrum_length, side_length, room_of};
 ghost use Rattle.rules.specs.Stage.{stage_lent, stage_left, stage_room_of};

@@ -1,4 +1,6 @@
 // What the stereo stage refuses before anything is written: 1 to 4 as the stage, then 17.
+#![tactic(auto)]
+
 ghost use Rattle.std.specs.Prelude.{◌≡◌, not, ◌||◌, ◌≤◌, ltb, length};
 ghost use Rattle.std.proofs.Math.Option.{none, some};
 ghost use Rattle.std.specs.Float.{binary32};
@@ -18,7 +20,7 @@ use rules_stereo::StereoAnswer;
 use stage_gate::{Gate, first_bad_spectrum, refusal_before_spectra};
 
 // Whether a call may go on, or what it answers.
-#[derive(Drop)]
+#[derive(Clone, Copy)]
 pub enum StereoGate {
     Open,
     Refused(StereoAnswer),

@@ -1,4 +1,5 @@
 // Request A2, **Intensity stereo**: unmixed spectra are mixed in place, and the intensities of the pairs stored.
+#![tactic(auto)]
 
 // The energies of one subframe of a pair, its intensity and its ratio.
 pub mod subframe;

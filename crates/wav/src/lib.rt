@@ -1,4 +1,5 @@
 // The WAV reader's public call: request A13.
+#![tactic(auto)]
 
 // The walk over a file's chunks, up to its data.
 pub mod chunks;

@@ -1,4 +1,5 @@
 // Document 01, **Width**: the width of a channel's factor deltas, and what its factors cost.
+#![tactic(auto)]
 
 // One factor's delta, how far a width reaches, and what a later band takes.
 pub mod deltas;
@@ -9,7 +10,7 @@ ghost use Rattle.widths.specs.Walks.{Short, longer, first_walk, walk_on, or_less
 
 use crate::deltas::{bits_at, distance};
 
-#[derive(Drop)]
+#[derive(Clone, Copy)]
 pub struct Width {
     pub bits: usize,
     pub cost: usize,
@@ -17,7 +18,7 @@ pub struct Width {
 
 // The lengths of widths 1 to 5 for the factors walked so far. None passes 1,406; narrow, so that
 // eight factors are priced side by side.
-#[derive(Drop)]
+#[derive(Clone, Copy)]
 struct Lengths {
     one: u16,
     two: u16,
@@ -27,7 +28,7 @@ struct Lengths {
 }
 
 // With them the last factor, and whether all so far are 0.
-#[derive(Drop)]
+#[derive(Clone, Copy)]
 struct Walk {
     lengths: Lengths,
     previous: u8,

@@ -1,4 +1,5 @@
 // The record writer: a legal record's frame, written into a lent buffer.
+#![tactic(auto)]
 
 // Is one value legal: level and boundary, a row, a code?
 pub mod values;

@@ -3,7 +3,7 @@
 use bits::Place;
 
 // Refusals 11 to 13, each with the bit that it names.
-#[derive(Drop)]
+#[derive(Clone, Copy)]
 pub enum Fault {
     BadWidth(usize),
     BadFactor(usize),
@@ -11,7 +11,7 @@ pub enum Fault {
 }
 
 // The place after the values that were stored, or a refusal.
-#[derive(Drop)]
+#[derive(Clone, Copy)]
 pub enum Step {
     At(Place),
     Refused(Fault),

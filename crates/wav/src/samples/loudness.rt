@@ -5,7 +5,7 @@ ghost use Rattle.wav.specs.Loudness.{no_loudness, loudness_with, loudness_note};
 use floats::Average;
 use rules_files::wav::LevelNote;
 
-#[derive(Drop)]
+#[derive(Clone, Copy)]
 pub struct Loudness {
     pub peak: f32,
     pub average: Average,

@@ -1,0 +1,10 @@
+-- `band_counts::marked::marked_small` meets its contract. Assumes nothing.
+use mathlib.Core.Path.{ap₂}
+use Prim.Native.Nat.{◌+◌}
+use Rattle.band_counts.specs.Counts.{eight_bits}
+use borrow.Author.Rules.{rules}
+use Rattle.band_counts.proofs.marked.marked_small.Goals as goal
+
+pub returns : goal.returns
+unfolding eight_bits
+returns c = (ap₂ ◌+◌ c.small_four.ensures.0 c.small_four-2.ensures.0, search rules)

@@ -1,0 +1,13 @@
+-- `hfr::averages::group_value` meets its contract. Assumes nothing.
+use mathlib.Core.Path.{ap}
+use lib.Ieee.{binary32, mul, of_bits}
+use Rattle.rules.specs.Hfr.{group_value}
+use Rattle.hfr.proofs.averages.group_value.Goals as goal
+
+pub returns-then-source : goal.returns-then-source
+unfolding group_value of_bits
+returns-then-source c = rw c.if-source.true (ap (mul binary32 c.args.spectrum) c.smaller.ensures)
+
+pub returns : goal.returns
+unfolding group_value of_bits
+returns c = rw c.if-source.false

@@ -1,0 +1,12 @@
+-- `hfr::averages::with_scaled` meets its contract. The invariant: of each sum the first s values are taken. Assumes nothing.
+use Prim.Native.Nat.{◌≤◌, ◌-◌}
+use Rattle.hfr.proofs.Taken.{Eight}
+use Rattle.hfr.proofs.averages.with_scaled.Given as goal
+
+abbrev pub invariant-loop-s : goal.invariant-loop-s
+invariant-loop-s l =
+    (l.s ≤ 8) × Eight l.scaled l.at.a 1 l.initial.sums.a l.s l.sums.a × Eight l.scaled l.at.b 1 l.initial.sums.b l.s l.sums.b
+    × Eight l.scaled l.at.c 1 l.initial.sums.c l.s l.sums.c × Eight l.scaled l.at.d 1 l.initial.sums.d l.s l.sums.d
+
+abbrev pub decreases-loop-s : goal.decreases-loop-s
+decreases-loop-s l = 8 - l.s

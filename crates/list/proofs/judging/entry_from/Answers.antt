@@ -1,0 +1,12 @@
+-- `list::judging::entry_from` meets its contract. Assumes nothing.
+use Rattle.rules_files.specs.List.{entry_from}
+use Rattle.list.proofs.judging.entry_from.Goals as goal
+
+pub returns : goal.returns
+unfolding entry_from
+returns c = λ i. record {
+  level = c.get_word-level.ensures i;
+  boundary = c.get_word-boundary.ensures i;
+  pairs = c.get_word-pairs.ensures i;
+  bits = c.get_word-bits.ensures i;
+}

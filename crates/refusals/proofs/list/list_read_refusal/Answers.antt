@@ -1,0 +1,24 @@
+-- `refusals::list::list_read_refusal` meets its contract. Assumes nothing.
+use Rattle.rules_files.specs.List.{list_read_outcome}
+use Rattle.refusals.specs.Refusals.{refusal_of}
+use Rattle.refusals.proofs.list.list_read_refusal.Goals as goal
+
+pub returns-in-Delivered : goal.returns-in-Delivered
+unfolding refusal_of list_read_outcome
+returns-in-Delivered c = rw c.in-Delivered.is c.not_refused.ensures
+
+pub returns-in-ShortBuffer : goal.returns-in-ShortBuffer
+unfolding refusal_of list_read_outcome
+returns-in-ShortBuffer c = rw c.in-ShortBuffer.is c.refused.ensures
+
+pub returns-in-BadMark : goal.returns-in-BadMark
+unfolding refusal_of list_read_outcome
+returns-in-BadMark c = rw c.in-BadMark.is c.refused-in-BadMark.ensures
+
+pub returns-in-BadLength : goal.returns-in-BadLength
+unfolding refusal_of list_read_outcome
+returns-in-BadLength c = rw c.in-BadLength.is c.refused-in-BadLength.ensures
+
+pub returns-in-BadEntry : goal.returns-in-BadEntry
+unfolding refusal_of list_read_outcome
+returns-in-BadEntry c = rw c.in-BadEntry.is c.refused-in-BadEntry.ensures

@@ -1,0 +1,16 @@
+-- `refusals::list::list_write_refusal` meets its contract. Assumes nothing.
+use Rattle.rules_files.specs.List.{list_written_outcome}
+use Rattle.refusals.specs.Refusals.{refusal_of}
+use Rattle.refusals.proofs.list.list_write_refusal.Goals as goal
+
+pub returns-in-Delivered : goal.returns-in-Delivered
+unfolding refusal_of list_written_outcome
+returns-in-Delivered c = rw c.in-Delivered.is c.not_refused.ensures
+
+pub returns-in-ShortBuffer : goal.returns-in-ShortBuffer
+unfolding refusal_of list_written_outcome
+returns-in-ShortBuffer c = rw c.in-ShortBuffer.is c.refused.ensures
+
+pub returns-in-BadEntry : goal.returns-in-BadEntry
+unfolding refusal_of list_written_outcome
+returns-in-BadEntry c = rw c.in-BadEntry.is c.refused-in-BadEntry.ensures

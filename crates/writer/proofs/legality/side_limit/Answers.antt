@@ -1,0 +1,12 @@
+-- `writer::legality::side_limit` meets its contract. Assumes nothing.
+use mathlib.Core.Path.{sym, ◌∙◌}
+use Rattle.rules.specs.Layout.{secondary_at}
+use Rattle.writer.proofs.legality.side_limit.Goals as goal
+
+pub returns-then-is_secondary : goal.returns-then-is_secondary
+unfolding secondary_at
+returns-then-is_secondary c = rw (sym c.is_secondary.ensures ∙ c.if-is_secondary.true)
+
+pub returns-else-is_secondary : goal.returns-else-is_secondary
+unfolding secondary_at
+returns-else-is_secondary c = rw (sym c.is_secondary.ensures ∙ c.if-is_secondary.false)
