@@ -1,6 +1,6 @@
 /* Makes the calls of a file of fixed vectors (VECTORS.md), read from standard input, and writes all that each call leaves: its number and every written
    buffer, whole. processors.sh runs it on the library of each processor and compares. What a call has to give is not looked at here: replay-vectors does
-   that. The kit has no headers of the C library, so what is used of it is declared by hand. */
+   that. What is used of the C library is declared by hand. */
 #include "hca_frame.h"
 
 long read(int file, void *to, size_t length);

@@ -1,5 +1,8 @@
 #!/usr/bin/env python3
-"""How well the definitions under specs/ are pinned: single changes of them, and whether a theorem or a worked example refuses each.
+"""FOR THE OLDER KIT, rattle-kit-5b: with today's this does not run. It reads antt in that kit's spelling, and its prover lies in other folders. What it found
+stands in docs/MUTANTS.md; `rt plant` tries wrong bodies today, and nothing of the kit's changes definitions.
+
+How well the definitions under specs/ are pinned: single changes of them, and whether a theorem or a worked example refuses each.
 
   mutants.py list GROUP..                   how many mutants each spec file has
   mutants.py show GROUP..                   every mutant, a line each
