@@ -1,20 +1,21 @@
 -- Entries of counts: a band's is that of its eight values, a channel's and a frame's say what `Counted` does, and a count is taken from its entry. Assumes
 -- nothing.
-use mathlib.Core.Path.{◌≡◌, refl, sym, ap, ap₂, ◌∙◌}
+use mathlib.Core.Path.{◌≡◌, refl, sym, ap, ◌∙◌}
 use mathlib.Core.Bool.{Bool, true, false, cond}
-use mathlib.Core.List.{List, ◌++◌}
-use Prim.Native.Nat.{ℕ, ◌+◌, ◌-◌, ◌*◌, ◌/◌, ◌%◌, ◌^◌, ◌≤◌, ◌<◌}
-use native.Mathlib.Nat.{add-zero}
+use mathlib.Core.List.{List, [], ◌++◌}
+use Prim.Native.Nat.{ℕ, zero, suc, ◌+◌, ◌-◌, ◌*◌, ◌/◌, ◌%◌, ◌^◌, ◌≤◌, ◌<◌}
+use native.Mathlib.Nat.{zero-mul, suc-mul, not-suc-le-zero, le_of_suc-le-suc}
 use native.Mathlib.Omega.{arith}
 use borrow.Author.Tests.{lt-ltb, le-ltb, ltb-true, ltb-false}
 use lib.Dec.{ltb}
-use lib.IntN.{ℤ, pos, nat_abs}
+use lib.IntN.{ℤ, pos}
 use lib.Ieee.{Float, nan, le}
-use lib.ListN.{length, get_or, take, drop, length-append, length-drop, get_or-append}
-use lib.Seq.{get_or-take, get_or-drop}
-use Rattle.buffers.specs.Walk.{build, blocks, sum_to}
+use lib.ListN.{length, get_or, take, drop}
+use lib.Seq.{get_or-take, get_or-drop, drop-drop}
+use Rattle.std.specs.Simd.{first_chunks}
+use Rattle.buffers.specs.Walk.{build, blocks}
 use Rattle.buffers.proofs.Tests.{cond_bound}
-use Rattle.buffers.proofs.Scan.{sum_bound}
+use Rattle.buffers.proofs.Scan.{sum_same, sum_bound}
 use Rattle.buffers.proofs.Build.{length-build, build-at, back-width}
 use Rattle.buffers.proofs.Blocks.{length-blocks, length_blocked, blocks_at}
 use Rattle.rules.specs.Layout.{LegalLayout, coded_count_at, spectrum_length, part}
@@ -31,19 +32,27 @@ use Rattle.rules.proofs.Layouts.{coded-few}
 use Rattle.band_counts.specs.Counts.{eight_of, eight_bits, entry_of, count_entry, count_in, channel_counts, ChannelCounted, Counted}
 
 -- ---- a band
-eight_sums : (a b c d e f g h : ℕ) → a + b + c + d + (e + f + g + h) ≡ 0 + a + b + c + d + e + f + g + h
-eight_sums a b c d e f g h = omega arith
-
 pub eight_band : (m : Mode) (sc : List Float) (b r : ℕ) → eight_bits m r (eight_of sc b) ≡ band_bits m sc b r
-unfolding eight_bits eight_of band_bits sum_to
+unfolding eight_bits eight_of band_bits
 eight_band m sc b r =
-    let f : ℕ → ℕ = λ s. value_bits m r (get_or sc (b * 8 + s) nan) in
-    ap (λ n. value_bits m r (get_or sc n nan) + f 1 + f 2 + f 3 + (f 4 + f 5 + f 6 + f 7)) (sym (add-zero (b * 8)))
-    ∙ (eight_sums (f 0) (f 1) (f 2) (f 3) (f 4) (f 5) (f 6) (f 7))
+    sum_same (λ s. value_bits m r (get_or (take 8 (drop (b * 8) sc)) s nan)) (λ s. value_bits m r (get_or sc (b * 8 + s) nan)) 8
+    (λ s l. ap (value_bits m r) (get_or-take 8 (drop (b * 8) sc) s nan l ∙ get_or-drop (b * 8) sc s nan))
 
 pub entry-band : (m : Mode) (sc : List Float) (b k : ℕ) → entry_of m (eight_of sc b) k ≡ count_entry m sc b k
 unfolding entry_of
 entry-band m sc b k = rw (eight_band m sc b k, eight_band m sc b (k + 8))
+
+-- the eight values of band b among a channel's eights
+chunk_at : {A : Type 0} (n k i : ℕ) (xs : List A) → i < k → get_or (first_chunks n k xs) i [] ≡ take n (drop (i * n) xs)
+chunk_at n zero i xs h = absurd (not-suc-le-zero h)
+chunk_at n (suc k) zero xs h = rw zero-mul refl
+chunk_at n (suc k) (suc i) xs h =
+    let place : n + i * n ≡ suc i * n = omega (arith, suc-mul i n) in
+    chunk_at n k i (drop n xs) (le_of_suc-le-suc h) ∙ ap (take n) (drop-drop (i * n) n xs ∙ ap (λ (m : ℕ). drop m xs) place)
+
+pub eight_at : (k : ℕ) (sc : List Float) (b : ℕ) → b < k → get_or (first_chunks 8 k sc) b [] ≡ eight_of sc b
+unfolding eight_of
+eight_at k sc b h = chunk_at 8 k b sc h
 
 -- ---- a channel
 abbrev pub band_entries : (mode : Mode) (scaled : List Float) (band : ℕ) → List ℤ

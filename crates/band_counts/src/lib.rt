@@ -7,11 +7,9 @@ ghost use Rattle.buffers.specs.Walk.{build};
 ghost use Rattle.rules.specs.Layout.{LegalLayout, spectrum_length};
 ghost use Rattle.rules.specs.Scaling.{clip};
 ghost use Rattle.band_counts.specs.Counts.{EachWithin, EachSingle, sizes_of, eight_reached, entry_of, channel_counts, Counted, count_in};
-ghost use Rattle.band_counts.specs.Tables.{IsMarks, IsSizes};
 
-use self::eight::{Eight, all_within, clip_count, read_eight, sizes_of, small_count, wide_count};
+use self::eight::{all_within, clip_count, sizes_of, small_count, wide_count};
 use self::marked::marked_counts;
-use self::tables::{mark_table, size_table};
 use layouts::coded_count;
 use rules::{Layout, Mode};
 
@@ -28,55 +26,36 @@ pub fn taken(entry: i32, r: usize) -> usize
 }
 
 // One entry, of eight values, their magnitudes, and how many of them are at the clip.
-fn entry(
-    mode: Mode,
-    e: Eight,
-    m: Eight,
-    clips: u32,
-    k: usize,
-    marks: &[f32; 24],
-    sizes: &[u32; 24],
-) -> i32
+fn entry(mode: Mode, e: [f32; 8], m: [f32; 8], clips: u32, k: usize) -> i32
     requires each_within { EachWithin e × EachSingle e × (m ≡ sizes_of e) × (clips ≡ eight_reached clip e) }
-    requires k_bound { (k < 8) × IsMarks marks.now × IsSizes mode sizes.now }
+    requires k_bound { k < 8 }
     ensures { result ≡ entry_of mode e k }
 {
-    let small = small_count(
-        mode,
-        e,
-        clips,
-        k,
-        marks[k],
-        marks[k + 8],
-        sizes[k],
-        sizes[k + 8],
-    );
-    let wide = wide_count(mode, e, m, k + 8, marks[k + 16], sizes[k + 16]);
+    let small = small_count(mode, e, clips, k);
+    let wide = wide_count(mode, e, m, k);
     (small + 256 * wide) as i32
 }
 
 // The entries of a band within the clip: the loop goes over resolutions, and four of them are counted side by side.
-fn zone_counts(mode: Mode, e: Eight, marks: &[f32; 24], sizes: &[u32; 24], counts: &mut [i32])
+fn zone_counts(mode: Mode, e: [f32; 8], counts: &mut [i32])
     requires each_within { EachWithin e }
-    requires marks { IsMarks marks.now × IsSizes mode sizes.now × (length counts.old ≡ 8) }
+    requires counts_len { length counts.old ≡ 8 }
     ensures { counts.new ≡ build (entry_of mode e) 8 }
 {
     let m = sizes_of(e);
     let clips = clip_count(e);
-    let mut k = 0;
-    while k < 8 {
-        counts[k] = entry(mode, e, m, clips, k, marks, sizes);
-        k += 1;
+    for k in 0..8 {
+        counts[k] = entry(mode, e, m, clips, k);
     }
 }
 
 // A band's eight entries. What the stage counts is within the clip.
-fn band_counts(mode: Mode, e: Eight, marks: &[f32; 24], sizes: &[u32; 24], counts: &mut [i32])
-    requires { IsMarks marks.now × IsSizes mode sizes.now × (length counts.old ≡ 8) }
+fn band_counts(mode: Mode, e: [f32; 8], counts: &mut [i32])
+    requires { length counts.old ≡ 8 }
     ensures { counts.new ≡ build (entry_of mode e) 8 }
 {
     if all_within(e) {
-        zone_counts(mode, e, marks, sizes, counts);
+        zone_counts(mode, e, counts);
         return;
     }
     marked_counts(mode, e, counts);
@@ -87,19 +66,10 @@ pub fn channel_counts(mode: Mode, scaled: &[f32], coded: usize, counts: &mut [i3
     requires { (length scaled.now ≡ 1024) × (coded ≤ 128) × (length counts.old ≡ 1024) }
     ensures { counts.new ≡ channel_counts mode scaled.now coded counts.old }
 {
-    let marks = mark_table();
-    let sizes = size_table(mode);
-    let mut b = 0;
-    while b < coded {
+    let (eights, _) = scaled.as_chunks::<8>();
+    for b in 0..coded {
         let at = b * 8;
-        band_counts(
-            mode,
-            read_eight(scaled, b),
-            &marks,
-            &sizes,
-            &mut counts[at..at + 8],
-        );
-        b += 1;
+        band_counts(mode, eights[b], &mut counts[at..at + 8]);
     }
 }
 
@@ -109,13 +79,14 @@ pub fn frame_counts(layout: Layout, scaled: &[f32], counts: &mut [i32])
     requires scaled_len { (length scaled.now ≡ spectrum_length layout) × (length counts.old ≡ spectrum_length layout) }
     ensures { Counted layout scaled.now counts.new }
 {
-    let channels = layout.channels;
-    let mode = layout.mode;
-    let mut c = 0;
-    while c < channels {
+    for c in 0..layout.channels {
         let a = c * 1024;
         let coded = coded_count(layout, c);
-        channel_counts(mode, &scaled[a..a + 1024], coded, &mut counts[a..a + 1024]);
-        c += 1;
+        channel_counts(
+            layout.mode,
+            &scaled[a..a + 1024],
+            coded,
+            &mut counts[a..a + 1024],
+        );
     }
 }

@@ -1,10 +1,15 @@
-// Columns of eight, by resolution, taken once a channel and lent.
-ghost use Rattle.band_counts.specs.Tables.{IsMarks, IsSizes};
+// What a resolution below 8 counts by, and what the one 8 above it does: a column for each.
+ghost use Rattle.std.specs.Prelude.{◌≡◌, ◌+◌, ◌*◌, ◌<◌, get_or};
+ghost use Rattle.std.specs.Float.{nan};
+ghost use Rattle.rules.specs.Tables.{dead_zone_table};
+ghost use Rattle.rules.specs.Code.{magnitude_bits};
+ghost use Rattle.quantizer.specs.Marks.{high_at};
+ghost use Rattle.within.specs.Zones.{zone_low, zone_high, zone_drop};
 
 use rules::Mode;
 
-// Low and high of 0 to 7, and the dead zones of 8 to 15.
-const MARKS: [f32; 24] = [
+// Where the zones of 0 to 7 begin and end.
+static LOW: [f32; 8] = [
     0.0,
     -3.3333337e-1,
     -6.0e-1,
@@ -13,6 +18,9 @@ const MARKS: [f32; 24] = [
     -4.5454547e-1,
     -2.3076928e-1,
     -6.66667e-2,
+];
+
+static HIGH: [f32; 8] = [
     0.0,
     3.3333325e-1,
     5.999999e-1,
@@ -21,6 +29,10 @@ const MARKS: [f32; 24] = [
     4.5454535e-1,
     2.3076916e-1,
     6.66666e-2,
+];
+
+// The dead zones of 8 to 15.
+static DEAD: [f32; 8] = [
     3.2258064e-2,
     1.5873017e-2,
     7.874016e-3,
@@ -31,26 +43,55 @@ const MARKS: [f32; 24] = [
     2.4420026e-4,
 ];
 
-// Most and drop of 0 to 7, and most of 8 to 15, each most of eight values; in the Rust's mode, and in held mode, where nothing is dropped.
-const SIZES: [u32; 24] = [
-    0, 16, 24, 24, 32, 32, 32, 32, 0, 0, 3, 0, 4, 4, 0, 0, 32, 40, 48, 56, 64, 72, 80, 88,
-];
+// The most bits that eight values take at 0 to 7, and at 8 to 15 without their signs.
+static MOST: [u32; 8] = [0, 16, 24, 24, 32, 32, 32, 32];
 
-const HELD_SIZES: [u32; 24] = [
-    0, 16, 24, 24, 32, 32, 32, 32, 0, 0, 0, 0, 0, 0, 0, 0, 32, 40, 48, 56, 64, 72, 80, 88,
-];
+static WIDE: [u32; 8] = [32, 40, 48, 56, 64, 72, 80, 88];
 
-pub(crate) fn mark_table() -> [f32; 24]
-    ensures { IsMarks result }
+// What a value at the clip lacks at 0 to 7, in the Rust's mode. In held mode nothing is dropped.
+static DROP: [u32; 8] = [0, 0, 3, 0, 4, 4, 0, 0];
+
+pub(crate) fn low_of(k: usize) -> f32
+    requires { k < 8 }
+    ensures { result ≡ zone_low k }
 {
-    MARKS
+    LOW[k]
 }
 
-pub(crate) fn size_table(mode: Mode) -> [u32; 24]
-    ensures { IsSizes mode result }
+pub(crate) fn high_of(k: usize) -> f32
+    requires { k < 8 }
+    ensures { result ≡ zone_high k }
+{
+    HIGH[k]
+}
+
+pub(crate) fn dead_of(k: usize) -> f32
+    requires { k < 8 }
+    ensures { result ≡ get_or dead_zone_table (k + 8) nan }
+{
+    DEAD[k]
+}
+
+pub(crate) fn most_of(k: usize) -> u32
+    requires { k < 8 }
+    ensures { result ≡ 8 * high_at k }
+{
+    MOST[k]
+}
+
+pub(crate) fn wide_of(k: usize) -> u32
+    requires { k < 8 }
+    ensures { result ≡ 8 * magnitude_bits (k + 8) }
+{
+    WIDE[k]
+}
+
+pub(crate) fn drop_of(mode: Mode, k: usize) -> u32
+    requires { k < 8 }
+    ensures { result ≡ zone_drop mode k }
 {
     match mode {
-        Mode::Rust => SIZES,
-        Mode::Held => HELD_SIZES,
+        Mode::Rust => DROP[k],
+        Mode::Held => 0,
     }
 }

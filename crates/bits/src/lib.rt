@@ -6,16 +6,15 @@ ghost use Rattle.bits.specs.Bits.{word_at};
 ghost use Rattle.bits.specs.Place.{field_at, look_at};
 
 // A bit place, counted from the first bit of the frame or part that it is used with.
-#[derive(Clone, Copy)]
+#[derive(Clone, Copy, Debug, PartialEq, Eq)]
 pub struct Place {
     pub at: usize,
 }
 
-// What reading a field finds: its value and the place after it, or that it would pass the end, with its first bit.
-#[derive(Clone, Copy)]
-pub enum Field {
-    Of(u32, Place),
-    Past(usize),
+// A field that passes the end, by its first bit.
+#[derive(Clone, Copy, Debug, PartialEq, Eq)]
+pub struct PastEnd {
+    pub at: usize,
 }
 
 // A number of n one bits.
@@ -38,13 +37,13 @@ fn low_bits(x: u32, n: u32) -> u32
 fn bits_before(at: usize) -> u32
     ensures { result ≡ at % 8 }
 {
-    (at & 7) as u32
+    (at % 8) as u32
 }
 
 fn byte_or_zero(s: &[u8], i: usize) -> u32
     ensures { (result ≡ get_or s.now i 0) × (result < 256) }
 {
-    if i < s.len() { s[i] as u32 } else { 0 }
+    s.get(i).copied().unwrap_or(0) as u32
 }
 
 // Three bytes as one number, the first byte highest; a byte past the end is 0.
@@ -66,17 +65,16 @@ impl Place {
         low_bits(window(part, at >> 3) >> below, bits)
     }
 
-    // The field of `bits` bits at this place of the part.
-    pub fn get(self, part: &[u8], bits: u32) -> Field
+    // The field of `bits` bits at this place of the part, with the place after it.
+    pub fn get(self, part: &[u8], bits: u32) -> Result<(u32, Place), PastEnd>
         requires { (bits ≤ 16) × (self.at < 2 ^ 60) }
         ensures { result ≡ field_at part.now self.at bits }
     {
         let at = self.at;
         let end = at + bits as usize;
         if part.len() < (end + 7) >> 3 {
-            return Field::Past(at);
+            return Err(PastEnd { at });
         }
-        let value = self.look(part, bits);
-        Field::Of(value, Place { at: end })
+        Ok((self.look(part, bits), Place { at: end }))
     }
 }

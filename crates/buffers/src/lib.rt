@@ -1,42 +1,39 @@
-// Clearing of lent buffers; the lesser of two numbers.
+// Clearing of lent buffers.
 #![tactic(auto)]
 
-ghost use Rattle.std.specs.Prelude.{◌≡◌, false, min, pos, length, replicate};
+ghost use Rattle.std.specs.Prelude.{◌≡◌, false, pos, length, replicate};
 ghost use Rattle.std.specs.Float.{fin};
 
-pub fn clear_u8(s: &mut [u8])
-    ensures { s.new ≡ replicate (length s.old) 0 }
-{
-    let mut i = 0;
-    while i < s.len() {
-        s[i] = 0;
-        i += 1;
-    }
+// A type of numbers, by its 0; of a float it is +0.0.
+pub trait Zero: Copy {
+    ghost ZERO: { Self };
+
+    const ZERO: Self;
 }
 
-// To +0.0.
-pub fn clear_f32(s: &mut [f32])
-    ensures { s.new ≡ replicate (length s.old) (fin false 0 (pos 0)) }
-{
-    let mut j = 0;
-    while j < s.len() {
-        s[j] = 0.0;
-        j += 1;
-    }
+impl Zero for u8 {
+    ghost ZERO = { 0 };
+
+    const ZERO: u8 = 0;
 }
 
-pub fn clear_i32(s: &mut [i32])
-    ensures { s.new ≡ replicate (length s.old) (pos 0) }
-{
-    let mut k = 0;
-    while k < s.len() {
-        s[k] = 0;
-        k += 1;
-    }
+impl Zero for i32 {
+    ghost ZERO = { pos 0 };
+
+    const ZERO: i32 = 0;
 }
 
-pub fn lesser(a: usize, b: usize) -> usize
-    ensures { result ≡ min a b }
+impl Zero for f32 {
+    ghost ZERO = { fin false 0 (pos 0) };
+
+    const ZERO: f32 = 0.0;
+}
+
+// To 0 throughout.
+pub fn clear<T: Zero>(s: &mut [T])
+    ensures { s.new ≡ replicate (length s.old) T.ZERO }
 {
-    if a < b { a } else { b }
+    for x in s {
+        *x = T::ZERO;
+    }
 }

@@ -2,41 +2,39 @@
 // bytes. make_vectors.py writes the messages, and what is to be printed, by a division bit by bit.
 #![tactic(auto)]
 
-ghost use Rattle.std.specs.Prelude.{◌<◌};
+ghost use Rattle.std.specs.Prelude.{◌<◌, length, IfSome};
 
-// C's number of the standard output.
-const STDOUT_FILENO: i32 = 1;
+use std::io;
+use std::io::Read;
 
-fn line(message: &[u8]) {
-    io::print_decimal(STDOUT_FILENO, message.len() as u64);
-    io::write_all(STDOUT_FILENO, b" ");
-    io::print_hex(STDOUT_FILENO, sealing::crc16_checksum(message) as u64, 4);
-    io::write_all(STDOUT_FILENO, b"\n");
-}
+// What is read of the input, in bytes.
+const LIMIT: u64 = 65_536;
 
-fn length_byte(byte: u8) -> usize
-    ensures { result < 256 }
+// The first message, and the input behind it; none where the input cuts it short.
+fn split_message(input: &[u8]) -> Option<(&[u8], &[u8])>
+    ensures { IfSome result (λ p. length p.1.now < length input.now) }
 {
-    byte as usize
+    let (&length, rest) = input.split_first_chunk()?;
+    rest.split_at_checked(usize::from(u16::from_be_bytes(length)))
 }
 
 // One message after the other. A message that the input cuts short is left out.
-fn messages(input: &[u8]) {
-    let mut at: usize = 0;
-    while input.len() - at >= 2 {
-        let n = length_byte(input[at]) * 256 + length_byte(input[at + 1]);
-        let start = at + 2;
-        if input.len() - start < n {
-            return;
-        }
-        let end = start + n;
-        line(&input[start..end]);
-        at = end;
+fn print_messages(rt: &impl Print, input: &[u8]) -> io::Result<()> {
+    let mut left = input;
+    while let Some((message, rest)) = split_message(left) {
+        println!(rt;
+            "{} {:04x}",
+            message.len(),
+            sealing::crc16_checksum(message)
+        )?;
+        left = rest;
     }
+    Ok(())
 }
 
-fn main() {
-    let mut buf = io::large_buffer();
-    let n = io::read_full(0, &mut buf);
-    messages(&buf[..n]);
+// Where it cannot read on it prints what it has read, and where it cannot print it stops; either way it ends as ever.
+fn main(rt: HostRuntime) {
+    let mut input = Vec::new(rt.alloc());
+    let _ = rt.reader().take(LIMIT).read_to_end(&mut input);
+    let _ = print_messages(&rt, &input);
 }

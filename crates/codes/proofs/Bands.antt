@@ -8,9 +8,12 @@ use native.Mathlib.Numerals.{add-one}
 use native.Mathlib.Omega.{arith}
 use lib.IntN.{ℤ, pos}
 use lib.Ieee.{Float}
-use lib.ListN.{length, drop, get_or, set, length-set}
+use lib.ListN.{length, drop, get_or, get_or-eq_default, set, length-set}
 use lib.Seq.{get_or-set_same, get_or-set_other, get_or-take, get_or-drop}
-use Rattle.buffers.specs.Walk.{sum_to}
+use Rattle.std.specs.Prelude.{sum}
+use Rattle.std.proofs.lemmas.List.Sums.{sum_by-le, get_or-le-sum_by}
+use Rattle.std.proofs.lemmas.List.Elements.{All-from_get_or}
+use Rattle.buffers.specs.Walk.{AtMost}
 use Rattle.buffers.proofs.Build.{build-of, length-build}
 use Rattle.buffers.proofs.Blocks.{length-blocks}
 use Rattle.rules.specs.Layout.{part}
@@ -139,9 +142,10 @@ codes-size m rs sc = length-blocks (subframe_codes m rs sc) 128 8 (λ s _. lengt
 abbrev pub codes_at : (mode : Mode) (resolutions : List ℕ) (scaled : List Float) (channel : ℕ) → List ℤ
 codes_at mode resolutions scaled channel = channel_codes mode (part 128 resolutions channel) (part 1024 scaled channel)
 
--- numbers whose sum is 0
-pub sum-none : (f : ℕ → ℕ) (n : ℕ) → sum_to f n ≡ 0 → (i : ℕ) → i < n → f i ≡ 0
-unfolding sum_to
-sum-none f zero e i h = absurd (omega arith)
-sum-none f (suc n) e i h =
-    ⊎_elim (λ (q : i ≡ n). rw q (omega arith)) (λ (l : i < n). sum-none f n (omega arith) i l) (eq-or-lt_of_le (le_of_suc-le-suc h))
+-- the sum of eight resolutions fits a byte, and where it is 0 each is
+pub sum_fits : (xs : List ℕ) → AtMost 15 xs → length xs ≡ 8 → sum xs < 256
+sum_fits xs h e = omega (arith, sum_by-le (λ x. x) 15 xs (All-from_get_or (λ x. x ≤ 15) xs 0 (λ i _. h i)))
+
+pub sum-none : (xs : List ℕ) → sum xs ≡ 0 → (i : ℕ) → get_or xs i 0 ≡ 0
+sum-none xs e i =
+    by_order i (length xs) (λ lt. omega (arith, get_or-le-sum_by (λ x. x) xs i 0 lt)) (λ ge. get_or-eq_default xs 0 ge)

@@ -64,9 +64,7 @@ pub(crate) fn band_codes(mode: Mode, resolution: u8, scaled: &[f32], band: usize
         codes.old }
 {
     let column = column_of(mode, resolution);
-    let mut s = 0;
-    while s < 8 {
+    for s in 0..8 {
         codes[s * 128 + band] = code_by(column, scaled[band * 8 + s]);
-        s += 1;
     }
 }

@@ -1,12 +1,8 @@
--- What the table of the checksum holds, and what one byte more makes of a checksum.
+-- What one byte more makes of a checksum.
 -- Definitions only.
-use Rattle.std.specs.Prelude.{◌≡◌, List, [], ◌∷◌, ℕ, ◌*◌, ◌/◌, ◌%◌, ◌^◌, ◌<◌, get_or}
+use Rattle.std.specs.Prelude.{List, [], ◌∷◌, ℕ, ◌*◌, ◌/◌, ◌%◌, ◌^◌}
 use Rattle.std.specs.Int.Bits.{bit_xor}
 use Rattle.crc.specs.Check.{checksum}
-
--- entry n is the checksum of the byte n
-pub record IsTable (t : List ℕ) : Type 0 where
-  pub rule : (n : ℕ) → n < 256 → get_or t n 0 ≡ checksum (n ∷ [])
 
 -- a message has the checksum `sum`: with `byte` behind it, this one
 abbrev pub fed : (sum byte : ℕ) → ℕ

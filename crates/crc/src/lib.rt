@@ -4,43 +4,31 @@
 
 ghost use Rattle.std.specs.Prelude.{◌≡◌, [], ◌∷◌};
 ghost use Rattle.crc.specs.Check.{checksum};
-ghost use Rattle.crc.specs.Table.{IsTable, fed, feed};
+ghost use Rattle.crc.specs.Table.{fed, feed};
 
 mod entries;
 
-// The table, with its rule. It is taken once and lent to each step: an array in a constant is written out anew wherever it is read.
-pub fn table() -> [u16; 256]
-    ensures { IsTable result }
-{
-    entries::CRC16_TABLE
-}
-
-// The checksum of the byte n.
-fn entry(table: &[u16; 256], n: u8) -> u16
-    requires { IsTable table.now }
+// The checksum of the byte n. A `static` is read where it lies; an array in a constant would be written out anew at each read.
+fn entry(n: u8) -> u16
     ensures { result ≡ checksum (n ∷ []) }
 {
-    table[n as usize]
+    entries::CRC16_TABLE[n as usize]
 }
 
 // The checksum with one byte more.
-fn crc16_step(table: &[u16; 256], sum: u16, byte: u8) -> u16
-    requires { IsTable table.now }
+fn crc16_step(sum: u16, byte: u8) -> u16
     ensures { result ≡ fed sum byte }
 {
-    (sum << 8) ^ entry(table, ((sum >> 8) as u8) ^ byte)
+    (sum << 8) ^ entry((sum >> 8) as u8 ^ byte)
 }
 
 // The checksum with these bytes more.
-pub fn crc16_feed(table: &[u16; 256], start: u16, bytes: &[u8]) -> u16
-    requires { IsTable table.now }
+pub fn crc16_feed(start: u16, bytes: &[u8]) -> u16
     ensures { result ≡ feed start bytes.now }
 {
     let mut sum = start;
-    let mut i: usize = 0;
-    while i < bytes.len() {
-        sum = crc16_step(table, sum, bytes[i]);
-        i += 1;
+    for &byte in bytes {
+        sum = crc16_step(sum, byte);
     }
     sum
 }

@@ -3,11 +3,13 @@
 -- Assumes nothing.
 use mathlib.Core.Path.{◌≡◌, refl, sym, ap, ap₂, ◌∙◌}
 use mathlib.Core.List.{List, [], ◌∷◌}
-use Prim.Native.Nat.{ℕ, suc, ◌+◌, ◌*◌, ◌/◌, ◌%◌, ◌^◌, ◌<◌}
+use Prim.Native.Nat.{ℕ, zero, suc, ◌+◌, ◌*◌, ◌/◌, ◌%◌, ◌^◌, ◌<◌}
+use native.Mathlib.Nat.{zero-mul, suc-mul, not-suc-le-zero, le_of_suc-le-suc}
 use native.Mathlib.Omega.{arith}
 use lib.Bits.{bit_xor, xor_zero_r, xor_shr, xor_mod}
 use lib.ListN.{length, get_or, take, drop, drop_of_length-le, replicate}
-use lib.Seq.{drop-cons, take-add}
+use lib.Seq.{drop-cons, drop-drop, take-add}
+use Rattle.std.specs.Simd.{first_chunks}
 use Rattle.crc.specs.Check.{checksum}
 use Rattle.crc.specs.Table.{fed, feed}
 use Rattle.crc.proofs.Laws.{byte_xor, checksum-feed, feed-append}
@@ -80,3 +82,11 @@ feed_eight s l hs h =
 
 pub feed-part : (s : ℕ) (l : List ℕ) (i j : ℕ) → feed (feed s (take i l)) (take j (drop i l)) ≡ feed s (take (i + j) l)
 feed-part s l i j = sym (ap (feed s) (take-add i j l) ∙ feed-append s (take i l) (take j (drop i l)))
+
+-- part i of those of n elements each
+pub part-at : (n k i : ℕ) (xs : List ℕ) → i < k → get_or (first_chunks n k xs) i [] ≡ take n (drop (i * n) xs)
+part-at n zero i xs h = absurd (not-suc-le-zero h)
+part-at n (suc k) zero xs h = rw zero-mul refl
+part-at n (suc k) (suc i) xs h =
+    let place : n + i * n ≡ suc i * n = omega (arith, suc-mul i n) in
+    part-at n k i (drop n xs) (le_of_suc-le-suc h) ∙ ap (take n) (drop-drop (i * n) n xs ∙ ap (λ (m : ℕ). drop m xs) place)

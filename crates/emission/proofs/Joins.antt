@@ -1,8 +1,7 @@
 -- Fields joined in one number, by shifts; the bits that wait brought to the top of a number of 64.
 -- Assumes nothing.
 use mathlib.Core.Path.{◌≡◌, refl, sym, ap, ◌∙◌}
-use mathlib.Core.List.{List, [], ◌∷◌, ◌++◌}
-use mathlib.Core.Bool.{Bool, false}
+use mathlib.Core.List.{◌++◌}
 use Prim.Native.Nat.{ℕ, zero, suc, ◌+◌, ◌-◌, ◌*◌, ◌/◌, ◌%◌, ◌^◌, ◌≤◌, ◌<◌}
 use native.Mathlib.Nat.{mul_assoc, mul-mod_left, add-mul, one-mul, add-zero, zero-div, mul-le-mul_right}
 use native.Mathlib.Omega.{arith}

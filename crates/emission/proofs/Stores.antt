@@ -1,34 +1,44 @@
 -- The eight bytes, stored one after the other.
 -- Assumes nothing.
-use mathlib.Core.Path.{◌≡◌, refl, ◌∙◌}
-use mathlib.Core.List.{List}
+use mathlib.Core.Path.{◌≡◌, refl, sym, ap, ◌∙◌}
+use mathlib.Core.List.{List, ◌++◌}
 use mathlib.Core.Logic.{◌⊎◌, inl, inr}
-use native.Mathlib.Nat.{eq-or-lt_of_le}
-use Prim.Native.Nat.{ℕ, ◌+◌, ◌-◌, ◌*◌, ◌/◌, ◌%◌, ◌^◌, ◌≤◌, ◌<◌}
+use native.Mathlib.Nat.{eq-or-lt_of_le, div-one}
+use Prim.Native.Nat.{ℕ, zero, suc, ◌+◌, ◌-◌, ◌*◌, ◌/◌, ◌%◌, ◌^◌, ◌≤◌, ◌<◌}
 use native.Mathlib.Omega.{arith}
-use lib.ListN.{length, get_or, set, length-set}
-use lib.Seq.{get_or-set_same, get_or-set_other}
+use lib.ListN.{length, get_or, take, drop, set, length-set, length-append, length-drop, get_or-append}
+use lib.Seq.{length-take-le, get_or-take, get_or-append-add, get_or-set_same, get_or-set_other}
+use Rattle.std.specs.Int.{to_be_bytes, w64}
 use Rattle.emission.specs.Run.{Stored}
 
-pub stored-none : (s : List ℕ) (at w : ℕ) → Stored 0 s at w s
-stored-none s at w = record { same = refl; before = λ k h. refl; bytes = λ j h g. absurd (omega arith) }
+-- byte j of a number of 64 bits, the highest first
+pub be_byte : (w j : ℕ) → j < 8 → get_or (to_be_bytes w64 w) j 0 ≡ w / 2 ^ (56 - 8 * j) % 2 ^ 8
+be_byte w zero h = refl
+be_byte w (suc zero) h = refl
+be_byte w (suc (suc zero)) h = refl
+be_byte w (suc (suc (suc zero))) h = refl
+be_byte w (suc (suc (suc (suc zero)))) h = refl
+be_byte w (suc (suc (suc (suc (suc zero))))) h = refl
+be_byte w (suc (suc (suc (suc (suc (suc zero)))))) h = refl
+be_byte w (suc (suc (suc (suc (suc (suc (suc zero))))))) h = rw div-one refl
+be_byte w (suc (suc (suc (suc (suc (suc (suc (suc j)))))))) h = absurd (omega arith)
 
-module _ {s : List ℕ} {at w m : ℕ} {s' : List ℕ} (d : Stored m s at w s') where
-  -- one more
-  pub stored_more : (b : ℕ) → b ≡ w / 2 ^ (56 - 8 * m) % 2 ^ 8 → Stored (m + 1) s at w (set s' (at + m) b)
-  stored_more b e = record {
-    same = length-set s' (at + m) b ∙ d.same;
-    before = λ k h. get_or-set_other s' (at + m) k b 0 (omega arith) ∙ d.before k h;
-    bytes = λ j h g. byte j h g (eq-or-lt_of_le (omega arith));
-  }
-    where
-      byte : (j : ℕ) → j < m + 1 → at + j < length s → (j ≡ m) ⊎ (j < m) → get_or (set s' (at + m) b) (at + j) 0 ≡ w / 2 ^ (56 - 8 * j) % 2 ^ 8
-      byte j h g (inr l) = get_or-set_other s' (at + m) (at + j) b 0 (omega arith) ∙ d.bytes j l g
-      byte j h g (inl q) = rw q (get_or-set_same s' (at + m) b 0 (omega (arith, d.same)) ∙ e)
-
-  -- one more past the end
-  pub stored_past : length s ≤ at + m → Stored (m + 1) s at w s'
-  stored_past h = record { same = d.same; before = d.before; bytes = λ j g k. d.bytes j (omega arith) k }
+-- n bytes put over those from byte `at` on
+pub stored_part : {s : List ℕ} {at w : ℕ} (n : ℕ) (bs : List ℕ) → at + n ≤ length s → length bs ≡ n
+    → ((j : ℕ) → j < 8 → at + j < length s → (j < n) × (get_or bs j 0 ≡ w / 2 ^ (56 - 8 * j) % 2 ^ 8))
+    → Stored 8 s at w (take at s ++ (bs ++ drop n (drop at s)))
+stored_part {s} {at} {w} n bs h long part =
+    let l : length (take at s) ≡ at = length-take-le at s (omega arith) in
+    let r : List ℕ = drop n (drop at s) in
+    record {
+      same = simp (length-append, length-drop) (omega (arith, l, long));
+      before = λ k g. get_or-append (take at s) (bs ++ r) 0 k (rw l g) ∙ get_or-take at s k 0 g;
+      bytes = λ j g i.
+          ap (λ (m : ℕ). get_or (take at s ++ (bs ++ r)) (m + j) 0) (sym l)
+          ∙ get_or-append-add (take at s) (bs ++ r) j 0
+          ∙ get_or-append bs r 0 j (rw long (part j g i).0)
+          ∙ (part j g i).1;
+    }
 
 -- ---- clearing
 

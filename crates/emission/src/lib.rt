@@ -1,7 +1,7 @@
 // Bit fields, high bit first, gathered in a number and stored eight bytes at a time into a lent frame.
 #![tactic(auto)]
 
-ghost use Rattle.std.specs.Prelude.{◌≡◌, ◌++◌, ℕ, ◌+◌, ◌*◌, ◌/◌, ◌%◌, ◌^◌, ◌<◌, ◌≤◌, length, take};
+ghost use Rattle.std.specs.Prelude.{◌≡◌, ◌++◌, ℕ, ◌+◌, ◌*◌, ◌/◌, ◌%◌, ◌^◌, ◌<◌, ◌≤◌, length};
 ghost use Rattle.bits.specs.Bits.{bits};
 ghost use Rattle.emission.specs.Run.{Stored, Flushes, Emits, Closes, Fits, Joined, AllFit, field_bits};
 
@@ -20,44 +20,17 @@ pub struct Piece {
     pub length: u32,
 }
 
-fn byte_of(w: u64, k: u32) -> u8
-    requires { k < 64 }
-    ensures { result ≡ w / 2 ^ k % 2 ^ 8 }
-{
-    ((w >> k) & 255) as u8
-}
-
-// Near the end, byte by byte.
-fn store_last(payload: &mut [u8], at: usize, w: u64)
-    requires { at < 2 ^ 60 }
-    ensures { Stored 8 payload.old at w payload.new }
-{
-    let mut i: usize = 0;
-    while i < 8 {
-        let k = at + i;
-        if k < payload.len() {
-            payload[k] = byte_of(w, 56 - 8 * (i as u32));
-        }
-        i += 1;
-    }
-}
-
 // The eight bytes of w from byte `at` on, the highest first, as far as the payload reaches: one store where all eight are within it.
 fn store(payload: &mut [u8], at: usize, w: u64)
     requires { at < 2 ^ 60 }
     ensures { Stored 8 payload.old at w payload.new }
 {
+    let bytes = w.to_be_bytes();
     if at + 8 <= payload.len() {
-        payload[at] = byte_of(w, 56);
-        payload[at + 1] = byte_of(w, 48);
-        payload[at + 2] = byte_of(w, 40);
-        payload[at + 3] = byte_of(w, 32);
-        payload[at + 4] = byte_of(w, 24);
-        payload[at + 5] = byte_of(w, 16);
-        payload[at + 6] = byte_of(w, 8);
-        payload[at + 7] = byte_of(w, 0);
-    } else {
-        store_last(payload, at, w);
+        payload[at..at + 8].copy_from_slice(&bytes);
+    } else if at < payload.len() {
+        let room = payload.len() - at;
+        payload[at..].copy_from_slice(&bytes[..room]);
     }
 }
 
@@ -134,16 +107,17 @@ impl Run {
         self.put_wide(payload, value, p.length + q.length)
     }
 
-    // n fields, a multiple of 4.
-    pub fn put_all(self, payload: &mut [u8], words: &[u32], lengths: &[u32], n: usize) -> Run
-        requires n_value { (n % 4 ≡ 0) × (n ≤ length lengths.now) × (n ≤ length words.now) × (n < 2 ^ 56) × (self.n ≤ 7) × (self.at < 2 ^ 59) }
-        requires all_fit { AllFit 12 lengths.now words.now n }
-        ensures { Emits self payload.old (field_bits (take n lengths.now) (take n words.now)) result payload.new
-            × (8 * result.at + result.n ≤ 8 * self.at + self.n + 12 * n) }
+    // A row of fields, a multiple of 4, as columns of words and of lengths.
+    pub fn put_all(self, payload: &mut [u8], words: &[u32], lengths: &[u32]) -> Run
+        requires words_len { (length words.now % 4 ≡ 0) × (length lengths.now ≡ length words.now) × (length words.now < 2 ^ 56) }
+        requires place { (self.n ≤ 7) × (self.at < 2 ^ 59) }
+        requires all_fit { AllFit 12 lengths.now words.now (length words.now) }
+        ensures { Emits self payload.old (field_bits lengths.now words.now) result payload.new
+            × (8 * result.at + result.n ≤ 8 * self.at + self.n + 12 * length words.now) }
     {
         let mut run = self;
-        let mut i: usize = 0;
-        while i < n {
+        for four in 0..words.len() / 4 {
+            let i = four * 4;
             let a = Piece {
                 word: words[i],
                 length: lengths[i],
@@ -161,7 +135,6 @@ impl Run {
                 length: lengths[i + 3],
             };
             run = run.put_four(payload, a, b, c, d);
-            i += 4;
         }
         run
     }
@@ -172,10 +145,8 @@ impl Run {
         ensures { Closes self payload.old result payload.new }
     {
         let count = self.at * 8 + self.n as usize;
-        let mut i = (count + 7) >> 3;
-        while i < payload.len() {
+        for i in (count + 7) >> 3..payload.len() {
             payload[i] = 0;
-            i += 1;
         }
         count
     }

@@ -33,13 +33,10 @@ pub fn calculate_frame_header_length(layout: Layout, factors: &[u8]) -> usize
     requires factors_len { length factors.now ≡ factor_length layout }
     ensures { (result ≡ fixed_bits layout factors.now) × (result ≤ 13152) }
 {
-    let channels = layout.channels;
     let mut sum: usize = 0;
-    let mut c = 0;
-    while c < channels {
+    for c in 0..layout.channels {
         let f = c * 128;
         sum += channel_header(layout, c, &factors[f..f + 128]);
-        c += 1;
     }
     48 + sum
 }

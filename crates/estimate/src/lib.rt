@@ -7,11 +7,12 @@ pub mod fixed_part;
 
 ghost use Rattle.std.specs.Prelude.{◌≡◌, ◌+◌, ◌*◌, ◌≤◌, ◌<◌, length};
 ghost use Rattle.buffers.specs.Walk.{AtMost};
-ghost use Rattle.rules.specs.Layout.{LegalLayout, spectrum_length, factor_length};
+ghost use Rattle.rules.specs.Layout.{factor_length};
 ghost use Rattle.rules.specs.Resolution.{resolution};
 ghost use Rattle.rules.specs.Estimate.{band_bits, channel_bits, fixed_bits, spectral_bits, used_bits};
 ghost use Rattle.resolutions.specs.Stretched.{IsStretched, place_of, Placed};
-ghost use Rattle.band_counts.specs.Counts.{BandCounted, ChannelCounted, Counted};
+ghost use Rattle.band_counts.specs.Counts.{BandCounted, ChannelCounted};
+ghost use Rattle.estimate.specs.Probe.{ProbeFits};
 
 use band_counts::taken;
 use layouts::coded_count;
@@ -82,72 +83,56 @@ pub fn channel_bits(
         ≡ channel_bits layout scaled.now factors.now to noise 0) × (result + 96 * from ≤ 96 * to) }
 {
     let mut sum: usize = 0;
-    let mut b = from;
-    while b < to {
+    for b in from..to {
         sum += band_bits_at(
             layout, curve, scaled, counts, b, factors[b], places[b], noise,
         );
-        b += 1;
     }
     sum
 }
 
+// What every probe of a frame reads: the layout and its noise curve, the scaled values with the counts of their bands, and the factors.
+#[derive(Clone, Copy)]
+pub struct Probe<'a> {
+    pub layout: Layout,
+    pub curve: &'a [u8; 688],
+    pub scaled: &'a [f32],
+    pub counts: &'a [i32],
+    pub factors: &'a [u8],
+}
+
 // At boundary 0 every band has the level's noise.
-fn spectral_total(
-    layout: Layout,
-    curve: &[u8; 688],
-    scaled: &[f32],
-    counts: &[i32],
-    factors: &[u8],
-    places: &[u16],
-    level: usize,
-) -> usize
-    requires legal_layout { LegalLayout layout }
-    requires stretched { IsStretched layout curve.now × Counted layout scaled.now counts.now × AtMost 63 factors.now }
-    requires scaled_len { (length scaled.now ≡ spectrum_length layout) × (length factors.now ≡ factor_length layout) × (level ≤ 254) }
-    requires places_len { (length places.now ≡ factor_length layout) × Placed (factor_length layout) factors.now places.now }
-    ensures { (result ≡ spectral_bits layout scaled.now factors.now level 0) × (result ≤ 196608) }
+fn spectral_total(probe: Probe, places: &[u16], level: usize) -> usize
+    requires probe_fits { ProbeFits probe × (level ≤ 254) }
+    requires places_len { (length places.now ≡ factor_length probe.layout) × Placed (factor_length probe.layout) probe.factors.now places.now }
+    ensures { (result ≡ spectral_bits probe.entry.layout probe.entry.scaled.now probe.entry.factors.now level 0) × (result ≤ 196608) }
 {
-    let channels = layout.channels;
     let mut sum: usize = 0;
-    let mut c = 0;
-    while c < channels {
-        let coded = coded_count(layout, c);
+    for c in 0..probe.layout.channels {
+        let coded = coded_count(probe.layout, c);
         let a = c * 1024;
         let f = c * 128;
         sum += channel_bits(
-            layout,
-            curve,
-            &scaled[a..a + 1024],
-            &counts[a..a + 1024],
-            &factors[f..f + 128],
+            probe.layout,
+            probe.curve,
+            &probe.scaled[a..a + 1024],
+            &probe.counts[a..a + 1024],
+            &probe.factors[f..f + 128],
             &places[f..f + 128],
             0,
             coded,
             level,
         );
-        c += 1;
     }
     sum
 }
 
 // The bits of a level at boundary 0, the fixed part being known.
-pub fn calculate_used_bits(
-    layout: Layout,
-    curve: &[u8; 688],
-    scaled: &[f32],
-    counts: &[i32],
-    factors: &[u8],
-    places: &[u16],
-    fixed: usize,
-    level: usize,
-) -> usize
-    requires legal_layout { LegalLayout layout }
-    requires stretched { IsStretched layout curve.now × Counted layout scaled.now counts.now × AtMost 63 factors.now }
-    requires scaled_len { (length scaled.now ≡ spectrum_length layout) × (length factors.now ≡ factor_length layout) }
-    requires fixed_value { (fixed ≡ fixed_bits layout factors.now) × (fixed ≤ 13152) × (level ≤ 254) }
-    requires places_len { (length places.now ≡ factor_length layout) × Placed (factor_length layout) factors.now places.now }
-    ensures { result ≡ used_bits layout scaled.now factors.now level 0 }
+pub fn calculate_used_bits(probe: Probe, places: &[u16], fixed: usize, level: usize) -> usize
+    requires probe_fits { ProbeFits probe }
+    requires fixed_value { (fixed ≡ fixed_bits probe.layout probe.factors.now) × (fixed ≤ 13152) × (level ≤ 254) }
+    requires places_len { (length places.now ≡ factor_length probe.layout) × Placed (factor_length probe.layout) probe.factors.now places.now }
+    ensures { result ≡ used_bits probe.entry.layout probe.entry.scaled.now probe.entry.factors.now level 0 }
 {
-    fixed + spectral_total(layout, curve, scaled, counts, factors, places, level)
+    fixed + spectral_total(probe, places, level)
 }

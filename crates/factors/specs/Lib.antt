@@ -1,4 +1,3 @@
-pub mod Scaling
 pub mod Guess
 pub mod Finite
 pub mod Top

@@ -1,28 +1,27 @@
 // Scale factors: document 01, **Scale factor**.
 #![tactic(auto)]
 
-ghost use Rattle.std.specs.Prelude.{◌≡◌, ◌++◌, ◌+◌, ◌≤◌, ◌<◌, T, length, get_or, drop};
+ghost use Rattle.std.specs.Prelude.{◌≡◌, ◌++◌, ◌+◌, ◌≤◌, ◌<◌, length, get_or, drop};
 ghost use Rattle.std.specs.Float.{nan};
-ghost use Rattle.std.specs.Float.Ieee.Scale.{finite};
 ghost use Rattle.buffers.specs.Walk.{build};
-ghost use Rattle.floats.specs.Single.{abs_f};
 ghost use Rattle.rules.specs.Layout.{LegalLayout, spectrum_length, factor_length};
+ghost use Rattle.rules.specs.Tables.{scaling_table};
 ghost use Rattle.rules.specs.Factor.{factor_of, peak_of, channel_factors, all_factors};
-ghost use Rattle.factors.specs.Scaling.{IsScaling};
 ghost use Rattle.factors.specs.Guess.{guess_of};
 ghost use Rattle.factors.specs.Finite.{AllFinite};
 ghost use Rattle.factors.specs.Top.{Top};
 
-use floats::larger;
+use floats::{larger, size};
 use rules::Layout;
 
 mod numbers;
 
-// The table, with its rule. It is taken once and lent down: an array in a constant is written out anew wherever it is read.
-pub fn scaling_table() -> [f32; 64]
-    ensures { IsScaling result }
+// An entry of DEQUANTIZER_SCALING_TABLE, which is a `static`: it is read where it lies, and no call takes it along.
+pub fn scaling_entry(factor: usize) -> f32
+    requires { factor < 64 }
+    ensures { result ≡ get_or scaling_table factor nan }
 {
-    numbers::DEQUANTIZER_SCALING_TABLE
+    numbers::DEQUANTIZER_SCALING_TABLE[factor]
 }
 
 // A value's factor, or one less, from its bits.
@@ -30,36 +29,26 @@ fn guess(bits: u32) -> usize
     requires { 0x3415_3066 ≤ bits }
     ensures { (result ≡ guess_of bits) × (result ≤ 62) }
 {
-    let far: u64 = (bits - 0x3415_3066) as u64;
-    let g: u64 = (far * 1237) >> 32;
-    if g < 62 { g as usize } else { 62 }
+    let far = u64::from(bits - 0x3415_3066);
+    ((far * 1237) >> 32).min(62) as usize
 }
 
 // The number of the table's first 63 entries that are at most the value: guessed from the bits, and
 // one comparison. What is below the table, or a NaN, is brought to the float before its first entry.
-pub fn find_scale_factor(table: &[f32; 64], value: f32) -> u8
-    requires { IsScaling table.now }
+pub fn find_scale_factor(value: f32) -> u8
     ensures { (result ≡ factor_of value) × (result ≤ 63) }
 {
     let v = larger(f32::from_bits(0x342A_8D25), value);
     let g = guess(f32::to_bits(v));
-    if table[g] <= v {
+    if scaling_entry(g) <= v {
         (g + 1) as u8
     } else {
         g as u8
     }
 }
 
-// |x| of a finite value, by its bits. `floats::magnitude` would test each x for a NaN.
-fn size(x: f32) -> f32
-    requires { T (finite x) }
-    ensures { result ≡ abs_f x }
-{
-    let bits: u32 = f32::to_bits(x);
-    f32::from_bits(bits % 0x8000_0000)
-}
-
-// The largest magnitude of two subframes, of four, and of a band's eight: by pairs, with no test for a NaN, so that a loop over bands takes four at a time.
+// The largest magnitude of two subframes, of four, and of a band's eight: by pairs, with no test for a NaN (`floats::magnitude` has one), so that a loop over
+// bands takes four at a time.
 fn top_of_two(spectra: &[f32], i: usize) -> f32
     requires all_finite { AllFinite spectra.now }
     requires i_in_bounds { i + 128 < length spectra.now }
@@ -84,69 +73,52 @@ fn top_of(spectra: &[f32], b: usize) -> f32
     larger(top_of_four(spectra, b), top_of_four(spectra, b + 512))
 }
 
-// The tops of the first n bands.
-fn fill_tops(spectra: &[f32], n: usize, tops: &mut [f32])
+// The tops of the first bands, as many as are asked for.
+fn fill_tops(spectra: &[f32], tops: &mut [f32])
     requires all_finite { AllFinite spectra.now }
-    requires spectra_len { (length spectra.now ≡ 1024) × (n ≤ 128) × (n ≤ length tops.old) }
-    ensures { tops.new ≡ build (peak_of spectra.now) n ++ drop n tops.old }
+    requires spectra_len { (length spectra.now ≡ 1024) × (length tops.old ≤ 128) }
+    ensures { tops.new ≡ build (peak_of spectra.now) (length tops.old) }
 {
-    let mut b = 0;
-    while b < n {
-        tops[b] = top_of(spectra, b);
-        b += 1;
+    for (b, top) in tops.iter_mut().enumerate() {
+        *top = top_of(spectra, b);
     }
 }
 
 // Their factors.
-fn factors_of(table: &[f32; 64], tops: &[f32], n: usize, factors: &mut [u8])
-    requires scaling { IsScaling table.now }
-    requires n_in_bounds { (n ≤ length tops.now) × (n ≤ length factors.old) }
-    ensures { factors.new ≡ build (λ b. factor_of (get_or tops.now b nan)) n ++ drop n factors.old }
+fn factors_of(tops: &[f32], factors: &mut [u8])
+    requires { length tops.now ≡ length factors.old }
+    ensures { factors.new ≡ build (λ b. factor_of (get_or tops.now b nan)) (length factors.old) }
 {
-    let mut b = 0;
-    while b < n {
-        factors[b] = find_scale_factor(table, tops[b]);
-        b += 1;
+    for (b, factor) in factors.iter_mut().enumerate() {
+        *factor = find_scale_factor(tops[b]);
     }
 }
 
 // A channel's 128 factors, of its 1,024 spectra.
-fn channel_factors(table: &[f32; 64], spectra: &[f32], coded: usize, factors: &mut [u8])
+fn channel_factors(spectra: &[f32], coded: usize, factors: &mut [u8])
     requires all_finite { AllFinite spectra.now }
-    requires scaling { IsScaling table.now }
     requires spectra_len { (length spectra.now ≡ 1024) × (length factors.old ≡ 128) × (coded ≤ 128) }
     ensures { factors.new ≡ channel_factors spectra.now coded }
 {
     let mut tops = [0.0f32; 128];
-    fill_tops(spectra, coded, &mut tops);
-    factors_of(table, &tops, coded, factors);
-    buffers::clear_u8(&mut factors[coded..]);
+    fill_tops(spectra, &mut tops[..coded]);
+    factors_of(&tops[..coded], &mut factors[..coded]);
+    buffers::clear(&mut factors[coded..]);
 }
 
-pub fn calculate_scale_factors(
-    layout: Layout,
-    table: &[f32; 64],
-    spectra: &[f32],
-    factors: &mut [u8],
-)
+pub fn calculate_scale_factors(layout: Layout, spectra: &[f32], factors: &mut [u8])
     requires legal_layout { LegalLayout layout }
     requires all_finite { AllFinite spectra.now }
-    requires scaling { IsScaling table.now }
     requires spectra_len { (length spectra.now ≡ spectrum_length layout) × (length factors.old ≡ factor_length layout) }
     ensures { factors.new ≡ all_factors layout spectra.now }
 {
-    let channels = layout.channels;
-    let mut c = 0;
-    while c < channels {
-        let coded = layouts::coded_count(layout, c);
+    for c in 0..layout.channels {
         let a = c * 1024;
         let f = c * 128;
         channel_factors(
-            table,
             &spectra[a..a + 1024],
-            coded,
+            layouts::coded_count(layout, c),
             &mut factors[f..f + 128],
         );
-        c += 1;
     }
 }

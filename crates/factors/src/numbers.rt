@@ -1,5 +1,5 @@
 // DEQUANTIZER_SCALING_TABLE, as decimals that round to document 01's patterns.
-pub const DEQUANTIZER_SCALING_TABLE: [f32; 64] = [
+pub(crate) static DEQUANTIZER_SCALING_TABLE: [f32; 64] = [
     1.5883833e-7,
     2.1164136e-7,
     2.8199784e-7,

@@ -6,11 +6,12 @@ use Prim.Native.Nat.{ℕ, ◌-◌, ◌≤◌, ◌<◌}
 use native.Mathlib.Omega.{arith}
 use borrow.Author.Tests.{lt-ltb, le-ltb}
 use lib.ListN.{length, take, drop, replicate}
+use Rattle.std.specs.Prelude.{Ok, Err}
 use Rattle.crc.specs.Sealed.{body, sealed}
 use Rattle.rules.specs.Layout.{legal_layout}
 use Rattle.rules.specs.declared.Layout.{Layout}
 use Rattle.rules_files.specs.declared.header.Stream.{Stream}
-use Rattle.rules_files.specs.declared.header.HeaderAnswer.TheVariants.{Delivered, BadLayout, ShortBuffer, BadHeader}
+use Rattle.rules_files.specs.declared.header.HeaderRefusal.TheVariants.{BadLayout, ShortBuffer, BadHeader}
 use Rattle.rules_files.specs.FileHeader.{pieces, stamped, header_of, fits_header, header_outcome, header_left, write_header}
 use Rattle.rules_files.proofs.Pieces.{stamped-length, header-within, header-body}
 use Rattle.rules_files.proofs.HeaderTheorems.{header-bytes}
@@ -27,21 +28,21 @@ module _ (l : Layout) (st : Stream) where
       closed ∙ ap sealed (ap (λ (n : ℕ). take n u) k ∙ ap (take 94) e ∙ header-body l st)
 
 module _ (l : Layout) (st : Stream) (h : List ℕ) where
-  pub gate-layout : legal_layout l ≡ false → header_left BadLayout h ≡ write_header l st h
+  pub gate-layout : legal_layout l ≡ false → header_left (Err BadLayout) h ≡ write_header l st h
   unfolding write_header header_outcome
   gate-layout e = rw e
 
   module _ (e : legal_layout l ≡ true) where
-    pub gate-short : length h < 96 → header_left ShortBuffer h ≡ write_header l st h
+    pub gate-short : length h < 96 → header_left (Err ShortBuffer) h ≡ write_header l st h
     unfolding write_header header_outcome
     gate-short g = rw (e, lt-ltb _ _ g)
 
     module _ (g : 96 ≤ length h) where
-      pub gate_unfit : fits_header l st ≡ false → header_left BadHeader h ≡ write_header l st h
+      pub gate_unfit : fits_header l st ≡ false → header_left (Err BadHeader) h ≡ write_header l st h
       unfolding write_header header_outcome
       gate_unfit f = rw (e, le-ltb _ _ g, f)
 
       -- a longer buffer's rest stays
-      pub header-done : fits_header l st ≡ true → (new : List ℕ) → new ≡ header_of l st → header_left Delivered (new ++ drop 96 h) ≡ write_header l st h
+      pub header-done : fits_header l st ≡ true → (new : List ℕ) → new ≡ header_of l st → header_left (Ok tt) (new ++ drop 96 h) ≡ write_header l st h
       unfolding write_header header_outcome
       header-done f new q = rw (e, le-ltb _ _ g, f, (header-bytes l st).0, q)

@@ -21,8 +21,7 @@ pub fn channel_config(channels: usize) -> u8
 }
 
 // `HCA\0`, version 0x0200, size.
-pub fn put_magic(header: &mut [u8])
-    requires { length header.old ≡ 96 }
+pub fn put_magic(header: &mut [u8; 96])
     ensures { header.new ≡ stamped magic_pieces header.old }
 {
     put_high(header, 0, 4, 0x4843_4100);
@@ -31,8 +30,7 @@ pub fn put_magic(header: &mut [u8])
 }
 
 // `fmt\0`.
-pub fn put_format(channels: usize, stream: Stream, header: &mut [u8])
-    requires { length header.old ≡ 96 }
+pub fn put_format(channels: usize, stream: Stream, header: &mut [u8; 96])
     ensures { header.new ≡ stamped (format_pieces channels stream) header.old }
 {
     put_high(header, 8, 4, 0x666D_7400);
@@ -44,8 +42,7 @@ pub fn put_format(channels: usize, stream: Stream, header: &mut [u8])
 }
 
 // `comp`, to the track count.
-pub fn put_frame(layout: Layout, header: &mut [u8])
-    requires { length header.old ≡ 96 }
+pub fn put_frame(layout: Layout, header: &mut [u8; 96])
     ensures { header.new ≡ stamped (frame_pieces layout) header.old }
 {
     put_high(header, 24, 4, 0x636F_6D70);
@@ -56,9 +53,9 @@ pub fn put_frame(layout: Layout, header: &mut [u8])
 }
 
 // The rest of `comp`.
-pub fn put_bands(layout: Layout, header: &mut [u8])
+pub fn put_bands(layout: Layout, header: &mut [u8; 96])
     requires legal_layout { LegalLayout layout }
-    requires channels_bound { (layout.channels ≤ 8) × (length header.old ≡ 96) }
+    requires channels_bound { layout.channels ≤ 8 }
     ensures { header.new ≡ stamped (band_pieces layout) header.old }
 {
     let config = channel_config(layout.channels);
@@ -70,8 +67,7 @@ pub fn put_bands(layout: Layout, header: &mut [u8])
     put_high(header, 37, 1, per_group as u64);
 }
 
-fn put_fields(fields: LoopFields, header: &mut [u8])
-    requires { length header.old ≡ 96 }
+fn put_fields(fields: LoopFields, header: &mut [u8; 96])
     ensures { header.new ≡ stamped (field_pieces fields) header.old }
 {
     put_high(header, 40, 4, 0x6C6F_6F70);
@@ -82,21 +78,20 @@ fn put_fields(fields: LoopFields, header: &mut [u8])
 }
 
 // `loop`, where there is one; answers where the next chunk stands.
-pub fn put_loop(points: LoopPoints, header: &mut [u8]) -> usize
-    requires { (length header.old ≡ 96) × PointsFit points }
+pub fn put_loop(points: Option<LoopPoints>, header: &mut [u8; 96]) -> usize
+    requires { PointsFit points }
     ensures { (result ≡ after_loop points) × (result ≤ 56) × (header.new ≡ stamped (loop_pieces points) header.old) }
 {
-    let LoopPoints::Given(start, end) = points else {
+    let Some(points) = points else {
         return 40;
     };
-    let fields = loop_fields(start, end);
-    put_fields(fields, header);
+    put_fields(loop_fields(points), header);
     56
 }
 
 // `ciph` with type 0, and `pad\0`.
-pub fn put_tail(at: usize, header: &mut [u8])
-    requires { (at ≤ 56) × (length header.old ≡ 96) }
+pub fn put_tail(at: usize, header: &mut [u8; 96])
+    requires { at ≤ 56 }
     ensures { header.new ≡ stamped (tail_pieces at) header.old }
 {
     put_high(header, at, 4, 0x6369_7068);

@@ -17,90 +17,70 @@ ghost use Rattle.rules.specs.Layout.{LegalLayout};
 ghost use Rattle.rules_files.specs.FileHeader.{pieces, stamped, header_of, fits_points, fits_header, HeaderFits, header_left, write_header};
 
 use crate::chunks::{put_bands, put_format, put_frame, put_loop, put_magic, put_tail};
-use buffers::clear_u8;
+use buffers::clear;
 use layouts::legal;
 use rules::Layout;
-use rules_files::header::{HeaderAnswer, LoopPoints, Stream};
+use rules_files::header::{HeaderRefusal, LoopPoints, Stream};
 use sealing::seal;
 
 // Does each point keep to 32 bits when 128 is added?
-fn fits_points(points: LoopPoints) -> bool
+fn fits_points(points: Option<LoopPoints>) -> bool
     ensures { result ≡ fits_points points }
 {
-    let LoopPoints::Given(start, end) = points else {
+    let Some(points) = points else {
         return true;
     };
-    if 4294967167 < start {
-        return false;
-    }
-    if 4294967167 < end {
-        return false;
-    }
-    true
+    points.start <= 4294967167 && points.end <= 4294967167
 }
 
 // Does every number fit its field?
 fn fits_header(layout: Layout, stream: Stream) -> bool
     ensures { result ≡ fits_header layout stream }
 {
-    if 8 < layout.channels {
-        return false;
-    }
-    if stream.rate < 1 {
-        return false;
-    }
-    if 0x7F_FFFF < stream.rate {
-        return false;
-    }
-    if 0xFFFF_FFFF < stream.frames {
-        return false;
-    }
-    if 0xFFFF < stream.padding {
-        return false;
-    }
-    let points = stream.points;
-    fits_points(points)
+    layout.channels <= 8
+        && 1 <= stream.rate
+        && stream.rate <= 0x7F_FFFF
+        && stream.frames <= 0xFFFF_FFFF
+        && stream.padding <= 0xFFFF
+        && fits_points(stream.points)
 }
 
-fn put_chunks(layout: Layout, stream: Stream, header: &mut [u8])
+fn put_chunks(layout: Layout, stream: Stream, header: &mut [u8; 96])
     requires legal_layout { LegalLayout layout }
     requires header_fits { HeaderFits layout stream }
-    requires header_len { length header.old ≡ 96 }
     ensures { header.new ≡ stamped (pieces layout stream) header.old }
 {
     put_magic(header);
     put_format(layout.channels, stream, header);
     put_frame(layout, header);
     put_bands(layout, header);
-    let points = stream.points;
-    let next = put_loop(points, header);
+    let next = put_loop(stream.points, header);
     put_tail(next, header);
 }
 
-fn write_exact(layout: Layout, stream: Stream, header: &mut [u8])
+fn write_exact(layout: Layout, stream: Stream, header: &mut [u8; 96])
     requires legal_layout { LegalLayout layout }
     requires header_fits { HeaderFits layout stream }
-    requires header_len { length header.old ≡ 96 }
     ensures { header.new ≡ header_of layout stream }
 {
-    clear_u8(header);
+    clear(header);
     put_chunks(layout, stream, header);
     seal(header);
 }
 
 // Takes any arguments. Refusals 1, 2 and 16, in this order.
-pub fn write_header(layout: Layout, stream: Stream, header: &mut [u8]) -> HeaderAnswer
+pub fn write_header(layout: Layout, stream: Stream, header: &mut [u8]) -> Result<(), HeaderRefusal>
     ensures { header_left result header.new ≡ write_header layout stream header.old }
 {
     if !legal(layout) {
-        return HeaderAnswer::BadLayout;
+        return Err(HeaderRefusal::BadLayout);
     }
-    if header.len() < 96 {
-        return HeaderAnswer::ShortBuffer;
-    }
+    let Some(header) = header.first_chunk_mut::<96>() else {
+        return Err(HeaderRefusal::ShortBuffer);
+    };
     if !fits_header(layout, stream) {
-        return HeaderAnswer::BadHeader;
+        return Err(HeaderRefusal::BadHeader);
     }
-    write_exact(layout, stream, &mut header[..96]);
-    HeaderAnswer::Delivered
+    write_exact(layout, stream, header);
+    Ok(())
 }

@@ -1,16 +1,16 @@
 // The loop's points as the fields of the file header's loop chunk.
 ghost use Rattle.std.specs.Prelude.{◌≡◌};
-ghost use Rattle.rules_files.specs.FileHeader.{loop_fields, PointsFit};
+ghost use Rattle.rules_files.specs.FileHeader.{loop_fields, PointFits};
 
 use rules_files::header::{LoopFields, LoopPoints};
 
 // The points moved by the delay. An end on a frame's edge belongs to the frame before.
-pub fn loop_fields(start: u64, end: u64) -> LoopFields
-    requires { PointsFit (LoopPoints.Given start end) }
-    ensures { result ≡ loop_fields start end }
+pub fn loop_fields(points: LoopPoints) -> LoopFields
+    requires { PointFits points }
+    ensures { result ≡ loop_fields points.start points.end }
 {
-    let s = start + 128;
-    let e = end + 128;
+    let s = points.start + 128;
+    let e = points.end + 128;
     if e % 1024 == 0 {
         return LoopFields {
             start_frame: s / 1024,

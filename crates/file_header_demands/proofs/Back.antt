@@ -8,6 +8,7 @@ use borrow.Author.Tests.{eq-eqb, ne_eqb, le-ltb}
 use lib.Dec.{eqb}
 use lib.ListN.{length, get_or, length-append, get_or-append}
 use lib.Seq.{take_at}
+use Rattle.std.specs.Prelude.{Option, Some, None, Ok}
 use Rattle.buffers.specs.Walk.{build}
 use Rattle.buffers.proofs.Build.{build-at, length-build}
 use Rattle.buffers.proofs.Every.{every-all}
@@ -21,11 +22,8 @@ use Rattle.rules.specs.declared.Mode.TheVariants.{Rust}
 use Rattle.rules.proofs.Answers.{never}
 use Rattle.rules.proofs.Layouts.{legal_sizes}
 use Rattle.rules_files.specs.declared.header.LoopPoints.{LoopPoints}
-use Rattle.rules_files.specs.declared.header.LoopPoints.TheVariants as points
-use Rattle.rules_files.specs.declared.header.LoopFrames.TheVariants.{Absent}
 use Rattle.rules_files.specs.declared.header.Stream.{Stream}
 use Rattle.rules_files.specs.declared.header.FileHeader.{FileHeader}
-use Rattle.rules_files.specs.declared.header.HeaderReadAnswer.TheVariants as answers
 use Rattle.rules_files.specs.FileHeader.{Piece, piece, magic_pieces, format_pieces, frame_pieces, band_pieces, loop_pieces, after_loop, tail_pieces}
 use Rattle.rules_files.specs.FileHeader.{byte_of, pieces, pieces_with, total_piece, base_piece, stereo_piece}
 use Rattle.rules_files.specs.FileHeader.{channels_piece, rate_piece, count_piece, padding_piece, frame_size_piece, minimum_piece, maximum_piece}
@@ -45,18 +43,18 @@ unfolding number_at
 any_value h at width v w = refl
 
 -- what the chunks behind `comp` say
-record TailRead (h : List ℕ) (p : LoopPoints) : Type 0 where
+record TailRead (h : List ℕ) (p : Option LoopPoints) : Type 0 where
   pub place : tail_of h ≡ after_loop p
-  pub loop : cond (looped h) (loop_at h) Absent ≡ loop_frames p
+  pub loop : cond (looped h) (Some (loop_at h)) None ≡ loop_frames p
   pub tail : Stand h (tail_pieces (after_loop p))
 
-tail_read : (h : List ℕ) (p : LoopPoints) → Stand h (loop_pieces p ++ tail_pieces (after_loop p)) → TailRead h p
+tail_read : (h : List ℕ) (p : Option LoopPoints) → Stand h (loop_pieces p ++ tail_pieces (after_loop p)) → TailRead h p
 unfolding Stand loop_pieces after_loop loop_at loop_frames
-tail_read h points.Absent s =
+tail_read h None s =
     let n : number_at h loop_name ≡ 0x63697068 = any_value h 40 4 _ _ ∙ s.0 in
     let e : looped h ≡ false = ne_eqb (number_at h loop_name) 0x6C6F6F70 (λ q. omega arith) in
     record { place = rw e; loop = rw e; tail = s }
-tail_read h (points.Given start end) s =
+tail_read h (Some p) s =
     let e : looped h ≡ true = eq-eqb _ _ s.0 in
     record {
       place = rw e;
@@ -67,7 +65,7 @@ tail_read h (points.Given start end) s =
         any_value h 52 2 0 _ ∙ s.1.1.1.0,
         any_value h 54 2 0 _ ∙ s.1.1.1.1.0,
       );
-      tail = stand_right h (loop_pieces (points.Given start end)) (tail_pieces 56) s;
+      tail = stand_right h (loop_pieces (Some p)) (tail_pieces 56) s;
     }
 
 module _ (l : Layout) (st : Stream) where
@@ -87,22 +85,22 @@ module _ (l : Layout) (st : Stream) where
   unfolding pieces byte_of loop_pieces after_loop
   two-zeros = by_points st.points
     where
-      by_points : (p : LoopPoints) → (byte_of (pieces_with l st p) 38 0 ≡ 0) × (byte_of (pieces_with l st p) 39 0 ≡ 0)
-      by_points points.Absent = (refl, refl)
-      by_points (points.Given start end) = (refl, refl)
+      by_points : (p : Option LoopPoints) → (byte_of (pieces_with l st p) 38 0 ≡ 0) × (byte_of (pieces_with l st p) 39 0 ≡ 0)
+      by_points None = (refl, refl)
+      by_points (Some p) = (refl, refl)
 
   last-piece : within (after_loop st.points + 10) (pieces l st) ≡ true
   unfolding pieces within loop_pieces after_loop
   last-piece = by_points st.points
     where
-      by_points : (p : LoopPoints) → within (after_loop p + 10) (pieces_with l st p) ≡ true
-      by_points points.Absent = refl
-      by_points (points.Given start end) = refl
+      by_points : (p : Option LoopPoints) → within (after_loop p + 10) (pieces_with l st p) ≡ true
+      by_points None = refl
+      by_points (Some p) = refl
 
-  late : (p : LoopPoints) → after_loop p ≤ 56
+  late : (p : Option LoopPoints) → after_loop p ≤ 56
   unfolding after_loop
-  late points.Absent = omega arith
-  late (points.Given start end) = omega arith
+  late None = omega arith
+  late (Some p) = omega arith
 
   rest-written : tail_of h ≡ after_loop st.points → rest_zero h ≡ true
   unfolding rest_zero zero_bytes
@@ -205,12 +203,12 @@ module _ (l : Layout) (st : Stream) where
         (and-true limits-written (and-true given_written (frames_right st.points (fits_facts l st fits).points)))
 
     -- the 96 bytes are read as the fields
-    pub exact_back : exact_read h ≡ answers.Read (fields_for l st)
+    pub exact_back : exact_read h ≡ Ok (fields_for l st)
     unfolding exact_read
     exact_back = rw ((header-bytes l st).2, names_written, right_written, rest-written t.place, fields-written)
 
     -- and so is a longer buffer that begins with them
-    pub laid_back : (rest : List ℕ) → read_header (h ++ rest) ≡ answers.Read (fields_for l st)
+    pub laid_back : (rest : List ℕ) → read_header (h ++ rest) ≡ Ok (fields_for l st)
     unfolding read_header
     laid_back rest =
         let n : length h ≡ 96 = (header-bytes l st).0 in
@@ -221,17 +219,17 @@ module _ (l : Layout) (st : Stream) where
     pub fields_back : (layout_with (fields_for l st) l.kinds l.mode ≡ l) × (stream_back (fields_for l st) ≡ st)
     fields_back = (
       refl,
-      ap (λ (p : LoopPoints). record { rate = st.rate; frames = st.frames; padding = st.padding; points = p })
+      ap (λ (p : Option LoopPoints). record { rate = st.rate; frames = st.frames; padding = st.padding; points = p })
           (points-there st.points (fits_facts l st fits).points),
     )
 
 -- what the writer delivers is read as its layout's and its stream's fields; with the layout's kinds and mode they give both back
 pub header-back : (l : Layout) (st : Stream) (h : List ℕ) → (write_header l st h).outcome ≡ delivered []
-    → (read_header (write_header l st h).header ≡ answers.Read (fields_for l st))
+    → (read_header (write_header l st h).header ≡ Ok (fields_for l st))
     × (layout_with (fields_for l st) l.kinds l.mode ≡ l) × (stream_back (fields_for l st) ≡ st)
 header-back l st h =
     header_case l st h
-    (λ x. x.outcome ≡ delivered [] → (read_header x.header ≡ answers.Read (fields_for l st))
+    (λ x. x.outcome ≡ delivered [] → (read_header x.header ≡ Ok (fields_for l st))
     × (layout_with (fields_for l st) l.kinds l.mode ≡ l) × (stream_back (fields_for l st) ≡ st))
     (λ _ e. never (sym e)) (λ _ _ e. never (sym e)) (λ _ _ _ e. never (sym e))
     (λ a _ f _. let (x, y) = fields_back l st a f in (laid_back l st a f _, x, y))
@@ -240,6 +238,6 @@ header-back l st h =
 pub equal_headers : (l l' : Layout) (st st' : Stream) → legal_layout l ≡ true → fits_header l st ≡ true → legal_layout l' ≡ true → fits_header l' st' ≡ true
     → header_of l st ≡ header_of l' st' → (fields_for l st ≡ fields_for l' st') × (st ≡ st')
 equal_headers l l' st st' a b a' b' e =
-    let r : answers.Read (fields_for l st) ≡ answers.Read (fields_for l' st') = sym (exact_back l st a b) ∙ ap exact_read e ∙ exact_back l' st' a' b' in
+    let r : Ok (fields_for l st) ≡ Ok (fields_for l' st') = sym (exact_back l st a b) ∙ ap exact_read e ∙ exact_back l' st' a' b' in
     let f : fields_for l st ≡ fields_for l' st' = cc in
     (f, sym (fields_back l st a b).1 ∙ ap stream_back f ∙ (fields_back l' st' a' b').1)

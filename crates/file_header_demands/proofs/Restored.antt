@@ -9,6 +9,7 @@ use borrow.Author.Tests.{not-true, not-false, eqb-true, leb-true, ltb-true, ltb-
 use lib.Dec.{leb, ltb}
 use lib.ListN.{length, get_or, take, drop, length-drop, take-append-drop}
 use lib.Seq.{length-take-le}
+use Rattle.std.specs.Prelude.{Option, Some, None, Ok}
 use Rattle.bits.specs.Bits.{Bytes}
 use Rattle.buffers.specs.Walk.{every}
 use Rattle.buffers.proofs.Every.{every-at}
@@ -26,13 +27,9 @@ use Rattle.rules.specs.declared.Mode.{Mode}
 use Rattle.rules.specs.declared.Mode.TheVariants.{Rust}
 use Rattle.rules.proofs.Layouts.{legal_true}
 use Rattle.rules_files.specs.declared.header.LoopPoints.{LoopPoints}
-use Rattle.rules_files.specs.declared.header.LoopPoints.TheVariants as points
 use Rattle.rules_files.specs.declared.header.LoopFields.{LoopFields}
-use Rattle.rules_files.specs.declared.header.LoopFrames.TheVariants.{Absent, Given}
 use Rattle.rules_files.specs.declared.header.Stream.{Stream}
 use Rattle.rules_files.specs.declared.header.FileHeader.{FileHeader}
-use Rattle.rules_files.specs.declared.header.HeaderReadAnswer.{HeaderReadAnswer}
-use Rattle.rules_files.specs.declared.header.HeaderReadAnswer.TheVariants as answers
 use Rattle.rules_files.specs.FileHeader.{Piece, piece, magic_pieces, format_pieces, frame_pieces, band_pieces, field_pieces, loop_pieces}
 use Rattle.rules_files.specs.FileHeader.{tail_at, after_loop, tail_pieces}
 use Rattle.rules_files.specs.FileHeader.{count_piece, padding_piece, loop_fields, pieces, pieces_with, header_of, fits_header, HeaderLeft, write_header}
@@ -50,48 +47,36 @@ use Rattle.file_header_demands.proofs.Back.{any_value, header-back}
 
 -- ---- loop and tail
 
-record Again (h : List ℕ) (at : ℕ) (p : LoopPoints) : Type 0 where
+record Again (h : List ℕ) (at : ℕ) (p : Option LoopPoints) : Type 0 where
   pub place : after_loop p ≡ at
   pub stand : Stand h (loop_pieces p ++ tail_pieces (after_loop p))
 
-given_again : (h : List ℕ) (start end : ℕ) → loop_fields start end
-    ≡ record {
-      start_frame = field_at h start_frame_piece;
-      end_frame = field_at h end_frame_piece;
-      delay = field_at h start_delay_piece;
-      padding = field_at h end_padding_piece;
-    }
-    → looped h ≡ true → Stand h (tail_pieces 56) → Again h 56 (points.Given start end)
-unfolding Stand loop_pieces after_loop
-given_again h start end e t s =
+given_again : (h : List ℕ) (p : LoopPoints) → loop_fields p.start p.end ≡ loop_at h → looped h ≡ true → Stand h (tail_pieces 56) → Again h 56 (Some p)
+unfolding Stand loop_pieces after_loop loop_at
+given_again h p e t s =
     let name : number_at h (piece 40 4 0x6C6F6F70) ≡ 0x6C6F6F70 = eqb-true _ _ t in
-    let all : Stand h (field_pieces (record {
-      start_frame = field_at h start_frame_piece;
-      end_frame = field_at h end_frame_piece;
-      delay = field_at h start_delay_piece;
-      padding = field_at h end_padding_piece;
-    })) = (name, (any_value h 44 4 _ _, (any_value h 48 4 _ _, (any_value h 52 2 _ _, (any_value h 54 2 _ _, tt))))) in
+    let all : Stand h (field_pieces (loop_at h)) = (name, (any_value h 44 4 _ _, (any_value h 48 4 _ _, (any_value h 52 2 _ _, (any_value h 54 2 _ _, tt))))) in
     record {
       place = refl;
-      stand = stand_both h (field_pieces (loop_fields start end)) (tail_pieces 56) (subst (λ (x : LoopFields). Stand h (field_pieces x)) (sym e) all) s;
+      stand = stand_both h (field_pieces (loop_fields p.start p.end)) (tail_pieces 56) (subst (λ (x : LoopFields). Stand h (field_pieces x)) (sym e) all) s;
     }
 
-tail_again : (h : List ℕ) (b : Bool) → looped h ≡ b → loop_right (cond b (loop_at h) Absent) ≡ true → Stand h (tail_pieces (tail_at b))
-    → Again h (tail_at b) (points_back (cond b (loop_at h) Absent))
-unfolding loop_at points_back loop_pieces after_loop
+tail_again : (h : List ℕ) (b : Bool) → looped h ≡ b → loop_right (cond b (Some (loop_at h)) None) ≡ true → Stand h (tail_pieces (tail_at b))
+    → Again h (tail_at b) (points_back (cond b (Some (loop_at h)) None))
+unfolding points_back loop_pieces after_loop
 tail_again h false t r s = record { place = refl; stand = s }
 tail_again h true t r s =
-    let k : LoopIs (field_at h start_frame_piece) (field_at h start_delay_piece) (field_at h end_frame_piece) (field_at h end_padding_piece) = loop_facts _ _ _ _ r in
-    subst (Again h 56) (sym (back_given _ _ _ _ k)) (given_again h _ _ (fields_again _ _ _ _ k) t s)
+    let k : LoopIs (loop_at h) = loop_facts _ r in
+    subst (Again h 56) (sym (back_given _ k)) (given_again h _ (fields_again _ k) t s)
 
 -- ---- the rest
 
 -- what no piece covers
-uncovered : (l : Layout) (st : Stream) (p : LoopPoints)
+uncovered : (l : Layout) (st : Stream) (p : Option LoopPoints)
     → every (λ i. covered (pieces_with l st p) i || ((leb 38 i && ltb i 40) || leb (after_loop p + 10) i)) 94 ≡ true
 unfolding covered loop_pieces after_loop every
-uncovered l st points.Absent = refl
-uncovered l st (points.Given start end) = refl
+uncovered l st None = refl
+uncovered l st (Some p) = refl
 
 -- ---- all four passes
 
@@ -203,23 +188,23 @@ pub record Accepted (h : List ℕ) (f : FileHeader) : Type 0 where
   pub rest : rest_zero h ≡ true
   pub fields : f ≡ fields_of h
 
-pub exact_accepted : (h : List ℕ) (f : FileHeader) → exact_read h ≡ answers.Read f → Accepted h f
+pub exact_accepted : (h : List ℕ) (f : FileHeader) → exact_read h ≡ Ok f → Accepted h f
 exact_accepted h f =
-    exact_case h (λ a. a ≡ answers.Read f → Accepted h f)
+    exact_case h (λ a. a ≡ Ok f → Accepted h f)
     (λ _ e. let z : ◌≡◌ {A = ℕ} 0 1 = cc e in absurd (omega arith)) (λ _ _ e. let z : ◌≡◌ {A = ℕ} 0 1 = cc e in absurd (omega arith))
     (λ _ _ _ e. let z : ◌≡◌ {A = ℕ} 0 1 = cc e in absurd (omega arith)) (λ _ _ _ _ e. let z : ◌≡◌ {A = ℕ} 0 1 = cc e in absurd (omega arith))
     (λ a b c d e. record { closed = a; names = b; right = c; rest = d; fields = cc e })
 
 -- a header that is read has 96 bytes, and those are accepted
-pub read_accepted : (h : List ℕ) (f : FileHeader) → read_header h ≡ answers.Read f → (96 ≤ length h) × Accepted (take 96 h) f
+pub read_accepted : (h : List ℕ) (f : FileHeader) → read_header h ≡ Ok f → (96 ≤ length h) × Accepted (take 96 h) f
 unfolding read_header
 read_accepted h f =
-    cond_both (λ a. a ≡ answers.Read f → (96 ≤ length h) × Accepted (take 96 h) f) (ltb (length h) 96)
+    cond_both (λ a. a ≡ Ok f → (96 ≤ length h) × Accepted (take 96 h) f) (ltb (length h) 96)
     (λ _ e. let z : ◌≡◌ {A = ℕ} 0 1 = cc e in absurd (omega arith)) (λ k e. (ltb-false _ _ k, exact_accepted (take 96 h) f e))
 
 -- ---- the theorems
 
-module _ (h : List ℕ) (b : Bytes h) (f : FileHeader) (e : read_header h ≡ answers.Read f) (kinds : List Channel) (mode : Mode) where
+module _ (h : List ℕ) (b : Bytes h) (f : FileHeader) (e : read_header h ≡ Ok f) (kinds : List Channel) (mode : Mode) where
   -- the layout handed out is legal with any kinds and mode, and has at most eight channels
   pub handed-legal : (legal_layout (layout_with f kinds mode) ≡ true) × (f.channels ≤ 8)
   unfolding fields_right
@@ -257,7 +242,7 @@ module _ (h : List ℕ) (b : Bytes h) (f : FileHeader) (e : read_header h ≡ an
 
 pub record IsRead (h : List ℕ) : Type 0 where
   pub fields : FileHeader
-  pub read : read_header h ≡ answers.Read fields
+  pub read : read_header h ≡ Ok fields
 
 pub record IsWritten (h : List ℕ) : Type 0 where
   pub layout : Layout

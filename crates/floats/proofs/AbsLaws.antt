@@ -7,7 +7,6 @@ use lib.Dec.{T, eqb, leb}
 use lib.Arith.{lt→nleb}
 use lib.Pow.{pow_pos}
 use lib.Ieee.{Float, nan, inf, fin, Format, prec, low, hid, ones, top, odd, of_fields, of_bits, to_bits, fits, is_nan, nan_bits, ne}
-use lib.Ieee.Compare.{differs_from_itself}
 use lib.Ieee.Bits.{is_false, of_bits-to_bits, nan_bits_is}
 use Rattle.floats.specs.Single.{abs_f}
 
@@ -63,6 +62,12 @@ itself nan h = subst T h tt
 itself (inf s) h = tt
 itself (fin s m e) h = tt
 
-pub not_itself : (x : Float) → ne x x ≡ true → x ≡ abs_f x
-unfolding abs_f
-not_itself x h = let e : x ≡ nan = differs_from_itself x (subst T (sym h) tt) in subst (λ (y : Float). y ≡ abs_f y) (sym e) refl
+-- ---- `x.is_nan()`
+pub nan_left : (x : Float) → is_nan x ≡ true → x ≡ abs_f x
+unfolding abs_f is_nan
+nan_left nan h = refl
+nan_left (inf s) h = absurd (subst T (sym h) tt)
+nan_left (fin s m e) h = absurd (subst T (sym h) tt)
+
+pub no_nan : (x : Float) → is_nan x ≡ false → T (not (is_nan x))
+no_nan x h = subst (λ (b : Bool). T (not b)) (sym h) tt

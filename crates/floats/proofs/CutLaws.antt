@@ -8,11 +8,10 @@ use mathlib.Core.Logic.{◌⊎◌, inl, inr}
 use lib.Dec.{T, eqb, leb, ltb, eqb→eq, not_T, le→leb, nltb→le}
 use lib.Arith.{lt→nleb}
 use lib.Ieee.Bits.{is_true, is_false, cond_no, of_bits-to_bits, nan_bits_above}
-use lib.Ieee.Compare.{differs_from_itself}
 use Rattle.floats.proofs.AbsLaws.{abs_no_nan}
 use lib.Pow.{pow_pos, pow-add, pow_mono, shl_lt, shr_le}
 use lib.IntN.{pos, neg_ℤ}
-use lib.Ieee.{Float, nan, inf, fin, Format, binary32, prec, low, hid, ones, top, up, down, odd, of_fields, of_bits, to_bits, fits, is_nan, ne, to_signed}
+use lib.Ieee.{Float, nan, inf, fin, Format, binary32, prec, low, hid, ones, top, up, down, odd, of_fields, of_bits, to_bits, fits, is_nan, to_signed}
 use lib.Ieee.Fits.{down_pos}
 use lib.Ieee.Exact.{HasValue, odd_sign}
 use lib.Ieee.Nearest.{div_same}
@@ -197,9 +196,11 @@ signed_no x t h =
     (is_false (leb 2147483648 b) (lt→nleb 2147483648 b h))
     ∙ ap pos (cut_less (2 ^ 31) (of_bits binary32 b)))
 
-pub signed-nan : (x : Float) → ne x x ≡ true → pos 0 ≡ to_signed 31 x
-unfolding to_signed
-signed-nan x h = subst (λ (y : Float). pos 0 ≡ to_signed 31 y) (sym (differs_from_itself x (subst T (sym h) tt))) refl
+pub signed-nan : (x : Float) → is_nan x ≡ true → pos 0 ≡ to_signed 31 x
+unfolding to_signed is_nan
+signed-nan nan h = refl
+signed-nan (inf s) h = absurd (subst T (sym h) tt)
+signed-nan (fin s m e) h = absurd (subst T (sym h) tt)
 
 -- the pattern without its sign is at most the infinity's
 pub bits-top : (x : Float) → T (fits binary32 x) → T (not (is_nan x)) → to_bits binary32 x % 2147483648 ≤ 2139095040

@@ -4,31 +4,37 @@
 // Sums of magnitudes that look at no bits.
 pub mod magnitudes;
 
-ghost use Rattle.std.specs.Prelude.{◌≡◌, ◌<◌, ◌≤◌, ◌+◌, ◌*◌, ◌^◌, length, pos};
+ghost use Rattle.std.specs.Prelude.{◌≡◌, ◌<◌, ◌≤◌, ◌+◌, ◌*◌, ◌^◌, T, not, length, pos};
 ghost use Rattle.std.specs.Float.Ieee as Ieee;
+ghost use Rattle.std.specs.Float.Ieee.{fits, is_nan};
 ghost use Rattle.std.specs.Float.{binary32};
 ghost use Rattle.std.specs.Float.Ieee.Scale.{finite as is_finite};
 ghost use Rattle.floats.specs.Single.{abs_f, held_f, cut_to, Short, max_f, min_f, folded, max_abs, zero_f, no_average, with_one, with_eight, mean};
 
-// |x|, from the bits: the sign's bit is taken off. A NaN, which has no pattern of its own, is left.
+// |x| where x is no NaN, from the bits: the sign's bit is taken off. It is single, as every f32 is.
+pub fn size(x: f32) -> f32
+    requires { T (not (is_nan x)) }
+    ensures { (result ≡ abs_f x) × T (fits binary32 x) }
+{
+    f32::from_bits(x.to_bits() % 0x8000_0000)
+}
+
+// |x|. A NaN, which has no pattern of its own, is left.
 pub fn magnitude(x: f32) -> f32
     ensures { result ≡ abs_f x }
 {
-    if x != x {
-        return x;
-    }
-    let bits: u32 = f32::to_bits(x);
-    f32::from_bits(bits % 0x8000_0000)
+    if x.is_nan() { x } else { size(x) }
 }
 
 // Whether x is neither a NaN nor an infinity: two comparisons, and no branch.
 pub fn finite(x: f32) -> bool
     ensures { result ≡ is_finite x }
 {
-    (f32::from_bits(0xFF80_0000) < x) & (x < f32::from_bits(0x7F80_0000))
+    (f32::NEG_INFINITY < x) & (x < f32::INFINITY)
 }
 
 // x held within low and high, as Rust's `clamp` does; a NaN is left.
+#[tactic(auto, unfolding(crate::specs::Single::held_f))]
 pub fn hold(x: f32, low: f32, high: f32) -> f32
     ensures { result ≡ held_f low high x }
 {
@@ -78,7 +84,7 @@ pub fn truncate(x: f32) -> i64
     if 1.0 <= x && x < 4096.0 {
         return whole(x) as i64;
     }
-    if x != x {
+    if x.is_nan() {
         return 0;
     }
     let bits: u32 = f32::to_bits(x);
@@ -93,6 +99,7 @@ pub fn truncate(x: f32) -> i64
 }
 
 // The larger of two values; a where neither is below the other.
+#[tactic(auto, unfolding(crate::specs::Single::max_f))]
 pub fn larger(a: f32, b: f32) -> f32
     ensures { result ≡ max_f a b }
 {
@@ -100,6 +107,7 @@ pub fn larger(a: f32, b: f32) -> f32
 }
 
 // The smaller of two values; a where neither is below the other.
+#[tactic(auto, unfolding(crate::specs::Single::min_f))]
 pub fn smaller(a: f32, b: f32) -> f32
     ensures { result ≡ min_f a b }
 {
@@ -112,13 +120,8 @@ pub fn peak(xs: &[f32], at: usize, stride: usize) -> f32
     ensures { result ≡ folded max_abs xs.now at stride 8 zero_f }
 {
     let mut top: f32 = 0.0;
-    let mut i = at;
-    let mut k: usize = 0;
-    while k < 8 {
-        let m = magnitude(xs[i]);
-        top = larger(top, m);
-        i = i + stride;
-        k = k + 1;
+    for k in 0..8 {
+        top = larger(top, magnitude(xs[at + k * stride]));
     }
     top
 }
@@ -132,6 +135,7 @@ pub struct Average {
 
 impl Average {
     // Of no values.
+    #[tactic(auto, unfolding(crate::specs::Single::no_average))]
     pub fn none() -> Average
         ensures { result ≡ no_average }
     {
@@ -139,13 +143,13 @@ impl Average {
     }
 
     // With the magnitude of one value more.
+    #[tactic(auto, unfolding(crate::specs::Single::with_one))]
     pub fn with_one(self, x: f32) -> Average
         requires { self.count < 0x100_0000 }
         ensures { result ≡ with_one self x }
     {
-        let m = magnitude(x);
         Average {
-            sum: self.sum + m,
+            sum: self.sum + magnitude(x),
             count: self.count + 1,
         }
     }
@@ -157,13 +161,8 @@ impl Average {
         ensures { result ≡ with_eight xs.now at stride self }
     {
         let mut sum = self.sum;
-        let mut i = at;
-        let mut k: usize = 0;
-        while k < 8 {
-            let m = magnitude(xs[i]);
-            sum = sum + m;
-            i = i + stride;
-            k = k + 1;
+        for k in 0..8 {
+            sum += magnitude(xs[at + k * stride]);
         }
         Average {
             sum,
@@ -172,14 +171,14 @@ impl Average {
     }
 
     // The sum over the count; 0.0 where there are no values.
+    #[tactic(auto, unfolding(crate::specs::Single::mean, crate::specs::Single::mean_f))]
     pub fn mean(self) -> f32
         requires { self.count ≤ 0x100_0000 }
         ensures { result ≡ mean self }
     {
-        let n = self.count;
-        if n == 0 {
+        if self.count == 0 {
             return 0.0;
         }
-        self.sum / (n as f32)
+        self.sum / (self.count as f32)
     }
 }

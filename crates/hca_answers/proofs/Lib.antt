@@ -1,4 +1,3 @@
 pub mod Places
 pub mod Fitting
 mod Refusing
-mod Stereos

@@ -13,19 +13,13 @@ pub stored_short : (o : Outcome) (answer : List ℕ) → length answer < 4 → a
 unfolding answer_after
 stored_short o answer h = rw (lt-ltb _ _ h)
 
-stored-long : (o : Outcome) (answer : List ℕ) → 4 ≤ length answer → answer_after o answer ≡ overwrite (numbers_of o) answer
+pub stored-long : (o : Outcome) (answer : List ℕ) → 4 ≤ length answer → answer_after o answer ≡ overwrite (numbers_of o) answer
 unfolding answer_after
 stored-long o answer h = rw (le-ltb _ _ h)
 
 over-one : (xs : List ℕ) (a : ℕ) → 4 ≤ length xs → set xs 0 a ≡ overwrite (a ∷ []) xs
 over-one [] a h = absurd (omega arith)
 over-one (x ∷ xs) a h = refl
-
-over-three : (xs : List ℕ) (a b c : ℕ) → 4 ≤ length xs → set (set (set xs 0 a) 1 b) 2 c ≡ overwrite (a ∷ b ∷ c ∷ []) xs
-over-three [] a b c h = absurd (omega arith)
-over-three (x ∷ []) a b c h = absurd (omega arith)
-over-three (x ∷ y ∷ []) a b c h = absurd (omega arith)
-over-three (x ∷ y ∷ z ∷ xs) a b c h = refl
 
 over-four : (xs : List ℕ) (a b c d : ℕ) → 4 ≤ length xs → set (set (set (set xs 0 a) 1 b) 2 c) 3 d ≡ overwrite (a ∷ b ∷ c ∷ d ∷ []) xs
 over-four [] a b c d h = absurd (omega arith)
@@ -37,10 +31,6 @@ over-four (x ∷ y ∷ z ∷ w ∷ xs) a b c d h = refl
 pub stored_one : (answer : List ℕ) (number a : ℕ) → 4 ≤ length answer → set answer 0 a ≡ answer_after (refused number a) answer
 unfolding numbers_of
 stored_one answer number a h = over-one answer a h ∙ sym (stored-long (refused number a) answer h)
-
-pub stored-three : (answer : List ℕ) (a b c : ℕ) → 4 ≤ length answer → set (set (set answer 0 a) 1 b) 2 c ≡ answer_after (delivered (a ∷ b ∷ c ∷ [])) answer
-unfolding numbers_of
-stored-three answer a b c h = over-three answer a b c h ∙ sym (stored-long (delivered (a ∷ b ∷ c ∷ [])) answer h)
 
 pub stored-four : (answer : List ℕ) (a b c d : ℕ) → 4 ≤ length answer
     → set (set (set (set answer 0 a) 1 b) 2 c) 3 d ≡ answer_after (delivered (a ∷ b ∷ c ∷ d ∷ [])) answer

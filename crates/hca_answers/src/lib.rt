@@ -3,12 +3,12 @@
 
 pub mod stereo;
 
-ghost use Rattle.std.specs.Prelude.{[], ◌∷◌, ◌<◌};
+ghost use Rattle.std.specs.Prelude.{◌≤◌, ◌<◌, length};
 ghost use Rattle.rules.specs.Refusals.{delivered, refused, stage_outcome, writer_outcome, reader_outcome};
 ghost use Rattle.hca_answers.specs.Outcomes.{Small, AnswerStored};
 
-use refusals::{read_refusal, stage_refusal, write_refusal};
-use rules::{ReadAnswer, StageAnswer, WriteAnswer};
+use refusals::Refusal;
+use rules::{Delivery, ReadRefusal, RecordDelivery, StageRefusal, WriteRefusal};
 
 pub fn refuse(number: usize, beside: usize, answer: &mut [u32]) -> u32
     requires { (number < 4294967296) × (beside < 4294967296) }
@@ -22,62 +22,54 @@ pub fn refuse(number: usize, beside: usize, answer: &mut [u32]) -> u32
     result
 }
 
-fn deliver_three(a: usize, b: usize, c: usize, answer: &mut [u32]) -> u32
-    requires { (a < 4294967296) × (b < 4294967296) × (c < 4294967296) }
-    ensures { AnswerStored (delivered (a ∷ b ∷ c ∷ [])) result answer.old answer.new }
+// Why it is refused, as a refusal's two numbers.
+pub fn tell(refusal: Refusal, answer: &mut [u32]) -> u32
+    requires { (refusal.number < 4294967296) × (refusal.beside < 4294967296) }
+    ensures { AnswerStored (refused refusal.number refusal.beside) result answer.old answer.new }
 {
-    if answer.len() < 4 {
-        return 0;
+    refuse(refusal.number, refusal.beside, answer)
+}
+
+// What is delivered, in order at the front of the answer.
+fn deliver(numbers: &[usize], answer: &mut [u32]) -> u32
+    requires few { length numbers.now ≤ 4 }
+    requires small { Small (delivered numbers.now) }
+    ensures { AnswerStored (delivered numbers.now) result answer.old answer.new }
+{
+    if 4 <= answer.len() {
+        for (i, &n) in numbers.iter().enumerate() {
+            answer[i] = n as u32;
+        }
     }
-    answer[0] = a as u32;
-    answer[1] = b as u32;
-    answer[2] = c as u32;
     0
 }
 
-fn deliver_four(a: usize, b: usize, c: usize, d: usize, answer: &mut [u32]) -> u32
-    requires { (a < 4294967296) × (b < 4294967296) × (c < 4294967296) × (d < 4294967296) }
-    ensures { AnswerStored (delivered (a ∷ b ∷ c ∷ d ∷ [])) result answer.old answer.new }
-{
-    if answer.len() < 4 {
-        return 0;
-    }
-    answer[0] = a as u32;
-    answer[1] = b as u32;
-    answer[2] = c as u32;
-    answer[3] = d as u32;
-    0
-}
-
-pub fn store_stage(a: StageAnswer, answer: &mut [u32]) -> u32
+pub fn store_stage(a: Result<Delivery, StageRefusal>, answer: &mut [u32]) -> u32
     requires { Small (stage_outcome a) }
     ensures { AnswerStored (stage_outcome a) result answer.old answer.new }
 {
-    let StageAnswer::Delivered(level, boundary, pairs, bits) = a else {
-        let r = stage_refusal(a);
-        return refuse(r.number, r.beside, answer);
-    };
-    deliver_four(level, boundary, pairs, bits, answer)
+    match a {
+        Ok(d) => deliver(&[d.level, d.boundary, d.pairs, d.bits], answer),
+        Err(e) => tell(e.into(), answer),
+    }
 }
 
-pub fn store_write(a: WriteAnswer, answer: &mut [u32]) -> u32
+pub fn store_write(a: Result<RecordDelivery, WriteRefusal>, answer: &mut [u32]) -> u32
     requires { Small (writer_outcome a) }
     ensures { AnswerStored (writer_outcome a) result answer.old answer.new }
 {
-    let WriteAnswer::Delivered(level, boundary, bits) = a else {
-        let r = write_refusal(a);
-        return refuse(r.number, r.beside, answer);
-    };
-    deliver_three(level, boundary, bits, answer)
+    match a {
+        Ok(d) => deliver(&[d.level, d.boundary, d.bits], answer),
+        Err(e) => tell(e.into(), answer),
+    }
 }
 
-pub fn store_read(a: ReadAnswer, answer: &mut [u32]) -> u32
+pub fn store_read(a: Result<RecordDelivery, ReadRefusal>, answer: &mut [u32]) -> u32
     requires { Small (reader_outcome a) }
     ensures { AnswerStored (reader_outcome a) result answer.old answer.new }
 {
-    let ReadAnswer::Delivered(level, boundary, bits) = a else {
-        let r = read_refusal(a);
-        return refuse(r.number, r.beside, answer);
-    };
-    deliver_three(level, boundary, bits, answer)
+    match a {
+        Ok(d) => deliver(&[d.level, d.boundary, d.bits], answer),
+        Err(e) => tell(e.into(), answer),
+    }
 }

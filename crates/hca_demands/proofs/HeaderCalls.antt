@@ -7,6 +7,7 @@ use native.Mathlib.Omega.{arith}
 use borrow.Author.Tests.{le-ltb}
 use lib.Dec.{ltb, eqb}
 use lib.ListN.{length, get_or, take, drop}
+use Rattle.std.specs.Prelude.{Option, Some, None, Ok}
 use Rattle.bits.specs.Bits.{Bytes}
 use Rattle.buffers.specs.Walk.{build}
 use Rattle.buffers.proofs.Tests.{cond_both}
@@ -15,10 +16,8 @@ use Rattle.rules.specs.Refusals.{delivered, refused}
 use Rattle.rules.specs.declared.Layout.{Layout}
 use Rattle.rules.specs.declared.Mode.TheVariants.{Rust}
 use Rattle.rules_files.specs.declared.header.LoopPoints.{LoopPoints}
-use Rattle.rules_files.specs.declared.header.LoopPoints.TheVariants.{Absent, Given}
 use Rattle.rules_files.specs.declared.header.Stream.{Stream}
 use Rattle.rules_files.specs.declared.header.FileHeader.{FileHeader}
-use Rattle.rules_files.specs.declared.header.HeaderReadAnswer.TheVariants as answers
 use Rattle.rules_files.specs.FileHeader.{HeaderLeft, write_header}
 use Rattle.rules_files.specs.HeaderReading.{points_back, loop_numbers, layout_numbers, loop_frames, read_header, header_read_outcome, header_layout}
 use Rattle.rules_files.proofs.HeaderTheorems.{header_case}
@@ -72,25 +71,25 @@ module _ (numbers kinds stream points header : List ℕ) where
 -- ---- and back
 
 -- the points as C's call takes them
-unfoldable pub point_numbers : (points : LoopPoints) → List ℕ
-point_numbers Absent = []
-point_numbers (Given start end) = start ∷ end ∷ []
+unfoldable pub point_numbers : (points : Option LoopPoints) → List ℕ
+point_numbers None = []
+point_numbers (Some p) = p.start ∷ p.end ∷ []
 
-points-stored : (p : LoopPoints) → points_of (point_numbers p) ≡ p
+points-stored : (p : Option LoopPoints) → points_of (point_numbers p) ≡ p
 unfolding points_of point_numbers
-points-stored Absent = refl
-points-stored (Given start end) = refl
+points-stored None = refl
+points-stored (Some p) = refl
 
-two-or-none : (p : LoopPoints) → eqb (length (point_numbers p)) 1 ≡ false
+two-or-none : (p : Option LoopPoints) → eqb (length (point_numbers p)) 1 ≡ false
 unfolding point_numbers
-two-or-none Absent = refl
-two-or-none (Given start end) = refl
+two-or-none None = refl
+two-or-none (Some p) = refl
 
 -- the numbers of a header that is read, with any kinds, give the same 96 bytes
-pub c_header_again : (h : List ℕ) → Bytes h → (f : FileHeader) → read_header h ≡ answers.Read f → (kinds header : List ℕ)
+pub c_header_again : (h : List ℕ) → Bytes h → (f : FileHeader) → read_header h ≡ Ok f → (kinds header : List ℕ)
     → is_layout (layout_numbers f) kinds ≡ true → 96 ≤ length header
     → c_write_header (layout_numbers f) kinds (f.rate ∷ f.frames ∷ f.padding ∷ []) (point_numbers (points_back f.points)) header
     ≡ c_header_left 0 (take 96 h ++ drop 96 header)
-unfolding c_write_header c_header_from refusal_of layout_of stream_of mode_of
+unfolding c_write_header c_header_from refusal_of layout_of stream_of
 c_header_again h b f e kinds header k m =
     rw (k, two-or-none (points_back f.points), points-stored (points_back f.points), header_restored h b f e (build (channel_at kinds) 16) Rust header m)

@@ -237,7 +237,7 @@ module _ (numbers kinds : List ℕ) where
     stored-four o a b c d e h = rw (e, le-ltb (length answer) 4 h)
 
     held_named : get_or numbers 7 0 ≡ 1 → its.mode ≡ Held
-    unfolding layout_of mode_of
+    unfolding layout_of
     held_named e = rw e
 
     -- ENCODED WITH MODE 1, THEN READ with the same layout's numbers, into any buffers with room: the same level, boundary and bits, and the same buffers over

@@ -10,14 +10,17 @@ use lib.ListN.{length}
 use Rattle.rules.specs.Refusals.{refused, stage_outcome}
 use Rattle.rules.specs.Stage.{StageLent, StageLeft, stage_left, encode_frame}
 use Rattle.rules.specs.declared.Layout.{Layout}
-use Rattle.rules.specs.declared.StageAnswer.{StageAnswer}
+use Rattle.std.specs.Prelude.{Result}
+use Rattle.rules.specs.declared.Delivery.{Delivery}
+use Rattle.rules.specs.declared.StageRefusal.{StageRefusal}
 use Rattle.hca_layout.specs.Layouts.{layout_of, is_layout}
 use Rattle.hca_answers.specs.Outcomes.{result_of, AnswerStored}
 use Rattle.hca_answers.proofs.Places.{stored_short}
 use Rattle.hca_encode.specs.EncodeFrame.{CStageLeft, c_stage_left, c_stage_from, c_encode_frame}
 
 -- what the stage answered and left, told
-pub encode_stores : (a : StageAnswer) (r : ℕ) (before after : List ℕ) (scaled : List Float) (codes : List ℤ) (factors side frame : List ℕ) (x : StageLeft)
+pub encode_stores : (a : Result Delivery StageRefusal) (r : ℕ) (before after : List ℕ) (scaled : List Float) (codes : List ℤ)
+    (factors side frame : List ℕ) (x : StageLeft)
     → stage_left a scaled codes factors side frame ≡ x → AnswerStored (stage_outcome a) r before after
     → c_stage_left r after scaled codes factors side frame ≡ c_stage_from x before
 unfolding c_stage_from

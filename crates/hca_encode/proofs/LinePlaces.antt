@@ -1,39 +1,28 @@
 -- What is stored of a line's answer and of its counts. Assumes nothing.
 use mathlib.Core.Path.{◌≡◌, refl, sym, ◌∙◌, ap, subst}
-use mathlib.Core.List.{List, [], ◌∷◌}
-use mathlib.Core.Option.{Option, none, some}
+use mathlib.Core.List.{List, []}
+use mathlib.Core.Option.{Option}
 use Prim.Native.Nat.{ℕ, ◌≤◌, ◌<◌}
 use native.Mathlib.Omega.{arith}
-use types.Run.{OneOf, miss}
-use denote.Enum.Declared.{tag_of}
 use lib.Dec.{ltb}
-use lib.ListN.{length, set}
+use Rattle.std.specs.Prelude.{Err}
+use lib.ListN.{length}
 use Rattle.buffers.proofs.Tests.{cond_both}
-use Rattle.rules.specs.Lent.{overwrite}
 use Rattle.rules.specs.Refusals.{Outcome, delivered, refused, stage_outcome}
-use Rattle.rules.specs.declared.StageAnswer.{StageAnswer}
-use Rattle.rules.specs.declared.StageAnswer.TheVariants as stage
+use Rattle.rules.specs.declared.StageRefusal.{StageRefusal}
+use Rattle.rules.specs.declared.StageRefusal.TheVariants as stage
 use Rattle.rules_stereo.specs.Stereo.{stereo_outcome}
-use Rattle.rules_stereo.specs.declared.StereoAnswer.{StereoAnswer}
-use Rattle.rules_stereo.specs.declared.StereoAnswer.TheVariants.{TooLoud, Of}
-use Rattle.rules_line.specs.Line.{line_outcome, line_index, stereo_line_outcome, stereo_line_index}
-use Rattle.rules_line.specs.declared.LineAnswer.{LineAnswer}
-use Rattle.rules_line.specs.declared.LineAnswer.TheVariants as line
-use Rattle.rules_line.specs.declared.StereoLineAnswer.{StereoLineAnswer}
-use Rattle.rules_line.specs.declared.StereoLineAnswer.TheVariants as stereo
-use Rattle.rules_line.specs.contracts.LineAnswer as Line
-use Rattle.rules_line.specs.contracts.StereoLineAnswer as StereoLine
+use Rattle.rules_stereo.specs.declared.StereoRefusal.{StereoRefusal}
+use Rattle.rules_stereo.specs.declared.StereoRefusal.TheVariants.{TooLoud, Stage}
+use Rattle.rules_line.specs.Line.{line_outcome_by, line_outcome, line_index, stereo_line_outcome}
+use Rattle.rules_line.specs.declared.LineRefusal.{LineRefusal}
+use Rattle.rules_line.specs.declared.LineRefusal.TheVariants.{BadLayout, BadBatch, ShortBuffer, Frame}
+use Rattle.rules_line.proofs.Answers.{Refuses, refuses}
 use Rattle.refusals.specs.Refusals.{refusal_of}
 use Rattle.refusals.specs.declared.Refusal.{Refusal}
 use Rattle.hca_answers.specs.Outcomes.{result_of, numbers_of, answer_after, Small, AnswerStored}
 use Rattle.hca_answers.proofs.Fitting.{of-refused}
 use Rattle.hca_encode.specs.EncodeLine.{index_in, LineSmall}
-
-pub three-stored : (xs : List ℕ) (a b c : ℕ) → 3 ≤ length xs → set (set (set xs 0 a) 1 b) 2 c ≡ overwrite (a ∷ b ∷ c ∷ []) xs
-three-stored [] a b c h = absurd (omega arith)
-three-stored (x ∷ []) a b c h = absurd (omega arith)
-three-stored (x ∷ y ∷ []) a b c h = absurd (omega arith)
-three-stored (x ∷ y ∷ z ∷ xs) a b c h = refl
 
 -- a delivery of no numbers
 pub stored-none : (answer : List ℕ) → answer ≡ answer_after (delivered []) answer
@@ -41,59 +30,62 @@ unfolding answer_after numbers_of
 stored-none answer = cond_both (λ (ys : List ℕ). answer ≡ ys) (ltb (length answer) 4) (λ _. refl) (λ _. refl)
 
 -- no frame is named
-pub unnamed_in : (a : LineAnswer) (answer : List ℕ) → OneOf (0 ∷ 1 ∷ 2 ∷ 3 ∷ []) (tag_of Line.the_type a) → answer ≡ index_in (line_index a) answer
+pub unnamed_in : {R : Type 0} (r : LineRefusal R) (answer : List ℕ) → ((k : ℕ) (e : R) → r ≡ Frame k e → ⊥)
+    → answer ≡ index_in (line_index {R = R} (Err r)) answer
 unfolding index_in line_index
-unnamed_in line.Delivered answer h = refl
-unnamed_in line.BadLayout answer h = refl
-unnamed_in line.BadBatch answer h = refl
-unnamed_in line.ShortBuffer answer h = refl
-unnamed_in (line.Refused k a) answer h = absurd (miss (0 ∷ 1 ∷ 2 ∷ 3 ∷ []) 4 tt h)
+unnamed_in BadLayout answer h = refl
+unnamed_in BadBatch answer h = refl
+unnamed_in ShortBuffer answer h = refl
+unnamed_in (Frame k e) answer h = absurd (h k e refl)
 
-pub stereo_unnamed_in : (a : StereoLineAnswer) (answer : List ℕ) → OneOf (0 ∷ 1 ∷ 2 ∷ 3 ∷ []) (tag_of StereoLine.the_type a) → answer
-    ≡ index_in (stereo_line_index a) answer
-unfolding index_in stereo_line_index
-stereo_unnamed_in stereo.Delivered answer h = refl
-stereo_unnamed_in stereo.BadLayout answer h = refl
-stereo_unnamed_in stereo.BadBatch answer h = refl
-stereo_unnamed_in stereo.ShortBuffer answer h = refl
-stereo_unnamed_in (stereo.Refused k a) answer h = absurd (miss (0 ∷ 1 ∷ 2 ∷ 3 ∷ []) 4 tt h)
-
--- ---- an answer that is no delivery
+-- ---- a refusal
 
 pub data Refusing : Outcome → Type 0 where
   refusing : (number beside : ℕ) → number ≤ 18 → Refusing (refused number beside)
 
-stage_refusing : (a : StageAnswer) → ((ns : List ℕ) → stage_outcome a ≡ delivered ns → ⊥) → Refusing (stage_outcome a)
+stage_refusing : (r : StageRefusal) → Refusing (stage_outcome (Err r))
 unfolding stage_outcome
-stage_refusing (stage.Delivered level boundary pairs bits) h = absurd (h (level ∷ boundary ∷ pairs ∷ bits ∷ []) refl)
-stage_refusing stage.BadLayout h = refusing 1 0 (omega arith)
-stage_refusing stage.ShortBuffer h = refusing 2 0 (omega arith)
-stage_refusing (stage.BadIntensity i) h = refusing 3 i (omega arith)
-stage_refusing (stage.BadSpectrum i) h = refusing 4 i (omega arith)
-stage_refusing (stage.NoLevel pairs) h = refusing 5 pairs (omega arith)
-stage_refusing (stage.TooLong bits) h = refusing 7 bits (omega arith)
+stage_refusing stage.BadLayout = refusing 1 0 (omega arith)
+stage_refusing stage.ShortBuffer = refusing 2 0 (omega arith)
+stage_refusing (stage.BadIntensity i) = refusing 3 i (omega arith)
+stage_refusing (stage.BadSpectrum i) = refusing 4 i (omega arith)
+stage_refusing (stage.NoLevel pairs) = refusing 5 pairs (omega arith)
+stage_refusing (stage.TooLong bits) = refusing 7 bits (omega arith)
 
-pub line_refusing : (a : LineAnswer) → OneOf (1 ∷ 2 ∷ 3 ∷ 4 ∷ []) (tag_of Line.the_type a) → LineSmall (line_outcome a) (line_index a) → Refusing (line_outcome a)
-unfolding line_outcome line_index
-line_refusing line.Delivered h s = absurd (miss (1 ∷ 2 ∷ 3 ∷ 4 ∷ []) 0 tt h)
-line_refusing line.BadLayout h s = refusing 1 0 (omega arith)
-line_refusing line.BadBatch h s = refusing 18 0 (omega arith)
-line_refusing line.ShortBuffer h s = refusing 2 0 (omega arith)
-line_refusing (line.Refused k a) h s = stage_refusing a (λ ns e. s.refuses k ns refl e)
-
-stereo_refusing : (a : StereoAnswer) → ((ns : List ℕ) → stereo_outcome a ≡ delivered ns → ⊥) → Refusing (stereo_outcome a)
+stereo_refusing : (r : StereoRefusal) → Refusing (stereo_outcome (Err r))
 unfolding stereo_outcome
-stereo_refusing TooLoud h = refusing 17 0 (omega arith)
-stereo_refusing (Of a) h = stage_refusing a h
+stereo_refusing TooLoud = refusing 17 0 (omega arith)
+stereo_refusing (Stage r) = stage_refusing r
 
-pub stereo_line_refusing : (a : StereoLineAnswer) → OneOf (1 ∷ 2 ∷ 3 ∷ 4 ∷ []) (tag_of StereoLine.the_type a)
-    → LineSmall (stereo_line_outcome a) (stereo_line_index a) → Refusing (stereo_line_outcome a)
-unfolding stereo_line_outcome stereo_line_index
-stereo_line_refusing stereo.Delivered h s = absurd (miss (1 ∷ 2 ∷ 3 ∷ 4 ∷ []) 0 tt h)
-stereo_line_refusing stereo.BadLayout h s = refusing 1 0 (omega arith)
-stereo_line_refusing stereo.BadBatch h s = refusing 18 0 (omega arith)
-stereo_line_refusing stereo.ShortBuffer h s = refusing 2 0 (omega arith)
-stereo_line_refusing (stereo.Refused k a) h s = stereo_refusing a (λ ns e. s.refuses k ns refl e)
+refusing_by : {R : Type 0} (refusal : R → Outcome) → ((r : R) → Refusing (refusal r)) → (r : LineRefusal R) → Refusing (line_outcome_by refusal (Err r))
+unfolding line_outcome_by
+refusing_by refusal all BadLayout = refusing 1 0 (omega arith)
+refusing_by refusal all BadBatch = refusing 18 0 (omega arith)
+refusing_by refusal all ShortBuffer = refusing 2 0 (omega arith)
+refusing_by refusal all (Frame k r) = all r
+
+pub line_refusing : (r : LineRefusal StageRefusal) → Refusing (line_outcome (Err r))
+line_refusing = refusing_by (λ r. stage_outcome (Err r)) stage_refusing
+
+pub stereo_line_refusing : (r : LineRefusal StereoRefusal) → Refusing (stereo_line_outcome (Err r))
+stereo_line_refusing = refusing_by (λ r. stereo_outcome (Err r)) stereo_refusing
+
+-- a refusal's number is low, and by its number a refusal is one
+pub low_number : (o : Outcome) (r : Refusal) → Refusing o → r ≡ refusal_of o → r.number ≤ 18
+unfolding refusal_of
+low_number o r (refusing number beside k) e = subst (λ (x : Refusal). x.number ≤ 18) (sym e) k
+
+told_refusing : (o : Outcome) (r : Refusal) → Refuses o → r ≡ refusal_of o → r.number ≤ 18 → Refusing o
+unfolding refusal_of
+told_refusing o r (refuses number beside) e k = refusing number beside (subst (λ (x : Refusal). x.number ≤ 18) e k)
+
+pub refusing_told : {R : Type 0} (refusal : R → Outcome) → ((r : R) → Refuses (refusal r)) → (e : LineRefusal R) (r : Refusal)
+    → r ≡ refusal_of (line_outcome_by refusal (Err e)) → r.number ≤ 18 → Refusing (line_outcome_by refusal (Err e))
+unfolding line_outcome_by
+refusing_told refusal all BadLayout r e k = refusing 1 0 (omega arith)
+refusing_told refusal all BadBatch r e k = refusing 18 0 (omega arith)
+refusing_told refusal all ShortBuffer r e k = refusing 2 0 (omega arith)
+refusing_told refusal all (Frame j f) r e k = told_refusing (refusal f) r (all f) e k
 
 refusing_fits : (o : Outcome) (r : Refusal) → Refusing o → r ≡ refusal_of o → ((number beside : ℕ) → o ≡ refused number beside → beside < 4294967296)
     → (r.number < 4294967296) × (r.beside < 4294967296)

@@ -1,6 +1,6 @@
 -- What a call tells of its line, over any step, by the place where it left. Assumes nothing.
-use mathlib.Core.Path.{◌≡◌, refl, sym, ◌∙◌, ap, ap₂}
-use mathlib.Core.List.{List, []}
+use mathlib.Core.Path.{◌≡◌, sym, ◌∙◌, ap, ap₂}
+use mathlib.Core.List.{List}
 use mathlib.Core.Bool.{true, false}
 use mathlib.Core.Option.{Option}
 use Prim.Native.Nat.{ℕ, ◌≤◌, ◌<◌}
@@ -11,7 +11,7 @@ use lib.ListN.{length}
 use Rattle.rules.specs.Lent.{overwrite}
 use Rattle.rules.specs.Refusals.{Outcome, refused}
 use Rattle.rules.specs.declared.Layout.{Layout}
-use Rattle.rules_line.specs.Line.{LineLent, LineLeft, line_lent, left_with, batch_fits, Step, line_over}
+use Rattle.rules_line.specs.Line.{LineLeft, line_lent, left_with, batch_fits, Step, line_over}
 use Rattle.rules_line.specs.declared.Tally.{Tally}
 use Rattle.hca_layout.specs.Layouts.{layout_of, is_layout}
 use Rattle.hca_answers.specs.Outcomes.{result_of, AnswerStored}

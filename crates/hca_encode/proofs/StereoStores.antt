@@ -11,14 +11,17 @@ use Rattle.rules.specs.Refusals.{refused}
 use Rattle.rules.specs.Stage.{StageLent}
 use Rattle.rules.specs.declared.Layout.{Layout}
 use Rattle.rules_stereo.specs.Stereo.{stereo_outcome, StereoLeft, stereo_left, encode_stereo_frame}
-use Rattle.rules_stereo.specs.declared.StereoAnswer.{StereoAnswer}
+use Rattle.std.specs.Prelude.{Result}
+use Rattle.rules.specs.declared.Delivery.{Delivery}
+use Rattle.rules_stereo.specs.declared.StereoRefusal.{StereoRefusal}
 use Rattle.hca_layout.specs.Layouts.{layout_of, is_layout}
 use Rattle.hca_answers.specs.Outcomes.{result_of, AnswerStored}
 use Rattle.hca_answers.proofs.Places.{stored_short}
 use Rattle.hca_encode.specs.EncodeStereoFrame.{CStereoLeft, c_stereo_left, c_stereo_from, c_encode_stereo_frame}
 
 -- what the stereo stage answered and left, told
-pub stereo_stores : (a : StereoAnswer) (r : ℕ) (before after : List ℕ) (spectra : List Float) (intensities : List ℕ) (scaled : List Float) (codes : List ℤ)
+pub stereo_stores : (a : Result Delivery StereoRefusal) (r : ℕ) (before after : List ℕ) (spectra : List Float) (intensities : List ℕ)
+    (scaled : List Float) (codes : List ℤ)
     (factors side frame : List ℕ) (x : StereoLeft)
     → stereo_left a spectra intensities scaled codes factors side frame ≡ x → AnswerStored (stereo_outcome a) r before after
     → c_stereo_left r after spectra intensities scaled codes factors side frame ≡ c_stereo_from x before

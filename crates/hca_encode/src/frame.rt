@@ -1,40 +1,10 @@
 // The frame stage by numbers and slices only, no `requires`.
 ghost use Rattle.std.specs.Prelude.{◌≡◌};
-ghost use Rattle.rules.specs.Stage.{stage_lent, encode_frame};
-ghost use Rattle.hca_encode.specs.EncodeFrame.{c_stage_left, c_stage_from, c_encode_frame};
+ghost use Rattle.rules.specs.Stage.{stage_lent};
+ghost use Rattle.hca_encode.specs.EncodeFrame.{c_stage_left, c_encode_frame};
 
 use hca_answers::{refuse, store_stage};
 use hca_layout::{is_layout, layout_of};
-use rules::Layout;
-
-// The stage of a layout that is named, and its answer told.
-fn encode_and_store(
-    layout: Layout,
-    spectra: &[f32],
-    intensities: &[u8],
-    scaled: &mut [f32],
-    codes: &mut [i32],
-    factors: &mut [u8],
-    side: &mut [u8],
-    frame: &mut [u8],
-    answer: &mut [u32],
-) -> u32
-    ensures { c_stage_left result answer.new scaled.new codes.new factors.new side.new
-        frame.new ≡ c_stage_from (encode_frame layout (stage_lent spectra.now intensities.now scaled.old
-        codes.old factors.old side.old frame.old)) answer.old }
-{
-    let a = stage::encode_frame(
-        layout,
-        spectra,
-        intensities,
-        scaled,
-        codes,
-        factors,
-        side,
-        frame,
-    );
-    store_stage(a, answer)
-}
 
 // The frame stage. answer: level, boundary, pairs, bits.
 pub fn encode_frame(
@@ -60,9 +30,8 @@ pub fn encode_frame(
     if answer.len() < 4 {
         return 2;
     }
-    let l = layout_of(layout, kinds);
-    encode_and_store(
-        l,
+    let a = stage::encode_frame(
+        layout_of(layout, kinds),
         spectra,
         intensities,
         scaled,
@@ -70,6 +39,6 @@ pub fn encode_frame(
         factors,
         side,
         frame,
-        answer,
-    )
+    );
+    store_stage(a, answer)
 }

@@ -1,43 +1,11 @@
 // The stereo stage by numbers and slices only, no `requires`.
 ghost use Rattle.std.specs.Prelude.{◌≡◌};
 ghost use Rattle.rules.specs.Stage.{stage_lent};
-ghost use Rattle.rules_stereo.specs.Stereo.{encode_stereo_frame};
-ghost use Rattle.hca_encode.specs.EncodeStereoFrame.{c_stereo_left, c_stereo_from, c_encode_stereo_frame};
+ghost use Rattle.hca_encode.specs.EncodeStereoFrame.{c_stereo_left, c_encode_stereo_frame};
 
 use hca_answers::refuse;
 use hca_answers::stereo::store_stereo;
 use hca_layout::{is_layout, layout_of};
-use rules::Layout;
-
-// The stereo stage of a layout that is named, and its answer told.
-fn stereo_and_store(
-    layout: Layout,
-    spectra: &mut [f32],
-    intensities: &mut [u8],
-    scaled: &mut [f32],
-    codes: &mut [i32],
-    factors: &mut [u8],
-    side: &mut [u8],
-    frame: &mut [u8],
-    answer: &mut [u32],
-) -> u32
-    ensures { c_stereo_left result answer.new spectra.new intensities.new scaled.new codes.new
-        factors.new side.new frame.new
-        ≡ c_stereo_from (encode_stereo_frame layout (stage_lent spectra.old intensities.old scaled.old codes.old
-        factors.old side.old frame.old)) answer.old }
-{
-    let a = stereo::encode_stereo_frame(
-        layout,
-        spectra,
-        intensities,
-        scaled,
-        codes,
-        factors,
-        side,
-        frame,
-    );
-    store_stereo(a, answer)
-}
 
 // The stereo stage. answer: level, boundary, pairs, bits.
 pub fn encode_stereo_frame(
@@ -64,9 +32,8 @@ pub fn encode_stereo_frame(
     if answer.len() < 4 {
         return 2;
     }
-    let l = layout_of(layout, kinds);
-    stereo_and_store(
-        l,
+    let a = stereo::encode_stereo_frame(
+        layout_of(layout, kinds),
         spectra,
         intensities,
         scaled,
@@ -74,6 +41,6 @@ pub fn encode_stereo_frame(
         factors,
         side,
         frame,
-        answer,
-    )
+    );
+    store_stereo(a, answer)
 }

@@ -5,12 +5,13 @@ use Prim.Native.Nat.{ℕ, ◌*◌, ◌<◌}
 use native.Mathlib.Omega.{arith}
 use lib.Dec.{ltb}
 use lib.ListN.{length, get_or}
+use Rattle.std.specs.Prelude.{Result, Ok, Err}
 use Rattle.bits.proofs.Parts.{bytes-all}
 use Rattle.buffers.proofs.Tests.{cond_both}
 use Rattle.rules.specs.Refusals.{Outcome, delivered}
 use Rattle.rules_files.specs.List.{judged_list, EntriesLeft, read_list_as, read_list}
-use Rattle.rules_files.specs.declared.list.Judgement.{Judgement}
-use Rattle.rules_files.specs.declared.list.Judgement.TheVariants as found
+use Rattle.rules_files.specs.declared.list.ListFault.{ListFault}
+use Rattle.rules_files.specs.declared.list.ListFault.TheVariants as found
 use Rattle.rules_files.proofs.Lists.{good-accepted, frames_small}
 use Rattle.hca_answers.specs.Outcomes.{numbers_of, Small}
 use Rattle.hca_answers.proofs.Fitting.{small-refused}
@@ -20,13 +21,13 @@ unfolding Small numbers_of
 small-frames n h = small-refused 0 n h
 
 module _ (list entries : List ℕ) where
-  by_judgement : (j : Judgement) → ((n : ℕ) → j ≡ found.Good n → n < 4294967296) → Small (read_list_as j list entries).outcome
+  by_judgement : (j : Result ℕ ListFault) → ((n : ℕ) → j ≡ Ok n → n < 4294967296) → Small (read_list_as j list entries).outcome
   unfolding read_list_as
-  by_judgement found.BadMark few = small-refused 19 0 (omega arith)
-  by_judgement found.BadLength few = small-refused 20 0 (omega arith)
-  by_judgement (found.BadEntry n) few =
+  by_judgement (Err found.BadMark) few = small-refused 19 0 (omega arith)
+  by_judgement (Err found.BadLength) few = small-refused 20 0 (omega arith)
+  by_judgement (Err (found.BadEntry n)) few =
       cond_both (λ (o : Outcome). Small o) (ltb (length entries) (n * 4)) (λ _. small-refused 2 0 (omega arith)) (λ _. small-refused 21 0 (omega arith))
-  by_judgement (found.Good n) few =
+  by_judgement (Ok n) few =
       cond_both (λ (x : EntriesLeft). Small x.outcome) (ltb (length entries) (n * 4)) (λ _. small-refused 2 0 (omega arith))
       (λ _. small-frames n (few n refl))
 

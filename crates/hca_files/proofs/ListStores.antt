@@ -4,16 +4,18 @@ use mathlib.Core.List.{List}
 use Prim.Native.Nat.{ℕ, ◌≤◌, ◌<◌}
 use borrow.Author.Tests.{lt-ltb, le-ltb}
 use lib.ListN.{length}
+use Rattle.std.specs.Prelude.{Result}
 use Rattle.rules.specs.Refusals.{Outcome, refused}
 use Rattle.rules_files.specs.List.{ListLeft, list_left, list_written_outcome, write_list, EntriesLeft, entries_left, list_read_outcome, read_list, list_entry}
 use Rattle.rules_files.specs.List.{list_summary}
-use Rattle.rules_files.specs.declared.list.ListWritten.{ListWritten}
-use Rattle.rules_files.specs.declared.list.ListAnswer.{ListAnswer}
+use Rattle.rules_files.specs.declared.list.ListWriteRefusal.{ListWriteRefusal}
+use Rattle.rules_files.specs.declared.list.ListReadRefusal.{ListReadRefusal}
 use Rattle.hca_answers.specs.Outcomes.{result_of, AnswerStored}
 use Rattle.hca_answers.proofs.Places.{stored_short}
 use Rattle.hca_files.specs.Lists.{c_list_left, c_write_list, c_entries_left, c_entries_from, c_read_list, c_answer_left, c_list_entry, c_list_summary, SummaryStored}
 
-pub write_stores : (n : ℕ) (entries list : List ℕ) (a : ListWritten) (result : ℕ) (after : List ℕ) → list_left a after ≡ write_list n entries list
+pub write_stores : (n : ℕ) (entries list : List ℕ) (a : Result (Unit {0}) ListWriteRefusal) (result : ℕ) (after : List ℕ)
+    → list_left a after ≡ write_list n entries list
     → result ≡ result_of (list_written_outcome a) → c_list_left result after ≡ c_write_list n entries list
 unfolding c_write_list
 write_stores n entries list a result after e q =
@@ -24,7 +26,7 @@ module _ (list entries answer : List ℕ) where
   unfolding c_read_list c_entries_from result_of
   read_short h = rw (lt-ltb _ _ h) (ap (λ (xs : List ℕ). c_entries_left 2 entries xs) (stored_short (refused 2 0) answer h))
 
-  pub read_stores : 4 ≤ length answer → (a : ListAnswer) (r : ℕ) (left after : List ℕ) → entries_left a left ≡ read_list list entries
+  pub read_stores : 4 ≤ length answer → (a : Result ℕ ListReadRefusal) (r : ℕ) (left after : List ℕ) → entries_left a left ≡ read_list list entries
       → AnswerStored (list_read_outcome a) r answer after → c_entries_left r left after ≡ c_read_list list entries answer
   unfolding c_read_list c_entries_from
   read_stores h a r left after e t = rw (le-ltb _ _ h, t.answered, t.shown) (ap (λ (x : EntriesLeft). c_entries_from x answer) e)

@@ -1,13 +1,11 @@
 -- The header's reader by numbers and slices: what a call returns, answers and leaves in every lent buffer.
-use Rattle.std.specs.Prelude.{List, cond, ℕ, ltb, length}
+use Rattle.std.specs.Prelude.{List, cond, ℕ, ltb, length, Option, Some, None, Result, Err}
 use Rattle.rules.specs.Lent.{overwrite}
 use Rattle.rules_files.specs.HeaderReading.{read_header, header_read_outcome, header_layout}
-use Rattle.rules_files.specs.HeaderReadFits.{Word}
-use Rattle.rules_files.specs.declared.header.HeaderReadAnswer.{HeaderReadAnswer}
-use Rattle.rules_files.specs.declared.header.HeaderReadAnswer.TheVariants.{ShortBuffer}
+use Rattle.rules_files.specs.declared.header.FileHeader.{FileHeader}
+use Rattle.rules_files.specs.declared.header.HeaderReadRefusal.{HeaderReadRefusal}
+use Rattle.rules_files.specs.declared.header.HeaderReadRefusal.TheVariants.{ShortBuffer}
 use Rattle.rules_files.specs.declared.header.LoopFields.{LoopFields}
-use Rattle.rules_files.specs.declared.header.LoopFrames.{LoopFrames}
-use Rattle.rules_files.specs.declared.header.LoopFrames.TheVariants.{Absent, Given}
 use Rattle.hca_answers.specs.Outcomes.{result_of, answer_after}
 
 pub record CHeaderReadLeft : Type 0 where
@@ -19,7 +17,7 @@ abbrev pub c_header_read_left : (result : ℕ) (layout answer : List ℕ) → CH
 c_header_read_left result layout answer = record { result = result; layout = layout; answer = answer }
 
 -- the layout's numbers over the lent one's front, the stream's over the answer's; a refusal has none of the first, and 0 for the second
-unfoldable pub c_header_read_from : (a : HeaderReadAnswer) (layout answer : List ℕ) → CHeaderReadLeft
+unfoldable pub c_header_read_from : (a : Result FileHeader HeaderReadRefusal) (layout answer : List ℕ) → CHeaderReadLeft
 c_header_read_from a layout answer =
     c_header_read_left (result_of (header_read_outcome a)) (overwrite (header_layout a) layout) (answer_after (header_read_outcome a) answer)
 
@@ -27,19 +25,13 @@ c_header_read_from a layout answer =
 unfoldable pub c_read_header : (header layout answer : List ℕ) → CHeaderReadLeft
 c_read_header header layout answer =
     cond (ltb (length answer) 8) (c_header_read_left 2 layout answer)
-    (cond (ltb (length layout) 7) (c_header_read_from ShortBuffer layout answer) (c_header_read_from (read_header header) layout answer))
+    (cond (ltb (length layout) 7) (c_header_read_from (Err ShortBuffer) layout answer) (c_header_read_from (read_header header) layout answer))
 
 -- a loop's numbers, 0 without one
-unfoldable pub loop_flag : (loop : LoopFrames) → ℕ
-loop_flag Absent = 0
-loop_flag (Given frame delay end_frame padding) = 1
+unfoldable pub loop_flag : (loop : Option LoopFields) → ℕ
+loop_flag None = 0
+loop_flag (Some f) = 1
 
-unfoldable pub loop_or : (loop : LoopFrames) → LoopFields
-loop_or Absent = record { start_frame = 0; end_frame = 0; delay = 0; padding = 0 }
-loop_or (Given frame delay end_frame padding) = record { start_frame = frame; end_frame = end_frame; delay = delay; padding = padding }
-
-pub record LoopWords (f : LoopFields) : Type 0 where
-  pub first : Word f.start_frame
-  pub last : Word f.end_frame
-  pub delay : Word f.delay
-  pub padding : Word f.padding
+unfoldable pub loop_or : (loop : Option LoopFields) → LoopFields
+loop_or None = record { start_frame = 0; end_frame = 0; delay = 0; padding = 0 }
+loop_or (Some f) = f

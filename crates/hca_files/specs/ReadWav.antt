@@ -1,7 +1,6 @@
 -- The WAV reader by numbers and slices: what a call returns, answers and leaves in every lent buffer.
 use Rattle.std.specs.Prelude.{List, cond, ◌||◌, ℕ, ltb, Float, length}
 use Rattle.rules.specs.Lent.{overwrite}
-use Rattle.rules.specs.Refusals.{refused}
 use Rattle.rules_files.specs.Wav.{WavLeft, wav_refused, read_wav}
 use Rattle.hca_answers.specs.Outcomes.{result_of, answer_after}
 

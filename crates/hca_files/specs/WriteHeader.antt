@@ -1,9 +1,8 @@
 -- The file header by numbers and slices: what a call returns and leaves in the lent buffer.
-use Rattle.std.specs.Prelude.{List, cond, not, ℕ, ltb, eqb, length, get_or}
+use Rattle.std.specs.Prelude.{List, cond, not, ℕ, ltb, eqb, length, get_or, Option, Some, None}
 use Rattle.rules.specs.Refusals.{refused}
 use Rattle.rules_files.specs.FileHeader.{HeaderLeft, write_header}
 use Rattle.rules_files.specs.declared.header.LoopPoints.{LoopPoints}
-use Rattle.rules_files.specs.declared.header.LoopPoints.TheVariants.{Absent, Given}
 use Rattle.rules_files.specs.declared.header.Stream.{Stream}
 use Rattle.refusals.specs.Refusals.{refusal_of}
 use Rattle.hca_layout.specs.Layouts.{layout_of, is_layout}
@@ -16,8 +15,8 @@ abbrev pub c_header_left : (result : ℕ) (header : List ℕ) → CHeaderLeft
 c_header_left result header = record { result = result; header = header }
 
 -- no points, or start and end; numbers past the second are not looked at
-unfoldable pub points_of : (points : List ℕ) → LoopPoints
-points_of points = cond (ltb (length points) 2) Absent (Given (get_or points 0 0) (get_or points 1 0))
+unfoldable pub points_of : (points : List ℕ) → Option LoopPoints
+points_of points = cond (ltb (length points) 2) None (Some (record { start = get_or points 0 0; end = get_or points 1 0 }))
 
 -- rate, count, padding; numbers past the third are not looked at
 unfoldable pub stream_of : (stream points : List ℕ) → Stream

@@ -4,18 +4,21 @@ ghost use Rattle.rules_files.specs.FileHeader.{write_header};
 ghost use Rattle.hca_files.specs.WriteHeader.{points_of, stream_of, c_header_left, c_header_from, c_write_header};
 
 use hca_layout::{is_layout, layout_of};
-use refusals::header::header_refusal;
+use refusals::Refusal;
 use rules::Layout;
 use rules_files::header::{LoopPoints, Stream};
 
 // No loop, or its start and end; more numbers are not looked at.
-fn points_of(points: &[u64]) -> LoopPoints
+fn points_of(points: &[u64]) -> Option<LoopPoints>
     ensures { result ≡ points_of points.now }
 {
     if points.len() < 2 {
-        return LoopPoints::Absent;
+        return None;
     }
-    LoopPoints::Given(points[0], points[1])
+    Some(LoopPoints {
+        start: points[0],
+        end: points[1],
+    })
 }
 
 // Rate, count, padding; more numbers are not looked at.
@@ -23,15 +26,11 @@ fn stream_of(stream: &[u64], points: &[u64]) -> Stream
     requires { 3 ≤ length stream.now }
     ensures { result ≡ stream_of stream.now points.now }
 {
-    let rate = stream[0];
-    let frames = stream[1];
-    let padding = stream[2];
-    let points = points_of(points);
     Stream {
-        rate,
-        frames,
-        padding,
-        points,
+        rate: stream[0],
+        frames: stream[1],
+        padding: stream[2],
+        points: points_of(points),
     }
 }
 
@@ -39,9 +38,10 @@ fn stream_of(stream: &[u64], points: &[u64]) -> Stream
 fn write_and_store(layout: Layout, stream: Stream, header: &mut [u8]) -> u32
     ensures { c_header_left result header.new ≡ c_header_from (write_header layout stream header.old) }
 {
-    let a = file_header::write_header(layout, stream, header);
-    let r = header_refusal(a);
-    r.number as u32
+    match file_header::write_header(layout, stream, header) {
+        Ok(()) => 0,
+        Err(e) => Refusal::from(e).number as u32,
+    }
 }
 
 // The file header. stream: rate, count, padding; points: none, or start and end.

@@ -3,44 +3,36 @@ ghost use Rattle.std.specs.Prelude.{◌≡◌, ◌≤◌, length};
 ghost use Rattle.rules.specs.Lent.{overwrite};
 ghost use Rattle.rules.specs.Refusals.{delivered};
 ghost use Rattle.rules_files.specs.HeaderReading.{layout_numbers, stream_numbers, header_read_outcome, header_layout};
-ghost use Rattle.rules_files.specs.HeaderReadFits.{LoopFits, FieldsFit, ReadFits};
+ghost use Rattle.rules_files.specs.HeaderReadFits.{LoopWords, LoopFits, FieldsFit, ReadFits};
 ghost use Rattle.hca_answers.specs.Outcomes.{AnswerStored};
-ghost use Rattle.hca_files.specs.ReadHeader.{c_header_read_left, c_read_header, loop_flag, loop_or, LoopWords};
+ghost use Rattle.hca_files.specs.ReadHeader.{c_header_read_left, c_read_header, loop_flag, loop_or};
 
 use file_header::reading::read_file_header;
 use hca_answers::refuse;
-use refusals::header::header_read_refusal;
-use rules_files::header::{FileHeader, HeaderReadAnswer, LoopFields, LoopFrames};
+use refusals::Refusal;
+use rules_files::header::{FileHeader, HeaderReadRefusal, LoopFields};
 
 // 1 for a loop.
-fn loop_flag(points: LoopFrames) -> u32
+fn loop_flag(points: Option<LoopFields>) -> u32
     ensures { result ≡ loop_flag points }
 {
     match points {
-        LoopFrames::Absent => 0,
-        LoopFrames::Given(_, _, _, _) => 1,
+        None => 0,
+        Some(_) => 1,
     }
 }
 
 // Its numbers, or zeros.
-fn loop_or(points: LoopFrames) -> LoopFields
+fn loop_or(points: Option<LoopFields>) -> LoopFields
     requires { LoopFits points }
     ensures { (result ≡ loop_or points) × LoopWords result }
 {
-    let LoopFrames::Given(frame, delay, end_frame, padding) = points else {
-        return LoopFields {
-            start_frame: 0,
-            end_frame: 0,
-            delay: 0,
-            padding: 0,
-        };
-    };
-    LoopFields {
-        start_frame: frame,
-        end_frame,
-        delay,
-        padding,
-    }
+    points.unwrap_or(LoopFields {
+        start_frame: 0,
+        end_frame: 0,
+        delay: 0,
+        padding: 0,
+    })
 }
 
 // Seven numbers over the layout's front; the mode's place stays.
@@ -64,13 +56,11 @@ fn deliver_header(fields: FileHeader, answer: &mut [u32]) -> u32
     requires in_bounds { 8 ≤ length answer.old }
     ensures { AnswerStored (delivered (stream_numbers fields)) result answer.old answer.new }
 {
-    let points = fields.points;
-    let numbers = loop_or(points);
-    let flag = loop_flag(points);
+    let numbers = loop_or(fields.points);
     answer[0] = fields.rate as u32;
     answer[1] = fields.frames as u32;
     answer[2] = fields.padding as u32;
-    answer[3] = flag;
+    answer[3] = loop_flag(fields.points);
     answer[4] = numbers.start_frame as u32;
     answer[5] = numbers.delay as u32;
     answer[6] = numbers.end_frame as u32;
@@ -79,18 +69,26 @@ fn deliver_header(fields: FileHeader, answer: &mut [u32]) -> u32
 }
 
 // An answer as numbers; the layout stays at a refusal.
-fn store_header(a: HeaderReadAnswer, layout: &mut [u32], answer: &mut [u32]) -> u32
+fn store_header(
+    a: Result<FileHeader, HeaderReadRefusal>,
+    layout: &mut [u32],
+    answer: &mut [u32],
+) -> u32
     requires read_fits { ReadFits a }
     requires in_bounds { (7 ≤ length layout.old) × (8 ≤ length answer.old) }
     ensures { (layout.new ≡ overwrite (header_layout a) layout.old)
         × AnswerStored (header_read_outcome a) result answer.old answer.new }
 {
-    let HeaderReadAnswer::Read(fields) = a else {
-        let r = header_read_refusal(a);
-        return refuse(r.number, r.beside, answer);
-    };
-    store_layout(fields, layout);
-    deliver_header(fields, answer)
+    match a {
+        Ok(fields) => {
+            store_layout(fields, layout);
+            deliver_header(fields, answer)
+        }
+        Err(e) => {
+            let r = Refusal::from(e);
+            refuse(r.number, r.beside, answer)
+        }
+    }
 }
 
 // The header's reader. layout: seven numbers; answer: rate, count, padding, loop or none, frame, delay, end frame, padding of the loop.

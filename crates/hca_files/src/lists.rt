@@ -3,7 +3,7 @@ ghost use Rattle.std.specs.Prelude.{◌≡◌};
 ghost use Rattle.hca_files.specs.Lists.{c_list_left, c_write_list, c_entries_left, c_read_list, c_answer_left, c_list_entry, c_list_summary};
 
 use crate::lists::storing::{store_entry, store_list, store_summary};
-use refusals::list::list_write_refusal;
+use refusals::Refusal;
 
 mod storing;
 
@@ -11,9 +11,10 @@ mod storing;
 pub fn list_write(frames: u32, entries: &[u32], list: &mut [u8]) -> u32
     ensures { c_list_left result list.new ≡ c_write_list frames entries.now list.old }
 {
-    let a = list::write_list(frames, entries, list);
-    let r = list_write_refusal(a);
-    r.number as u32
+    match list::write_list(frames, entries, list) {
+        Ok(()) => 0,
+        Err(e) => Refusal::from(e).number as u32,
+    }
 }
 
 // The list's reader. answer: frames.

@@ -8,8 +8,8 @@ ghost use Rattle.hca_answers.specs.Outcomes.{AnswerStored};
 ghost use Rattle.hca_files.specs.ReadWav.{c_wav_left, c_read_wav};
 
 use hca_answers::refuse;
-use refusals::wav::wav_refusal;
-use rules_files::wav::{LevelNote, Take, WavAnswer};
+use refusals::Refusal;
+use rules_files::wav::{LevelNote, Take, WavRefusal};
 
 // Peak and mean over the note's front.
 fn store_note(level: LevelNote, note: &mut [f32])
@@ -34,18 +34,22 @@ fn deliver_take(take: Take, answer: &mut [u32]) -> u32
 }
 
 // An answer as numbers; the note stays at a refusal.
-fn store_wav(a: WavAnswer, note: &mut [f32], answer: &mut [u32]) -> u32
+fn store_wav(a: Result<Take, WavRefusal>, note: &mut [f32], answer: &mut [u32]) -> u32
     requires take_fits { TakeFits a }
     requires in_bounds { (2 ≤ length note.old) × (4 ≤ length answer.old) }
     ensures { (note.new ≡ overwrite (wav_note a) note.old)
         × AnswerStored (wav_outcome a) result answer.old answer.new }
 {
-    let WavAnswer::Taken(take) = a else {
-        let r = wav_refusal(a);
-        return refuse(r.number, r.beside, answer);
-    };
-    store_note(take.note, note);
-    deliver_take(take, answer)
+    match a {
+        Ok(take) => {
+            store_note(take.note, note);
+            deliver_take(take, answer)
+        }
+        Err(e) => {
+            let r = Refusal::from(e);
+            refuse(r.number, r.beside, answer)
+        }
+    }
 }
 
 // The WAV reader. note: peak, mean; answer: channels, rate, depth, count.

@@ -6,16 +6,18 @@ use Prim.Native.Nat.{ℕ, ◌≤◌, ◌<◌}
 use borrow.Author.Tests.{lt-ltb, le-ltb}
 use lib.IntN.{ℤ}
 use lib.ListN.{length}
+use Rattle.std.specs.Prelude.{Result}
 use Rattle.rules.specs.Refusals.{refused, reader_outcome}
 use Rattle.rules.specs.Reader.{ReaderLent, ReaderLeft, reader_left, read_frame}
 use Rattle.rules.specs.declared.Layout.{Layout}
-use Rattle.rules.specs.declared.ReadAnswer.{ReadAnswer}
+use Rattle.rules.specs.declared.RecordDelivery.{RecordDelivery}
+use Rattle.rules.specs.declared.ReadRefusal.{ReadRefusal}
 use Rattle.hca_layout.specs.Layouts.{layout_of, is_layout}
 use Rattle.hca_answers.specs.Outcomes.{result_of, AnswerStored}
 use Rattle.hca_answers.proofs.Places.{stored_short}
 use Rattle.hca_records.specs.ReadFrame.{CReaderLeft, c_reader_left, c_reader_from, c_read_frame}
 
-pub read_stores : (a : ReadAnswer) (r : ℕ) (before after factors side : List ℕ) (codes : List ℤ) (x : ReaderLeft)
+pub read_stores : (a : Result RecordDelivery ReadRefusal) (r : ℕ) (before after factors side : List ℕ) (codes : List ℤ) (x : ReaderLeft)
     → reader_left a factors side codes ≡ x → AnswerStored (reader_outcome a) r before after → c_reader_left r after factors side codes ≡ c_reader_from x before
 unfolding c_reader_from
 read_stores a r before after factors side codes x e t = rw (t.answered, t.shown) (ap (λ (y : ReaderLeft). c_reader_from y before) e)

@@ -1,7 +1,6 @@
 -- Every number of an outcome fits 32 bits. Assumes nothing.
 use mathlib.Core.Path.{◌≡◌}
 use mathlib.Core.Bool.{true}
-use Prim.Native.Nat.{ℕ, ◌≤◌}
 use native.Mathlib.Omega.{arith}
 use Rattle.buffers.proofs.Tests.{and_fst}
 use Rattle.rules.specs.Record.{LegalHead, legal_head, legal_record}

@@ -6,16 +6,18 @@ use Prim.Native.Nat.{ℕ, ◌≤◌, ◌<◌}
 use borrow.Author.Tests.{lt-ltb, le-ltb}
 use lib.IntN.{ℤ}
 use lib.ListN.{length, get_or}
+use Rattle.std.specs.Prelude.{Result}
 use Rattle.rules.specs.Refusals.{refused, writer_outcome}
 use Rattle.rules.specs.Writer.{WriterLeft, writer_lent, writer_left, write_record}
 use Rattle.rules.specs.declared.Layout.{Layout}
-use Rattle.rules.specs.declared.WriteAnswer.{WriteAnswer}
+use Rattle.rules.specs.declared.RecordDelivery.{RecordDelivery}
+use Rattle.rules.specs.declared.WriteRefusal.{WriteRefusal}
 use Rattle.hca_layout.specs.Layouts.{layout_of, is_layout}
 use Rattle.hca_answers.specs.Outcomes.{result_of, AnswerStored}
 use Rattle.hca_answers.proofs.Places.{stored_short}
 use Rattle.hca_records.specs.WriteRecord.{CWriterLeft, c_writer_left, c_writer_from, c_write_record}
 
-pub write_stores : (a : WriteAnswer) (r : ℕ) (before after frame : List ℕ) (x : WriterLeft)
+pub write_stores : (a : Result RecordDelivery WriteRefusal) (r : ℕ) (before after frame : List ℕ) (x : WriterLeft)
     → writer_left a frame ≡ x → AnswerStored (writer_outcome a) r before after → c_writer_left r after frame ≡ c_writer_from x before
 unfolding c_writer_from
 write_stores a r before after frame x e t = rw (t.answered, t.shown) (ap (λ (y : WriterLeft). c_writer_from y before) e)

@@ -11,65 +11,29 @@ use rules::{ChannelType, Layout, Room};
 fn legal_pair(minimum: usize, maximum: usize) -> bool
     ensures { result ≡ legal_pair minimum maximum }
 {
-    if minimum < 1 {
-        return false;
-    }
-    if maximum < minimum {
-        return false;
-    }
-    if 15 < maximum {
-        return false;
-    }
-    true
+    1 <= minimum && minimum <= maximum && maximum <= 15
 }
 
 // Is the layout within its limits?
 pub fn legal(layout: Layout) -> bool
     ensures { result ≡ legal_layout layout }
 {
-    let channels = layout.channels;
-    let total = layout.total;
-    let base = layout.base;
-    let stereo = layout.stereo;
-    let size = layout.frame_size;
-    if channels < 1 {
-        return false;
-    }
-    if 16 < channels {
-        return false;
-    }
-    if total < 1 {
-        return false;
-    }
-    if 128 < total {
-        return false;
-    }
-    if total < base {
-        return false;
-    }
-    if total - base < stereo {
-        return false;
-    }
-    if size < 8 {
-        return false;
-    }
-    if 65535 < size {
-        return false;
-    }
-    legal_pair(layout.minimum, layout.maximum)
+    1 <= layout.channels
+        && layout.channels <= 16
+        && 1 <= layout.total
+        && layout.total <= 128
+        && layout.base <= layout.total
+        && layout.stereo <= layout.total - layout.base
+        && 8 <= layout.frame_size
+        && layout.frame_size <= 65535
+        && legal_pair(layout.minimum, layout.maximum)
 }
 
 pub fn is_secondary(layout: Layout, channel: usize) -> bool
     requires { channel < 16 }
     ensures { result ≡ secondary_at layout channel }
 {
-    let entry = layout.kinds[channel];
-    let kind = entry.kind;
-    match kind {
-        ChannelType::StereoSecondary => true,
-        ChannelType::StereoPrimary => false,
-        ChannelType::Discrete => false,
-    }
+    matches!(layout.kinds[channel].kind, ChannelType::StereoSecondary)
 }
 
 // Is each buffer as long as document 01 asks?
@@ -77,19 +41,10 @@ pub fn has_room(layout: Layout, room: Room) -> bool
     requires { LegalLayout layout }
     ensures { result ≡ has_room layout room }
 {
-    if room.factors < layout.channels * 128 {
-        return false;
-    }
-    if room.side < layout.channels * 8 {
-        return false;
-    }
-    if room.codes < layout.channels * 1024 {
-        return false;
-    }
-    if room.frame < layout.frame_size {
-        return false;
-    }
-    true
+    layout.channels * 128 <= room.factors
+        && layout.channels * 8 <= room.side
+        && layout.channels * 1024 <= room.codes
+        && layout.frame_size <= room.frame
 }
 
 // Start N.
@@ -117,7 +72,7 @@ pub fn bands_per_group(layout: Layout) -> usize
     requires { LegalLayout layout }
     ensures { (result ≡ bands_per_group layout) × (result ≤ 16) }
 {
-    (layout.total - start(layout) + 7) / 8
+    (layout.total - start(layout)).div_ceil(8)
 }
 
 // G.
@@ -127,9 +82,10 @@ pub fn groups(layout: Layout) -> usize
 {
     let g = bands_per_group(layout);
     if g == 0 {
-        return 0;
+        0
+    } else {
+        (layout.total - start(layout)).div_ceil(g)
     }
-    (layout.total - start(layout) + (g - 1)) / g
 }
 
 // How many side values a channel has.

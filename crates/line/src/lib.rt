@@ -6,8 +6,9 @@ ghost use Rattle.rules_line.specs.Line.{line_lent, line_left, stereo_line_left, 
 
 use line_turns::encode_frames;
 use line_turns::stereo_line::encode_stereo_frames;
-use rules::Layout;
-use rules_line::{LineAnswer, StereoLineAnswer, Tally};
+use rules::{Layout, StageRefusal};
+use rules_line::{LineRefusal, Tally};
+use rules_stereo::StereoRefusal;
 
 // A line, the caller's running tally lent: it is brought up to date for delivered frames only.
 pub fn encode_line(
@@ -22,15 +23,14 @@ pub fn encode_line(
     frames: &mut [u8],
     answers: &mut [u32],
     tally: &mut Tally,
-) -> LineAnswer
+) -> Result<(), LineRefusal<StageRefusal>>
     ensures { line_left result tally.new spectra.now intensities.now scaled.new codes.new
         factors.new side.new frames.new answers.new
         ≡ encode_line layout count (line_lent spectra.now intensities.now
         scaled.old codes.old factors.old side.old frames.old answers.old
         tally.old) }
 {
-    let before = *tally;
-    let end = encode_frames(
+    encode_frames(
         layout,
         count,
         spectra,
@@ -41,10 +41,8 @@ pub fn encode_line(
         side,
         frames,
         answers,
-        before,
-    );
-    *tally = end.tally;
-    end.answer
+        tally,
+    )
 }
 
 // The same from unmixed spectra: those of delivered frames and their intensities are left as mixed.
@@ -60,15 +58,14 @@ pub fn encode_stereo_line(
     frames: &mut [u8],
     answers: &mut [u32],
     tally: &mut Tally,
-) -> StereoLineAnswer
+) -> Result<(), LineRefusal<StereoRefusal>>
     ensures { stereo_line_left result tally.new spectra.new intensities.new scaled.new codes.new
         factors.new side.new frames.new answers.new
         ≡ encode_stereo_line layout count (line_lent spectra.old intensities.old
         scaled.old codes.old factors.old side.old frames.old answers.old
         tally.old) }
 {
-    let before = *tally;
-    let end = encode_stereo_frames(
+    encode_stereo_frames(
         layout,
         count,
         spectra,
@@ -79,8 +76,6 @@ pub fn encode_stereo_line(
         side,
         frames,
         answers,
-        before,
-    );
-    *tally = end.tally;
-    end.answer
+        tally,
+    )
 }

@@ -13,17 +13,19 @@ use Rattle.rules.specs.Stage.{stage_lent, stage_room_of}
 use Rattle.rules.specs.declared.ChannelType.TheVariants.{Discrete}
 use Rattle.rules.specs.declared.Mode.TheVariants.{Rust}
 use Rattle.rules.specs.declared.Layout.{Layout}
-use Rattle.rules.specs.declared.StageAnswer.TheVariants as stage
+use Rattle.std.specs.Prelude.{Result, Ok, Err, ⊤}
+use Rattle.rules.specs.declared.StageRefusal.{StageRefusal}
+use Rattle.rules.specs.declared.StageRefusal.TheVariants as stage
 use Rattle.rules.specs.declared.StageRoom.{StageRoom}
 use Rattle.rules_stereo.specs.Stereo.{stereo_outcome, StereoLeft}
-use Rattle.rules_stereo.specs.declared.StereoAnswer.TheVariants.{TooLoud}
-use Rattle.rules_line.specs.Line.{LineLeft, line_outcome, line_index, stereo_line_outcome, stereo_line_index, line_lent, line_left, stereo_line_left, batch_fits, line_room}
+use Rattle.rules_stereo.specs.declared.StereoRefusal.{StereoRefusal}
+use Rattle.rules_stereo.specs.declared.StereoRefusal.TheVariants.{TooLoud}
+use Rattle.rules_line.specs.Line.{LineLeft, line_outcome_by, line_outcome, line_index, stereo_line_outcome}
+use Rattle.rules_line.specs.Line.{stereo_line_index, line_lent, line_left, stereo_line_left, batch_fits, line_room}
 use Rattle.rules_line.specs.Line.{line_has_room, line_gate}
 use Rattle.rules_line.specs.Line.{part_overwrite, frame_lent, frame_placed, answers_of, tally_after, turn_outcome, turn_index, line_turn, line_kept, turn_lent}
-use Rattle.rules_line.specs.declared.LineAnswer.{LineAnswer}
-use Rattle.rules_line.specs.declared.LineAnswer.TheVariants.{Delivered, BadLayout, BadBatch, ShortBuffer, Refused}
-use Rattle.rules_line.specs.declared.StereoLineAnswer.{StereoLineAnswer}
-use Rattle.rules_line.specs.declared.StereoLineAnswer.TheVariants as stereo
+use Rattle.rules_line.specs.declared.LineRefusal.{LineRefusal}
+use Rattle.rules_line.specs.declared.LineRefusal.TheVariants.{BadLayout, BadBatch, ShortBuffer, Frame}
 use Rattle.rules_line.specs.declared.Tally.{Tally}
 
 abbrev tally : (frames bits pairs : ℕ) → Tally
@@ -91,7 +93,7 @@ left_by o spectra intensities scaled codes factors side frame = record {
 
 -- each buffer of a call is lent and left under its own name
 module _ (spectra : List Float) (intensities : List ℕ) (scaled : List Float) (codes : List ℤ) (factors side frames answers : List ℕ) (t : Tally)
-    (a : LineAnswer) (b : StereoLineAnswer) where
+    (a : Result ⊤ (LineRefusal StageRefusal)) (b : Result ⊤ (LineRefusal StereoRefusal)) where
   pub lent_names :
       let x = line_lent spectra intensities scaled codes factors side frames answers t in
       (x.spectra ≡ spectra) × (x.intensities ≡ intensities) × (x.scaled ≡ scaled) × (x.codes ≡ codes) × (x.factors ≡ factors) × (x.side ≡ side)
@@ -143,25 +145,35 @@ module _ (spectra : List Float) (intensities : List ℕ) (scaled : List Float) (
       × (x.frame ≡ frames)
   turn_names = (refl, refl, refl, refl, refl, refl, refl)
 
+-- each answer; the last of a frame that was refused
+abbrev answers_with : {R : Type 0} → R → List (Result ⊤ (LineRefusal R))
+answers_with r = Ok tt ∷ Err BadLayout ∷ Err BadBatch ∷ Err ShortBuffer ∷ Err (Frame 5 r) ∷ []
+
+abbrev stage_answers : List (Result ⊤ (LineRefusal StageRefusal))
+stage_answers = answers_with (stage.TooLong 9)
+
+abbrev stereo_answers : List (Result ⊤ (LineRefusal StereoRefusal))
+stereo_answers = answers_with TooLoud
+
 -- the number of each answer: a refused frame's is the single call's; and its index, which no other answer has
-pub number-row : map line_outcome (Delivered ∷ BadLayout ∷ BadBatch ∷ ShortBuffer ∷ Refused 5 (stage.TooLong 9) ∷ [])
+pub number-row : map line_outcome stage_answers
     ≡ delivered [] ∷ refused 1 0 ∷ refused 18 0 ∷ refused 2 0 ∷ refused 7 9 ∷ []
-unfolding line_outcome stage_outcome
+unfolding line_outcome_by stage_outcome
 number-row = refl
 
-pub index-row : map line_index (Delivered ∷ BadLayout ∷ BadBatch ∷ ShortBuffer ∷ Refused 5 (stage.TooLong 9) ∷ []) ≡ none ∷ none ∷ none ∷ none ∷ some 5 ∷ []
+pub index-row : map line_index stage_answers ≡ none ∷ none ∷ none ∷ none ∷ some 5 ∷ []
 unfolding line_index
 index-row = refl
 
 -- the same of a line from unmixed spectra, whose frames may be refused with 17 too
-pub stereo-number-row : map stereo_line_outcome (stereo.Delivered ∷ stereo.BadLayout ∷ stereo.BadBatch ∷ stereo.ShortBuffer ∷ stereo.Refused 5 TooLoud ∷ [])
+pub stereo-number-row : map stereo_line_outcome stereo_answers
     ≡ delivered [] ∷ refused 1 0 ∷ refused 18 0 ∷ refused 2 0 ∷ refused 17 0 ∷ []
-unfolding stereo_line_outcome stereo_outcome
+unfolding line_outcome_by stereo_outcome
 stereo-number-row = refl
 
-pub stereo-index-row : map stereo_line_index (stereo.Delivered ∷ stereo.BadLayout ∷ stereo.BadBatch ∷ stereo.ShortBuffer ∷ stereo.Refused 5 TooLoud ∷ [])
+pub stereo-index-row : map stereo_line_index stereo_answers
     ≡ none ∷ none ∷ none ∷ none ∷ some 5 ∷ []
-unfolding stereo_line_index
+unfolding line_index
 stereo-index-row = refl
 
 -- one turn: frame 1 was delivered with level 40, boundary 3, 2 pairs removed and 100 bits, or refused with 7; its answers stand in the second part of four

@@ -3,6 +3,7 @@ pub mod StereoSingles
 pub mod Standing
 pub mod Over
 pub mod OverExactly
+pub mod Once
 pub mod Lines
 pub mod StereoLines
 pub mod Corners

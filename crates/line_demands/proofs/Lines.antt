@@ -25,8 +25,10 @@ use Rattle.rules_stereo.specs.Stereo.{StereoLeft}
 use Rattle.rules_line.specs.Line.{line_outcome, line_index, LineLent, LineLeft, line_room, line_gate, stage_step, step_at, line_turn, line_kept, turn_lent, onward}
 use Rattle.rules_line.specs.Line.{line_after, line_behind_gate, line_over, encode_line}
 use Rattle.rules_line.specs.Asked.{Batch}
-use Rattle.rules_line.specs.declared.LineAnswer.{LineAnswer}
-use Rattle.rules_line.specs.declared.LineAnswer.TheVariants.{Delivered, BadLayout, BadBatch, ShortBuffer, Refused}
+use Rattle.std.specs.Prelude.{Result, Err, ⊤}
+use Rattle.rules.specs.declared.StageRefusal.{StageRefusal}
+use Rattle.rules_line.specs.declared.LineRefusal.{LineRefusal}
+use Rattle.line_demands.proofs.Once.{answers_differ_by, once_by}
 use Rattle.rules_line.proofs.Steps.{stage_spectra, stage_intensities}
 use Rattle.line_demands.proofs.Singles.{stage_late, stage_step_lem}
 use Rattle.line_demands.proofs.Standing.{single, answers_at, tally_over}
@@ -154,38 +156,15 @@ module _ (l : Layout) (count : ℕ) (t : LineLent) where
 
 -- ---- one outcome
 
--- an answer without a frame, by its number
-unnamed : Outcome → LineAnswer
-unnamed (delivered ns) = Delivered
-unnamed (refused zero b) = Delivered
-unnamed (refused (suc zero) b) = BadLayout
-unnamed (refused (suc (suc zero)) b) = ShortBuffer
-unnamed (refused (suc (suc (suc n))) b) = BadBatch
-
-unnamed_said : (a : LineAnswer) → none ≡ line_index a → unnamed (line_outcome a) ≡ a
-unfolding line_index line_outcome unnamed
-unnamed_said Delivered e = refl
-unnamed_said BadLayout e = refl
-unnamed_said BadBatch e = refl
-unnamed_said ShortBuffer e = refl
-unnamed_said (Refused k a) e = let z : ◌≡◌ {A = ℕ} 0 1 = cc e in absurd (omega arith)
+refusals_differ : (a b : StageRefusal) → stage_outcome (Err a) ≡ stage_outcome (Err b) → a ≡ b
+refusals_differ a b e = cc (stage_numbers_differ (Err a) (Err b) e)
 
 -- different answers have different numbers or name different frames
-pub line_answers_differ : (a b : LineAnswer) → line_outcome a ≡ line_outcome b → line_index a ≡ line_index b → a ≡ b
-unfolding line_index line_outcome unnamed
-line_answers_differ Delivered b e i = ap unnamed e ∙ unnamed_said b i
-line_answers_differ BadLayout b e i = ap unnamed e ∙ unnamed_said b i
-line_answers_differ BadBatch b e i = ap unnamed e ∙ unnamed_said b i
-line_answers_differ ShortBuffer b e i = ap unnamed e ∙ unnamed_said b i
-line_answers_differ (Refused j a) (Refused k b) e i = let q : j ≡ k = cc i in ap₂ Refused q (stage_numbers_differ a b e)
-line_answers_differ (Refused j a) Delivered e i = let z : ◌≡◌ {A = ℕ} 0 1 = cc i in absurd (omega arith)
-line_answers_differ (Refused j a) BadLayout e i = let z : ◌≡◌ {A = ℕ} 0 1 = cc i in absurd (omega arith)
-line_answers_differ (Refused j a) BadBatch e i = let z : ◌≡◌ {A = ℕ} 0 1 = cc i in absurd (omega arith)
-line_answers_differ (Refused j a) ShortBuffer e i = let z : ◌≡◌ {A = ℕ} 0 1 = cc i in absurd (omega arith)
+pub line_answers_differ : (a b : Result ⊤ (LineRefusal StageRefusal)) → line_outcome a ≡ line_outcome b → line_index a ≡ line_index b → a ≡ b
+line_answers_differ = answers_differ_by (λ r. stage_outcome (Err r)) refusals_differ
 
 -- Two outcomes that the contract allows coincide: what is left is one, and so is the answer.
-pub line_once : (l : Layout) (count : ℕ) (t : LineLent) (x y : LineLeft) (a b : LineAnswer) → x ≡ encode_line l count t → y ≡ encode_line l count t
+pub line_once : (l : Layout) (count : ℕ) (t : LineLent) (x y : LineLeft) (a b : Result ⊤ (LineRefusal StageRefusal)) → x ≡ encode_line l count t
+    → y ≡ encode_line l count t
     → line_outcome a ≡ x.outcome → line_index a ≡ x.index → line_outcome b ≡ y.outcome → line_index b ≡ y.index → (x ≡ y) × (a ≡ b)
-line_once l count t x y a b p q e i f j =
-    let z : x ≡ y = p ∙ sym q in
-    (z, line_answers_differ a b (e ∙ ap (λ (w : LineLeft). w.outcome) z ∙ sym f) (i ∙ ap (λ (w : LineLeft). w.index) z ∙ sym j))
+line_once l count t = once_by (λ r. stage_outcome (Err r)) refusals_differ (encode_line l count t)

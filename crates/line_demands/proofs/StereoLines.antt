@@ -21,12 +21,14 @@ use Rattle.rules.specs.declared.Mode.TheVariants.{Held}
 use Rattle.rules.specs.declared.Layout.{Layout}
 use Rattle.rules.proofs.Answers.{Numbered}
 use Rattle.rules_demands.proofs.Calls.{handed}
-use Rattle.rules_stereo.specs.Stereo.{encode_stereo_frame}
+use Rattle.rules_stereo.specs.Stereo.{stereo_outcome, encode_stereo_frame}
 use Rattle.stereo_demands.proofs.StereoAnswers.{stereo_numbers_differ}
 use Rattle.rules_line.specs.Line.{stereo_line_outcome, stereo_line_index, LineLent, LineLeft, line_kept, encode_stereo_line}
 use Rattle.rules_line.specs.Asked.{Batch}
-use Rattle.rules_line.specs.declared.StereoLineAnswer.{StereoLineAnswer}
-use Rattle.rules_line.specs.declared.StereoLineAnswer.TheVariants.{Delivered, BadLayout, BadBatch, ShortBuffer, Refused}
+use Rattle.std.specs.Prelude.{Result, Err, ⊤}
+use Rattle.rules_stereo.specs.declared.StereoRefusal.{StereoRefusal}
+use Rattle.rules_line.specs.declared.LineRefusal.{LineRefusal}
+use Rattle.line_demands.proofs.Once.{answers_differ_by, once_by}
 use Rattle.line_demands.proofs.StereoSingles.{stereo_late, stereo-step}
 use Rattle.line_demands.proofs.Standing.{single, answers_at, tally_over}
 use Rattle.line_demands.proofs.Over.{Admits, tried_of, done_over, frame_with, WorkRoom, Works, Whole, Stopped, last_turn, over-frame, over-signal}
@@ -136,39 +138,16 @@ module _ (l : Layout) (count : ℕ) (t : LineLent) where
 
 -- ---- one outcome
 
--- an answer without a frame, by its number
-unnamed : Outcome → StereoLineAnswer
-unnamed (delivered ns) = Delivered
-unnamed (refused zero b) = Delivered
-unnamed (refused (suc zero) b) = BadLayout
-unnamed (refused (suc (suc zero)) b) = ShortBuffer
-unnamed (refused (suc (suc (suc n))) b) = BadBatch
-
-unnamed_said : (a : StereoLineAnswer) → none ≡ stereo_line_index a → unnamed (stereo_line_outcome a) ≡ a
-unfolding stereo_line_index stereo_line_outcome unnamed
-unnamed_said Delivered e = refl
-unnamed_said BadLayout e = refl
-unnamed_said BadBatch e = refl
-unnamed_said ShortBuffer e = refl
-unnamed_said (Refused k a) e = let z : ◌≡◌ {A = ℕ} 0 1 = cc e in absurd (omega arith)
+refusals_differ : (a b : StereoRefusal) → stereo_outcome (Err a) ≡ stereo_outcome (Err b) → a ≡ b
+refusals_differ a b e = cc (stereo_numbers_differ (Err a) (Err b) e)
 
 -- different answers have different numbers or name different frames
-pub stereo_line_answers_differ : (a b : StereoLineAnswer) → stereo_line_outcome a ≡ stereo_line_outcome b → stereo_line_index a ≡ stereo_line_index b → a ≡ b
-unfolding stereo_line_index stereo_line_outcome unnamed
-stereo_line_answers_differ Delivered b e i = ap unnamed e ∙ unnamed_said b i
-stereo_line_answers_differ BadLayout b e i = ap unnamed e ∙ unnamed_said b i
-stereo_line_answers_differ BadBatch b e i = ap unnamed e ∙ unnamed_said b i
-stereo_line_answers_differ ShortBuffer b e i = ap unnamed e ∙ unnamed_said b i
-stereo_line_answers_differ (Refused j a) (Refused k b) e i = let q : j ≡ k = cc i in ap₂ Refused q (stereo_numbers_differ a b e)
-stereo_line_answers_differ (Refused j a) Delivered e i = let z : ◌≡◌ {A = ℕ} 0 1 = cc i in absurd (omega arith)
-stereo_line_answers_differ (Refused j a) BadLayout e i = let z : ◌≡◌ {A = ℕ} 0 1 = cc i in absurd (omega arith)
-stereo_line_answers_differ (Refused j a) BadBatch e i = let z : ◌≡◌ {A = ℕ} 0 1 = cc i in absurd (omega arith)
-stereo_line_answers_differ (Refused j a) ShortBuffer e i = let z : ◌≡◌ {A = ℕ} 0 1 = cc i in absurd (omega arith)
+pub stereo_line_answers_differ : (a b : Result ⊤ (LineRefusal StereoRefusal)) → stereo_line_outcome a ≡ stereo_line_outcome b
+    → stereo_line_index a ≡ stereo_line_index b → a ≡ b
+stereo_line_answers_differ = answers_differ_by (λ r. stereo_outcome (Err r)) refusals_differ
 
 -- Two outcomes that the contract allows coincide: what is left is one, and so is the answer.
-pub stereo_line_once : (l : Layout) (count : ℕ) (t : LineLent) (x y : LineLeft) (a b : StereoLineAnswer) → x ≡ encode_stereo_line l count t
+pub stereo_line_once : (l : Layout) (count : ℕ) (t : LineLent) (x y : LineLeft) (a b : Result ⊤ (LineRefusal StereoRefusal)) → x ≡ encode_stereo_line l count t
     → y ≡ encode_stereo_line l count t
     → stereo_line_outcome a ≡ x.outcome → stereo_line_index a ≡ x.index → stereo_line_outcome b ≡ y.outcome → stereo_line_index b ≡ y.index → (x ≡ y) × (a ≡ b)
-stereo_line_once l count t x y a b p q e i f j =
-    let z : x ≡ y = p ∙ sym q in
-    (z, stereo_line_answers_differ a b (e ∙ ap (λ (w : LineLeft). w.outcome) z ∙ sym f) (i ∙ ap (λ (w : LineLeft). w.index) z ∙ sym j))
+stereo_line_once l count t = once_by (λ r. stereo_outcome (Err r)) refusals_differ (encode_stereo_line l count t)

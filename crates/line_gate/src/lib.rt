@@ -7,34 +7,19 @@ ghost use Rattle.rules_line.specs.Line.{batch_fits, line_has_room, line_gate};
 ghost use Rattle.line_gate.specs.Gate.{line_gate_outcome};
 
 use rules::{Layout, StageRoom};
-use rules_line::Tally;
+use rules_line::{LineRefusal, Tally};
 
-// The first refusal in its order, or an open gate.
-#[derive(Clone, Copy)]
-pub enum LineGate {
-    Open,
-    BadLayout,
-    BadBatch,
-    ShortBuffer,
-}
+// 2^63: a tally with a count above it lets no line in.
+const COUNT_LIMIT: u64 = 0x8000_0000_0000_0000;
 
 // Refusal 18 is judged by count and tally alone.
 pub fn batch_fits(count: usize, tally: Tally) -> bool
     ensures { result ≡ batch_fits count tally }
 {
-    if 65535 < count {
-        return false;
-    }
-    if 0x8000_0000_0000_0000 < tally.frames {
-        return false;
-    }
-    if 0x8000_0000_0000_0000 < tally.bits {
-        return false;
-    }
-    if 0x8000_0000_0000_0000 < tally.pairs {
-        return false;
-    }
-    true
+    count <= 65535
+        && tally.frames <= COUNT_LIMIT
+        && tally.bits <= COUNT_LIMIT
+        && tally.pairs <= COUNT_LIMIT
 }
 
 // Where part k of a buffer begins, of `length` elements each.
@@ -54,51 +39,34 @@ pub fn line_room(layout: Layout, count: usize, room: StageRoom, answers: usize) 
     let stored = room.stored;
     let n = layout.channels * 1024;
     let m = layout.channels * 8;
-    if room.spectra < part_start(count, n) {
-        return false;
-    }
-    if room.intensities < part_start(count, m) {
-        return false;
-    }
-    if room.scaled < n {
-        return false;
-    }
-    if stored.factors < layout.channels * 128 {
-        return false;
-    }
-    if stored.side < m {
-        return false;
-    }
-    if stored.codes < n {
-        return false;
-    }
-    if stored.frame < part_start(count, layout.frame_size) {
-        return false;
-    }
-    if answers < count * 4 {
-        return false;
-    }
-    true
+    part_start(count, n) <= room.spectra
+        && part_start(count, m) <= room.intensities
+        && n <= room.scaled
+        && layout.channels * 128 <= stored.factors
+        && m <= stored.side
+        && n <= stored.codes
+        && part_start(count, layout.frame_size) <= stored.frame
+        && count * 4 <= answers
 }
 
-// The gate: the first refusal in its order, if any.
-pub fn line_gate(
+// The gate: the first refusal in its order, if any. It refuses no frame.
+pub fn line_gate<R>(
     layout: Layout,
     count: usize,
     room: StageRoom,
     answers: usize,
     tally: Tally,
-) -> LineGate
+) -> Result<(), LineRefusal<R>>
     ensures { line_gate_outcome result ≡ line_gate layout count room answers tally }
 {
-    if layouts::legal(layout) {
-        if batch_fits(count, tally) {
-            if line_room(layout, count, room, answers) {
-                return LineGate::Open;
-            }
-            return LineGate::ShortBuffer;
-        }
-        return LineGate::BadBatch;
+    if !layouts::legal(layout) {
+        return Err(LineRefusal::BadLayout);
     }
-    LineGate::BadLayout
+    if !batch_fits(count, tally) {
+        return Err(LineRefusal::BadBatch);
+    }
+    if !line_room(layout, count, room, answers) {
+        return Err(LineRefusal::ShortBuffer);
+    }
+    Ok(())
 }

@@ -1,29 +1,16 @@
 -- How far a line raises the tally, over a step whose answers are small: the counts stay far below 2^64, and a frame's answers fit 32 bits. Assumes nothing.
-use mathlib.Core.Path.{◌≡◌}
 use mathlib.Core.Option.{Option, none, some}
-use Prim.Native.Nat.{ℕ, zero, suc, ◌+◌, ◌*◌, ◌^◌, ◌≤◌, ◌<◌}
+use Prim.Native.Nat.{ℕ, zero, suc, ◌+◌, ◌*◌, ◌≤◌}
 use native.Mathlib.Omega.{arith}
 use Rattle.rules.specs.Refusals.{Outcome}
 use Rattle.rules.specs.Stage.{StageLent}
 use Rattle.rules.specs.declared.Layout.{Layout}
-use Rattle.rules_demands.proofs.StageAnswers.{StageBounded, answers_bounded, beside_bounded, stage_bounds}
-use Rattle.rules_stereo.specs.Stereo.{encode_stereo_frame}
-use Rattle.stereo_demands.proofs.StereoAnswers.{stereo_bounds}
-use Rattle.rules_line.specs.Line.{LineLent, LineLeft, Step, stage_step, frame_lent, step_at, answers_of, tally_after, line_turn, turn_lent, onward, line_after}
+use Rattle.rules_demands.proofs.StageAnswers.{StageBounded, answers_bounded, beside_bounded}
+use Rattle.rules_line.specs.Line.{LineLent, LineLeft, Step, frame_lent, step_at, answers_of, tally_after, line_turn, turn_lent, onward, line_after}
 use Rattle.rules_line.specs.Asked.{Batch, OnTheWay, AnswersFit}
 use Rattle.rules_line.specs.declared.Tally.{Tally}
 use Rattle.rules_line.proofs.Turns.{turn_after}
-
--- every answer of the step is small
-abbrev pub BoundedStep : Step → Type 0
-BoundedStep step = (l : Layout) (t : StageLent) → StageBounded (step l t).outcome
-
-pub stage_bounded : BoundedStep stage_step
-unfolding stage_step
-stage_bounded = stage_bounds
-
-pub stereo_bounded : BoundedStep encode_stereo_frame
-stereo_bounded = stereo_bounds
+use Rattle.line_turns.specs.Bounded.{BoundedStep}
 
 bounded_fits : (o : Outcome) → StageBounded o → AnswersFit o
 unfolding AnswersFit answers_of

@@ -1,33 +1,29 @@
 -- The loop over the frames of a line, over any step: what it keeps, and how it ends. Assumes nothing.
 use mathlib.Core.Path.{◌≡◌, refl, sym, ◌∙◌, ap}
-use mathlib.Core.List.{List, [], ◌∷◌}
+use mathlib.Core.List.{List, []}
 use mathlib.Core.Option.{Option, none, some}
 use Prim.Native.Nat.{ℕ, suc, ◌+◌, ◌*◌, ◌≤◌, ◌<◌}
 use native.Mathlib.Numerals.{add-one}
 use native.Mathlib.Omega.{arith}
-use types.Run.{OneOf, miss}
-use denote.Enum.Declared.{tag_of}
 use lib.IntN.{ℤ}
 use lib.Ieee.{Float}
 use lib.ListN.{length}
+use Rattle.std.specs.Prelude.{Err}
 use Rattle.rules.specs.Layout.{frame_size, spectrum_length, side_length}
 use Rattle.rules.specs.Refusals.{Outcome, delivered, refused}
-use Rattle.rules.specs.Stage.{StageLent, stage_lent}
+use Rattle.rules.specs.Stage.{stage_lent}
 use Rattle.rules.specs.declared.Layout.{Layout}
 use Rattle.rules.proofs.Cuts.{row_end}
-use Rattle.rules_line.specs.Line.{line_outcome, line_index, stereo_line_outcome, stereo_line_index, LineLent, LineLeft, left_with, line_room, Step, step_at, turn_outcome}
+use Rattle.rules_line.specs.Line.{line_outcome_by, line_index, LineLent, LineLeft, left_with, line_room, Step, step_at, turn_outcome}
 use Rattle.rules_line.specs.Line.{turn_index, line_turn, line_after}
 use Rattle.rules_line.specs.Asked.{Batch, LineHasRoom, OnTheWay}
-use Rattle.rules_line.specs.declared.LineAnswer.{LineAnswer}
-use Rattle.rules_line.specs.declared.LineAnswer.TheVariants.{Delivered, BadLayout, BadBatch, ShortBuffer, Refused}
-use Rattle.rules_line.specs.declared.StereoLineAnswer.{StereoLineAnswer}
-use Rattle.rules_line.specs.declared.StereoLineAnswer.TheVariants as stereo
+use Rattle.rules_line.specs.declared.LineRefusal.{LineRefusal}
+use Rattle.rules_line.specs.declared.LineRefusal.TheVariants.{BadLayout, BadBatch, ShortBuffer, Frame}
 use Rattle.rules_line.specs.declared.Tally.{Tally}
-use Rattle.rules_line.specs.contracts.LineAnswer as Answer
-use Rattle.rules_line.specs.contracts.StereoLineAnswer as StereoAnswer
 use Rattle.rules_line.proofs.Turns.{after_next, after_stays}
 use Rattle.line_turns.specs.Turn.{Turn}
-use Rattle.line_turns.proofs.Counts.{BoundedStep, after_counted, on_the_way}
+use Rattle.line_turns.specs.Bounded.{BoundedStep}
+use Rattle.line_turns.proofs.Counts.{after_counted, on_the_way}
 
 -- ---- an answer that is no delivery
 
@@ -36,22 +32,12 @@ pub data Stopping : Outcome → Option ℕ → Type 0 where
   by_number : (number beside : ℕ) (i : Option ℕ) → Stopping (refused number beside) i
   by_frame : (o : Outcome) (k : ℕ) → Stopping o (some k)
 
-pub line_stopping : (a : LineAnswer) → OneOf (1 ∷ 2 ∷ 3 ∷ 4 ∷ []) (tag_of Answer.the_type a) → Stopping (line_outcome a) (line_index a)
-unfolding line_outcome line_index
-line_stopping Delivered h = absurd (miss (1 ∷ 2 ∷ 3 ∷ 4 ∷ []) 0 tt h)
-line_stopping BadLayout h = by_number 1 0 none
-line_stopping BadBatch h = by_number 18 0 none
-line_stopping ShortBuffer h = by_number 2 0 none
-line_stopping (Refused k a) h = by_frame _ k
-
-pub stereo_stopping : (a : StereoLineAnswer) → OneOf (1 ∷ 2 ∷ 3 ∷ 4 ∷ []) (tag_of StereoAnswer.the_type a)
-    → Stopping (stereo_line_outcome a) (stereo_line_index a)
-unfolding stereo_line_outcome stereo_line_index
-stereo_stopping stereo.Delivered h = absurd (miss (1 ∷ 2 ∷ 3 ∷ 4 ∷ []) 0 tt h)
-stereo_stopping stereo.BadLayout h = by_number 1 0 none
-stereo_stopping stereo.BadBatch h = by_number 18 0 none
-stereo_stopping stereo.ShortBuffer h = by_number 2 0 none
-stereo_stopping (stereo.Refused k a) h = by_frame _ k
+pub line_stopping : {R : Type 0} (refusal : R → Outcome) (r : LineRefusal R) → Stopping (line_outcome_by refusal (Err r)) (line_index {R = R} (Err r))
+unfolding line_outcome_by line_index
+line_stopping refusal BadLayout = by_number 1 0 none
+line_stopping refusal BadBatch = by_number 18 0 none
+line_stopping refusal ShortBuffer = by_number 2 0 none
+line_stopping refusal (Frame k r) = by_frame _ k
 
 -- that of frame k then is its refusal
 stopped : (e : Outcome) (i : Option ℕ) (o : Outcome) (k : ℕ) → Stopping e i → e ≡ turn_outcome o → i ≡ turn_index k o → i ≡ some k

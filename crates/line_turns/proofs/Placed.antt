@@ -1,8 +1,8 @@
 -- One frame of a line, over any step: its parts lent and put back, and what its answer means for the line. Assumes nothing.
-use mathlib.Core.Path.{◌≡◌, sym, ◌∙◌, ap, ap₂}
+use mathlib.Core.Path.{◌≡◌, refl, sym, ◌∙◌, ap, ap₂}
 use mathlib.Core.List.{List, ◌++◌, append-nil}
-use mathlib.Core.Option.{Option}
-use Prim.Native.Nat.{ℕ, ◌+◌, ◌-◌, ◌*◌, ◌^◌, ◌≤◌, ◌<◌}
+use mathlib.Core.Option.{Option, some}
+use Prim.Native.Nat.{ℕ, ◌+◌, ◌-◌, ◌*◌, ◌≤◌}
 use native.Mathlib.Omega.{arith}
 use lib.IntN.{ℤ}
 use lib.Ieee.{Float}
@@ -14,16 +14,31 @@ use Rattle.rules.specs.Lent.{overwrite}
 use Rattle.rules.specs.Refusals.{Outcome, stage_outcome}
 use Rattle.rules.specs.Stage.{stage_lent, stage_left, encode_frame}
 use Rattle.rules.specs.declared.Layout.{Layout}
-use Rattle.rules.specs.declared.StageAnswer.{StageAnswer}
+use Rattle.std.specs.Prelude.{Result, Ok, Err}
+use Rattle.rules.specs.declared.Delivery.{Delivery}
+use Rattle.rules.specs.declared.StageRefusal.{StageRefusal}
 use Rattle.rules_stereo.specs.Mixed.{signal}
-use Rattle.rules_stereo.specs.Stereo.{StereoLeft, with_signal}
+use Rattle.rules_stereo.specs.Stereo.{StereoLeft, stereo_outcome, with_signal}
+use Rattle.rules_stereo.specs.declared.StereoRefusal.{StereoRefusal}
 use Rattle.rules_line.specs.Line.{left_with, Step, stage_step, frame_placed, step_at, answers_of, tally_after, turn_outcome, turn_index, line_turn}
 use Rattle.rules_line.specs.declared.Tally.{Tally}
-use Rattle.line_gate.proofs.Tests.{product_fits}
+use Rattle.rules_line.proofs.Answers.{Refuses, refused_ends, not_counted, not-stored}
+use Rattle.line_turns.specs.Turn.{call_outcome, left_by}
 
--- what a single call left, by its outcome
-abbrev pub left_by : (o : Outcome) (xs : List Float) (is : List ℕ) (sc : List Float) (co : List ℤ) (fa si fr : List ℕ) → StereoLeft
-left_by o xs is sc co fa si fr = with_signal (signal xs is) (record { outcome = o; scaled = sc; codes = co; factors = fa; side = si; frame = fr })
+-- what the single calls answer, by what their refusals mean
+pub stage_called : (a : Result Delivery StageRefusal) → call_outcome (λ e. stage_outcome (Err e)) a ≡ stage_outcome a
+unfolding call_outcome
+stage_called (Ok d) = refl
+stage_called (Err e) = refl
+
+pub stereo_called : (a : Result Delivery StereoRefusal) → call_outcome (λ e. stereo_outcome (Err e)) a ≡ stereo_outcome a
+unfolding call_outcome stereo_outcome
+stereo_called (Ok d) = refl
+stereo_called (Err e) = refl
+
+pub with_outcome : {o p : Outcome} {xs : List Float} {is : List ℕ} {sc : List Float} {co : List ℤ} {fa si fr : List ℕ} {x : StereoLeft}
+    → o ≡ p → left_by p xs is sc co fa si fr ≡ x → left_by o xs is sc co fa si fr ≡ x
+with_outcome {xs = xs} {is = is} {sc = sc} {co = co} {fa = fa} {si = si} {fr = fr} q e = ap (λ o. left_by o xs is sc co fa si fr) q ∙ e
 
 -- a part of n elements from b on, lent and stored anew
 abbrev pub lent_part : {A : Type 0} (b n : ℕ) (xs : List A) → List A
@@ -63,10 +78,11 @@ module _ (l : Layout) (k : ℕ) (xs : List Float) (is : List ℕ) (sc₀ : List 
 
   -- the stage leaves spectra and intensities as they were
   module _ (long : length (lent_part a (spectrum_length l) xs) ≡ spectrum_length l) (wide : length (lent_part i (side_length l) is) ≡ side_length l) where
-    pub stage_placed : (r : StageAnswer) (sc : List Float) (co : List ℤ) (fa si fr : List ℕ) → length fr ≡ frame_size l
+    pub stage_placed : (r : Result Delivery StageRefusal) (sc : List Float) (co : List ℤ) (fa si fr : List ℕ) → length fr ≡ frame_size l
         → stage_left r sc co fa si fr ≡ encode_frame l (stage_lent (lent_part a (spectrum_length l) xs) (lent_part i (side_length l) is) sc₀ co₀ fa₀ si₀
         (lent_part b (frame_size l) fr₀))
-        → with_signal (signal xs is) (stage_left r sc co fa si (stored_part b (frame_size l) fr fr₀)) ≡ step_at stage_step l k (stage_lent xs is sc₀ co₀ fa₀ si₀ fr₀)
+        → with_signal (signal xs is) (stage_left r sc co fa si (stored_part b (frame_size l) fr fr₀))
+        ≡ step_at stage_step l k (stage_lent xs is sc₀ co₀ fa₀ si₀ fr₀)
     unfolding stage_step
     stage_placed r sc co fa si fr w e =
         let ys = lent_part a (spectrum_length l) xs in
@@ -78,14 +94,8 @@ module _ (l : Layout) (k : ℕ) (xs : List Float) (is : List ℕ) (sc₀ : List 
         same : {A : Type 0} (c n : ℕ) (zs : List A) → stored_part c n (lent_part c n zs) zs ≡ zs
         same c n zs = rw (take-append-drop (c + n - c) (drop c zs)) (take-append-drop c zs)
 
--- where part k of n elements begins and ends
+-- where part k of n elements begins
 module _ (k n a : ℕ) (e : a ≡ k * n) where
-  pub ends_low : k < 65535 → n ≤ 65535 → a + n ≤ 2 ^ 33
-  ends_low h g = omega (arith, product_fits k n (omega arith) g)
-
-  pub ends-within : (m : ℕ) → k * n + n ≤ m → a + n ≤ m
-  ends-within m h = omega arith
-
   -- a part that is there is lent whole
   pub lent-long : {A : Type 0} (xs : List A) → k * n + n ≤ length xs → length (lent_part a n xs) ≡ n
   lent-long xs h = rw (back-width a n) (length-take-le n (drop a xs) (omega (arith, length-drop a xs)))
@@ -106,3 +116,13 @@ pub turned : (k n : ℕ) (o answered : Outcome) (index : Option ℕ) (next tally
 unfolding line_turn
 turned k n o answered index next tally x xs is sc co fa si fr an ys p e a c q i =
     rw (tail_laid n (answers_of o) an ys a, c, q, i, p) (ap (λ y. line_turn k y an tally) e)
+
+-- a turn that was refused
+pub turned_away : (k : ℕ) (o : Outcome) → Refuses o → (tally : Tally) (x : StereoLeft) (xs : List Float) (is : List ℕ) (sc : List Float) (co : List ℤ)
+    (fa si fr an : List ℕ) → left_by o xs is sc co fa si fr ≡ x → left_with o (some k) tally xs is sc co fa si fr an ≡ line_turn k x an tally
+unfolding line_turn
+turned_away k o h tally x xs is sc co fa si fr an e =
+    let r = refused_ends o h k in
+    ap₂ (λ p i. left_with p i tally xs is sc co fa si fr an) r.0 r.1
+    ∙ ap₂ (λ u ys. left_with (turn_outcome o) (turn_index k o) u xs is sc co fa si fr ys) (not_counted o h tally) (not-stored o h k an)
+    ∙ ap (λ y. line_turn k y an tally) e

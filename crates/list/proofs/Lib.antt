@@ -1,2 +1,3 @@
+mod Chunked
 mod Laying
 mod Answering

@@ -4,22 +4,13 @@ ghost use Rattle.numbers.specs.Numbers.{of_high};
 ghost use Rattle.rules_files.specs.List.{entry_from, legal_entry, legal_entries, frames_in, entry_in, entries_of, is_marked, judged_list};
 
 use numbers::high::get_high;
-use rules_files::list::{Entry, Judgement};
+use rules_files::list::{Entry, ListFault};
 
 // Is an entry within its limits?
 pub fn is_legal_entry(entry: Entry) -> bool
     ensures { result ≡ legal_entry entry }
 {
-    if 511 < entry.level {
-        return false;
-    }
-    if 127 < entry.boundary {
-        return false;
-    }
-    if 63 < entry.pairs {
-        return false;
-    }
-    true
+    entry.level <= 511 && entry.boundary <= 127 && entry.pairs <= 63
 }
 
 // A number of up to four bytes.
@@ -31,19 +22,14 @@ fn get_word(bytes: &[u8], at: usize, width: usize) -> u32
 }
 
 // Eight bytes as an entry.
-fn entry_from(bytes: &[u8]) -> Entry
-    requires { length bytes.now ≡ 8 }
+fn entry_from(bytes: &[u8; 8]) -> Entry
     ensures { result ≡ entry_from bytes.now }
 {
-    let level = get_word(bytes, 0, 2);
-    let boundary = get_word(bytes, 2, 1);
-    let pairs = get_word(bytes, 3, 1);
-    let bits = get_word(bytes, 4, 4);
     Entry {
-        level,
-        boundary,
-        pairs,
-        bits,
+        level: get_word(bytes, 0, 2),
+        boundary: get_word(bytes, 2, 1),
+        pairs: get_word(bytes, 3, 1),
+        bits: get_word(bytes, 4, 4),
     }
 }
 
@@ -52,21 +38,15 @@ pub fn entry_in(list: &[u8], i: usize) -> Entry
     requires { 9 + (i * 8 + 8) ≤ length list.now }
     ensures { result ≡ entry_in list.now i }
 {
-    let a = 9 + i * 8;
-    entry_from(&list[a..a + 8])
+    let (entries, _) = list[9..].as_chunks::<8>();
+    entry_from(&entries[i])
 }
 
 // At least nine bytes, the mark and the version?
 fn is_marked(list: &[u8]) -> bool
     ensures { result ≡ is_marked list.now }
 {
-    if list.len() < 9 {
-        return false;
-    }
-    if get_high(list, 0, 3) != 0x564649 {
-        return false;
-    }
-    get_high(list, 3, 2) == 1
+    list.len() >= 9 && get_high(list, 0, 3) == 0x564649 && get_high(list, 3, 2) == 1
 }
 
 // How many frames the list counts.
@@ -82,29 +62,22 @@ fn are_legal(list: &[u8], n: usize) -> bool
     requires { (n ≡ frames_in list.now) × (9 + n * 8 ≤ length list.now) }
     ensures { result ≡ legal_entries n (entries_of list.now) }
 {
-    let mut i = 0;
-    while i < n {
-        if !is_legal_entry(entry_in(list, i)) {
-            return false;
-        }
-        i += 1;
-    }
-    true
+    (0..n).all(|i| is_legal_entry(entry_in(list, i)))
 }
 
 // Refusals 19, 20 and 21, in this order. The length is compared in 64 bits, which nine bytes and eight for each of 2^32 frames never pass.
-pub fn judge_list(list: &[u8]) -> Judgement
+pub fn judge_list(list: &[u8]) -> Result<usize, ListFault>
     ensures { result ≡ judged_list list.now }
 {
     if !is_marked(list) {
-        return Judgement::BadMark;
+        return Err(ListFault::BadMark);
     }
     let n = frames_in(list);
     if list.len() != 9 + n * 8 {
-        return Judgement::BadLength;
+        return Err(ListFault::BadLength);
     }
     if !are_legal(list, n) {
-        return Judgement::BadEntry(n);
+        return Err(ListFault::BadEntry(n));
     }
-    Judgement::Good(n)
+    Ok(n)
 }

@@ -6,26 +6,20 @@ ghost use Rattle.rules_files.specs.List.{entry_numbers, frames_in, entries_of};
 use crate::judging::entry_in;
 use rules_files::list::Entry;
 
-// An entry over four numbers.
-fn store_entry(entry: Entry, numbers: &mut [u32])
-    requires { length numbers.old ≡ 4 }
-    ensures { numbers.new ≡ entry_numbers entry }
+// An entry's four numbers.
+fn entry_numbers(entry: Entry) -> [u32; 4]
+    ensures { result ≡ entry_numbers entry }
 {
-    numbers[0] = entry.level;
-    numbers[1] = entry.boundary;
-    numbers[2] = entry.pairs;
-    numbers[3] = entry.bits;
+    [entry.level, entry.boundary, entry.pairs, entry.bits]
 }
 
 pub(crate) fn store_entries(list: &[u8], n: usize, entries: &mut [u32])
     requires { (n ≡ frames_in list.now) × (9 + n * 8 ≤ length list.now) × (n * 4 ≤ length entries.old) }
     ensures { entries.new ≡ overwrite (entries_of list.now) entries.old }
 {
-    let mut i = 0;
-    while i < n {
+    for i in 0..n {
         let entry = entry_in(list, i);
         let a = i * 4;
-        store_entry(entry, &mut entries[a..a + 4]);
-        i += 1;
+        entries[a..a + 4].copy_from_slice(&entry_numbers(entry));
     }
 }

@@ -14,11 +14,8 @@ fn entry_at(entries: &[u32], i: usize) -> Entry
     requires { i * 4 + 4 ≤ length entries.now }
     ensures { result ≡ entry_at entries.now i }
 {
-    let a = i * 4;
-    let level = entries[a];
-    let boundary = entries[a + 1];
-    let pairs = entries[a + 2];
-    let bits = entries[a + 3];
+    let (entries, _) = entries.as_chunks::<4>();
+    let [level, boundary, pairs, bits] = entries[i];
     Entry {
         level,
         boundary,
@@ -32,14 +29,7 @@ pub(crate) fn entries_legal(entries: &[u32], n: usize) -> bool
     requires { n * 4 ≤ length entries.now }
     ensures { result ≡ legal_entries n entries.now }
 {
-    let mut i = 0;
-    while i < n {
-        if !is_legal_entry(entry_at(entries, i)) {
-            return false;
-        }
-        i += 1;
-    }
-    true
+    (0..n).all(|i| is_legal_entry(entry_at(entries, i)))
 }
 
 fn put_word(bytes: &mut [u8], at: usize, width: usize, number: u32)
@@ -49,27 +39,26 @@ fn put_word(bytes: &mut [u8], at: usize, width: usize, number: u32)
     put_high(bytes, at, width, number as u64);
 }
 
-// An entry over eight bytes.
-fn put_entry(entry: Entry, bytes: &mut [u8])
-    requires { length bytes.old ≡ 8 }
-    ensures { bytes.new ≡ entry_bytes entry }
+// An entry's eight bytes.
+fn entry_bytes(entry: Entry) -> [u8; 8]
+    ensures { result ≡ entry_bytes entry }
 {
-    put_word(bytes, 0, 2, entry.level);
-    put_word(bytes, 2, 1, entry.boundary);
-    put_word(bytes, 3, 1, entry.pairs);
-    put_word(bytes, 4, 4, entry.bits);
+    let mut bytes = [0; 8];
+    put_word(&mut bytes, 0, 2, entry.level);
+    put_word(&mut bytes, 2, 1, entry.boundary);
+    put_word(&mut bytes, 3, 1, entry.pairs);
+    put_word(&mut bytes, 4, 4, entry.bits);
+    bytes
 }
 
 fn put_entries(entries: &[u32], n: usize, bytes: &mut [u8])
     requires { (n * 4 ≤ length entries.now) × (n * 8 ≤ length bytes.old) }
     ensures { bytes.new ≡ blocks (λ i. entry_bytes (entry_at entries.now i)) n ++ drop (n * 8) bytes.old }
 {
-    let mut i = 0;
-    while i < n {
+    for i in 0..n {
         let entry = entry_at(entries, i);
         let a = i * 8;
-        put_entry(entry, &mut bytes[a..a + 8]);
-        i += 1;
+        bytes[a..a + 8].copy_from_slice(&entry_bytes(entry));
     }
 }
 

@@ -2,11 +2,11 @@
 use mathlib.Core.Path.{◌≡◌, refl, sym, ap, ap₂, ◌∙◌}
 use mathlib.Core.List.{List, [], ◌∷◌, ◌++◌}
 use Prim.Native.Nat.{ℕ, zero, suc, ◌+◌, ◌*◌, ◌/◌, ◌%◌, ◌^◌, ◌≤◌, ◌<◌}
-use native.Mathlib.Nat.{mod-lt, mod-one, mod-eq_of_lt, one-le-pow, zero-lt-suc, pow-suc, pow-le-pow_right, mul_assoc, mul_comm, add-mul, add_assoc}
+use native.Mathlib.Nat.{mod-lt, mod-one, mod-eq_of_lt, one-le-pow, zero-lt-suc, pow-suc, pow-le-pow_right, mul_assoc, mul_comm}
 use native.Mathlib.Nat.{lt_of_lt_of_le, mul-add-div_right, mul-add-mod_self_right, div-div-eq-div-mul}
 use native.Mathlib.Omega.{arith}
 use lib.Arith.{digits_lt, digits_div, mod-mul}
-use lib.ListN.{length, get_or, length-append}
+use lib.ListN.{length, length-append}
 use Rattle.bits.specs.Bits.{Bytes}
 use Rattle.numbers.specs.Numbers.{high_first, of_high}
 

@@ -1,13 +1,13 @@
 -- What the loops over a number's bytes keep. Assumes nothing.
 use mathlib.Core.Path.{◌≡◌, refl, sym, ap, ap₂, ◌∙◌}
 use mathlib.Core.List.{List, [], ◌∷◌, ◌++◌}
-use Prim.Native.Nat.{ℕ, zero, suc, ◌+◌, ◌-◌, ◌*◌, ◌/◌, ◌%◌, ◌^◌, ◌≤◌, ◌<◌}
-use native.Mathlib.Nat.{div-one, pow-suc, add-zero}
+use Prim.Native.Nat.{ℕ, suc, ◌+◌, ◌-◌, ◌*◌, ◌/◌, ◌%◌, ◌^◌, ◌≤◌, ◌<◌}
+use native.Mathlib.Nat.{div-one, pow-suc}
 use native.Mathlib.Numerals.{add-one}
 use native.Mathlib.Omega.{arith}
 use lib.Arith.{digits_lt}
 use lib.ListN.{length, get_or, take, drop, set, length-set, length-drop}
-use lib.Seq.{take-suc, get_or-drop}
+use lib.Seq.{take-suc, take_all, length-take-le}
 use Rattle.numbers.specs.Numbers.{high_first, of_high, replaced}
 use Rattle.numbers.proofs.HighFirst.{high-length, high-cons, high-none, high_empty, high-rest, high_snoc}
 use Rattle.numbers.proofs.Replaced.{replaced-none, replaced_more}
@@ -38,29 +38,34 @@ module _ (s : List ℕ) (at width number : ℕ) where
             ∙ ap (replaced s (at + (left - 1))) (sym (high-cons k number) ∙ ap (λ (x : ℕ). high_first x number) (sym e)),
       )
 
-  pub stored-all : (left rest : ℕ) (t : List ℕ) → left ≤ 0 → Stored left rest t → t ≡ replaced s at (high_first width number)
-  stored-all left rest t h (a, b, c, d) =
-      let z : left ≡ 0 = omega arith in
-      let w : width - 0 ≡ width = omega arith in
-      d ∙ rw (z, w, add-zero at)
+-- ---- read from the high byte down: the number of the first i bytes of s
 
--- ---- read from the high byte down: the number of the first i bytes
-
-module _ (s : List ℕ) (at width : ℕ) where
+module _ (s : List ℕ) where
   abbrev pub Taken : (i number : ℕ) → Type 0
-  Taken i number = (i ≤ width) × (number ≡ of_high (take i (drop at s))) × (number < 256 ^ i)
+  Taken i number = (number ≡ of_high (take i s)) × (number < 256 ^ i)
 
   pub taken_none : Taken 0 0
-  taken_none = (omega arith, sym high_empty, omega arith)
+  taken_none = (sym high_empty, omega arith)
 
-  pub taken_more : (i number b : ℕ) → at + width ≤ length s → i < width → Taken i number → b ≡ get_or s (at + i) 0 → b < 256 → Taken (i + 1) (number * 256 + b)
-  taken_more i number b h g (a, e, l) q m =
-      let x : take (i + 1) (drop at s) ≡ take i (drop at s) ++ (get_or s (at + i) 0 ∷ []) =
-      rw (add-one i, take-suc (drop at s) i 0 (rw (length-drop at s) (omega arith)), get_or-drop at s i 0) in (
-        omega arith,
-        ap₂ (λ (n c : ℕ). n * 256 + c) e q ∙ sym (high_snoc (take i (drop at s)) (get_or s (at + i) 0)) ∙ ap of_high (sym x),
+  pub taken_more : (i number b : ℕ) → i < length s → Taken i number → b ≡ get_or s i 0 → b < 256 → Taken (i + 1) (number * 256 + b)
+  taken_more i number b h (e, l) q m =
+      let x : take (i + 1) s ≡ take i s ++ (get_or s i 0 ∷ []) = rw (add-one i, take-suc s i 0 h) in (
+        ap₂ (λ (n c : ℕ). n * 256 + c) e q ∙ sym (high_snoc (take i s) (get_or s i 0)) ∙ ap of_high (sym x),
         rw (add-one i, pow-suc 256 i) (digits_lt l m),
       )
 
-  pub taken_all : (i number : ℕ) → width ≤ i → Taken i number → (number ≡ of_high (take width (drop at s))) × (number < 256 ^ width)
-  taken_all i number h (a, e, l) = let z : i ≡ width = omega arith in (e ∙ rw z, rw z at l)
+  pub taken_all : (i number : ℕ) → length s ≤ i → Taken i number → number ≡ of_high s
+  taken_all i number h (e, l) = e ∙ ap of_high (take_all i s h)
+
+-- the part of `width` bytes from byte `at` on, as it is lent
+module _ (xs : List ℕ) (at width : ℕ) where
+  abbrev pub lent : List ℕ
+  lent = take (at + width - at) (drop at xs)
+
+  pub lent-is : lent ≡ take width (drop at xs)
+  lent-is = let e : at + width - at ≡ width = omega arith in ap (λ (n : ℕ). take n (drop at xs)) e
+
+  pub length-lent : at + width ≤ length xs → length lent ≡ width
+  length-lent h =
+      let g : width ≤ length (drop at xs) = simp length-drop (omega arith) in
+      ap length lent-is ∙ length-take-le width (drop at xs) g

@@ -8,19 +8,10 @@ pub fn put_high(bytes: &mut [u8], at: usize, width: usize, number: u64)
     ensures { bytes.new ≡ replaced bytes.old at (high_first width number) }
 {
     let mut rest = number;
-    let mut left = width;
-    while 0 < left {
-        left -= 1;
+    for left in (0..width).rev() {
         bytes[at + left] = (rest % 256) as u8;
-        rest = rest / 256;
+        rest /= 256;
     }
-}
-
-// A byte as a wide number, with the bound that a sum needs.
-pub fn wide(byte: u8) -> u64
-    ensures { (result ≡ byte) × (result < 256) }
-{
-    byte as u64
 }
 
 // The number in the `width` bytes from byte `at` on.
@@ -29,10 +20,8 @@ pub fn get_high(bytes: &[u8], at: usize, width: usize) -> u64
     ensures { (result ≡ of_high (take width (drop at bytes.now))) × (result < 256 ^ width) }
 {
     let mut number: u64 = 0;
-    let mut i: usize = 0;
-    while i < width {
-        number = number * 256 + wide(bytes[at + i]);
-        i += 1;
+    for &byte in &bytes[at..at + width] {
+        number = number * 256 + u64::from(byte);
     }
     number
 }

@@ -7,8 +7,5 @@ ghost use Rattle.std.proofs.Common.{of_z};
 pub fn int_of(bits: u32) -> i32
     ensures { of_z w32 result ≡ bits }
 {
-    if bits < 2147483648 {
-        return bits as i32;
-    }
-    (bits as i64 - 4294967296) as i32
+    bits.cast_signed()
 }

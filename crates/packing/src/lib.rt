@@ -10,7 +10,7 @@ ghost use Rattle.rules.specs.Fields.{fields};
 ghost use Rattle.rules.specs.Frame.{field_end, frame_of};
 ghost use Rattle.packing_codes.specs.Columns.{AllRanged};
 
-use buffers::clear_u8;
+use buffers::clear;
 use emission::Run;
 use packing_channels::values::write_head;
 use packing_channels::write_channels;
@@ -28,18 +28,18 @@ fn write_fields(
     side: &[u8],
     codes: &[i32],
     resolutions: &[u8],
-    rows: &mut [u32],
     bytes: &mut [u8],
 ) -> usize
     requires legal_layout { LegalLayout layout }
     requires level_bound { (level ≤ 511) × (boundary ≤ 127) }
     requires factors_len { (length factors.now ≡ layout.channels * 128) × (length side.now ≡ layout.channels * 8)
         × (length codes.now ≡ layout.channels * 1024) }
-    requires resolutions_value { (resolutions.now ≡ all_resolutions layout level boundary factors.now) × (length rows.old ≡ layout.channels * 128) }
+    requires resolutions_value { resolutions.now ≡ all_resolutions layout level boundary factors.now }
     requires all_ranged { AllRanged layout resolutions.now codes.now }
     ensures { (length bytes.new ≡ length bytes.old) × Written bytes.new result (fields layout
         (rec_of layout level boundary factors.now side.now codes.now)) }
 {
+    let mut rows = [0u32; RESOLUTION_ROOM];
     let mut words = [0u32; 128];
     let mut lengths = [0u32; 128];
     let start = Run {
@@ -55,53 +55,11 @@ fn write_fields(
         layout,
         resolutions,
         codes,
-        rows,
-        &mut words[..128],
-        &mut lengths[..128],
+        &mut rows[..layout.channels * 128],
+        &mut words,
+        &mut lengths,
     );
     end.close(bytes)
-}
-
-// With room for the rows of its bands.
-fn packed(
-    layout: Layout,
-    level: usize,
-    boundary: usize,
-    factors: &[u8],
-    side: &[u8],
-    codes: &[i32],
-    resolutions: &[u8],
-    rows: &mut [u32],
-    frame: &mut [u8],
-) -> usize
-    requires legal_layout { LegalLayout layout }
-    requires level_bound { (level ≤ 511) × (boundary ≤ 127) }
-    requires factors_len { (length factors.now ≡ layout.channels * 128) × (length side.now ≡ layout.channels * 8)
-        × (length codes.now ≡ layout.channels * 1024) }
-    requires resolutions_value { (resolutions.now ≡ all_resolutions layout level boundary factors.now) × (length frame.old ≡ frame_size layout) }
-    requires rows_len { (length rows.old ≡ layout.channels * 128) × AllRanged layout resolutions.now codes.now }
-    ensures bits { result ≡ length (fields layout (rec_of layout level boundary factors.now side.now codes.now)) }
-    ensures stored { frame.new ≡ cond (ltb (field_end layout) result) (replicate (frame_size layout) 0)
-        (frame_of layout (rec_of layout level boundary factors.now side.now codes.now)) }
-{
-    let end = layout.frame_size - 2;
-    let count = write_fields(
-        layout,
-        level,
-        boundary,
-        factors,
-        side,
-        codes,
-        resolutions,
-        rows,
-        &mut frame[..end],
-    );
-    if 8 * end < count {
-        clear_u8(frame);
-        return count;
-    }
-    seal(frame);
-    count
 }
 
 // The record's frame, sealed; zeros where its fields pass the payload's end. Answers how many bits the fields are.
@@ -125,9 +83,8 @@ pub fn pack_frame(
     ensures stored { frame.new ≡ cond (ltb (field_end layout) result) (replicate (frame_size layout) 0)
         (frame_of layout (rec_of layout level boundary factors.now side.now codes.now)) }
 {
-    let n = layout.channels * 128;
-    let mut rows = [0u32; RESOLUTION_ROOM];
-    packed(
+    let end = layout.frame_size - 2;
+    let count = write_fields(
         layout,
         level,
         boundary,
@@ -135,7 +92,12 @@ pub fn pack_frame(
         side,
         codes,
         resolutions,
-        &mut rows[..n],
-        frame,
-    )
+        &mut frame[..end],
+    );
+    if 8 * end < count {
+        clear(frame);
+        return count;
+    }
+    seal(frame);
+    count
 }

@@ -9,7 +9,7 @@ use native.Mathlib.Omega.{arith}
 use borrow.Author.Tests.{eq-eqb, ne_eqb}
 use lib.ListN.{length, take, get_or}
 use Rattle.buffers.specs.Walk.{build, blocks}
-use Rattle.buffers.proofs.Build.{build_const}
+use Rattle.buffers.proofs.Build.{build_const, build-of}
 use Rattle.bits.specs.Bits.{bits}
 use Rattle.rules.specs.Format.{each_bits, times}
 use Rattle.rules.specs.Fields.{delta_bits, factor_bits, as_previous, all_factor_bits}
@@ -17,8 +17,10 @@ use Rattle.widths.specs.Previous.{factor_before}
 use Rattle.rules.proofs.Cuts.{blocks-same}
 use Rattle.rules_formats.proofs.Written.{foldl_snoc, walk-blocks, front, times-blocks}
 
-pub side-blocks : (w : ℕ → List Bool) (ys : List ℕ) (n : ℕ) → n ≤ length ys → each_bits (λ _. w) (times n) (take n ys) ≡ blocks (λ i. w (get_or ys i 0)) n
-side-blocks w ys n h = rw (front 0 ys n h) (times-blocks w (λ i. get_or ys i 0) n)
+pub side-blocks : (w : ℕ → List Bool) (ys : List ℕ) → each_bits (λ _. w) (times (length ys)) ys ≡ blocks (λ i. w (get_or ys i 0)) (length ys)
+side-blocks w ys =
+    let e : ys ≡ build (λ i. get_or ys i 0) (length ys) = build-of (λ i. get_or ys i 0) (length ys) 0 ys refl (λ i _. refl) in
+    ap (each_bits (λ _. w) (times (length ys))) e ∙ times-blocks w (λ i. get_or ys i 0) (length ys)
 
 -- a channel's factors
 state_is : (fs : List ℕ) (i : ℕ) → foldl as_previous none (build (λ j. get_or fs j 0) i) ≡ factor_before i (get_or fs (i - 1) 0)

@@ -44,10 +44,8 @@ fn write_factors(run: Run, payload: &mut [u8], factors: &[u8], coded: usize, wid
         × (8 * result.at + result.n ≤ 8 * run.at + run.n + 1408) }
 {
     let mut at = run;
-    let mut i = 0;
-    while i < coded {
+    for i in 0..coded {
         at = write_factor(at, payload, factors, i, width);
-        i += 1;
     }
     at
 }
@@ -69,17 +67,15 @@ fn write_scale_factors(run: Run, payload: &mut [u8], factors: &[u8], coded: usiz
     write_factors(next, payload, factors, coded, width)
 }
 
-// The first side values, each in `width` bits.
-fn write_side(run: Run, payload: &mut [u8], side: &[u8], count: usize, width: u32) -> Run
-    requires { (run.n ≤ 7) × (run.at < 2 ^ 47) × (length side.now ≡ 8) × (count ≤ 8) × (width ≤ 6) }
-    ensures { Emits run payload.old (each_bits (λ _. bits width) (times count) (take count side.now))
+// Side values, each in `width` bits.
+fn write_side(run: Run, payload: &mut [u8], side: &[u8], width: u32) -> Run
+    requires { (run.n ≤ 7) × (run.at < 2 ^ 47) × (length side.now ≤ 8) × (width ≤ 6) }
+    ensures { Emits run payload.old (each_bits (λ _. bits width) (times (length side.now)) side.now)
         result payload.new × (8 * result.at + result.n ≤ 8 * run.at + run.n + 48) }
 {
     let mut at = run;
-    let mut i = 0;
-    while i < count {
-        at = at.write(payload, side[i] as u32, width);
-        i += 1;
+    for &value in side {
+        at = at.write(payload, value as u32, width);
     }
     at
 }
@@ -103,7 +99,7 @@ fn write_channel(
     let next = write_scale_factors(run, payload, factors, coded);
     let count = side_count(layout, channel);
     let width = side_width(layout, channel);
-    write_side(next, payload, side, count, width)
+    write_side(next, payload, &side[..count], width)
 }
 
 pub fn write_channels(
@@ -119,10 +115,8 @@ pub fn write_channels(
         (each_bits (channel_fields layout) (kinds_of layout) (build (chan_of layout factors.now side.now) layout.channels))
         result payload.new × (8 * result.at + result.n ≤ 8 * run.at + run.n + 23344) }
 {
-    let channels = layout.channels;
     let mut at = run;
-    let mut c = 0;
-    while c < channels {
+    for c in 0..layout.channels {
         let f = c * 128;
         let s = c * 8;
         at = write_channel(
@@ -133,7 +127,6 @@ pub fn write_channels(
             &factors[f..f + 128],
             &side[s..s + 8],
         );
-        c += 1;
     }
     at
 }

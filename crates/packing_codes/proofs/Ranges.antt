@@ -1,21 +1,19 @@
 -- What callers show of their codes and resolutions: the quantiser's codes and a legal record's lie in their ranges, and past the coded count every
 -- resolution is 0. Assumes nothing.
-use mathlib.Core.Path.{◌≡◌, refl, sym, ap, ◌∙◌, subst}
+use mathlib.Core.Path.{◌≡◌}
 use mathlib.Core.List.{List}
-use mathlib.Core.Bool.{Bool, true, false, cond, ◌&&◌}
-use Prim.Native.Nat.{ℕ, zero, suc, ◌+◌, ◌*◌, ◌^◌, ◌≤◌, ◌<◌}
+use mathlib.Core.Bool.{Bool, true, ◌&&◌}
+use Prim.Native.Nat.{ℕ, zero, suc, ◌^◌, ◌≤◌, ◌<◌}
 use native.Mathlib.Omega.{arith}
 use borrow.Author.Tests.{lt-ltb, le-ltb, ne_eqb, ltb-false, leb-true}
-use lib.Dec.{ltb, leb}
+use lib.Dec.{ltb}
 use lib.Ieee.{Float}
-use lib.IntN.{ℤ, pos, negsuc, neg_ℤ, nat_abs}
+use lib.IntN.{ℤ, pos, negsuc, nat_abs}
 use lib.ListN.{length, get_or}
-use lib.Signed.{lt_z}
-use Rattle.buffers.specs.Walk.{build, every}
 use Rattle.buffers.proofs.Blocks.{length-blocks}
 use Rattle.buffers.proofs.Build.{length-build, build-at}
 use Rattle.buffers.proofs.Every.{every-at}
-use Rattle.buffers.proofs.Tests.{and_fst, and_snd, cond_both}
+use Rattle.buffers.proofs.Tests.{and_snd, cond_both}
 use Rattle.rules.specs.Signed.{held_z}
 use Rattle.rules.specs.Layout.{coded_count_at, side_count_at, side_width, kind_at, part}
 use Rattle.rules.specs.Resolution.{all_resolutions}
@@ -25,7 +23,7 @@ use Rattle.rules.specs.declared.Mode.{Mode}
 use Rattle.rules.specs.declared.Layout.{Layout}
 use Rattle.rules.proofs.Bands.{resolutions-part, blank-band}
 use Rattle.rules.proofs.Modes.{held-within}
-use Rattle.rules.proofs.Cuts.{block_part, by_order}
+use Rattle.rules.proofs.Cuts.{block_part}
 use Rattle.packing_codes.specs.Columns.{Small, Ranged, Blank, AllRanged}
 
 -- ---- one code

@@ -1,53 +1,48 @@
 -- Columns of words and lengths, and the bits that they are. Assumes nothing.
-use mathlib.Core.Path.{◌≡◌, refl, sym, ap, ap₂, ◌∙◌, subst}
+use mathlib.Core.Path.{◌≡◌, sym, ap, ap₂, ◌∙◌}
 use mathlib.Core.List.{List, [], ◌++◌, append-nil}
 use mathlib.Core.Bool.{Bool}
 use Prim.Native.Nat.{ℕ, zero, suc, ◌+◌, ◌-◌, ◌*◌, ◌≤◌, ◌<◌}
 use native.Mathlib.Nat.{zero-add, suc-add}
 use native.Mathlib.Omega.{arith}
 use lib.IntN.{ℤ, pos}
-use lib.ListN.{length, get_or, take, drop, get_or-append}
-use lib.Seq.{take_at, get_or-take, get_or-drop}
+use lib.ListN.{length, get_or, drop}
+use lib.Seq.{take_all, get_or-take, get_or-drop}
 use Rattle.buffers.specs.Walk.{build, blocks, AtMost}
 use Rattle.buffers.proofs.Build.{length-build, build-at}
 use Rattle.emission.specs.Run.{field_bits, AllFit}
 use Rattle.emission.proofs.Loops.{fields-blocks}
-use Rattle.rules.specs.Format.{each_bits, times}
+use Rattle.rules.specs.Format.{each_bits}
 use Rattle.rules.specs.Layout.{LegalLayout, coded_count_at, part}
 use Rattle.rules.specs.Record.{codes_in}
 use Rattle.rules.specs.Fields.{code_bits}
 use Rattle.rules.specs.declared.Layout.{Layout}
 use Rattle.rules.proofs.Cuts.{length_part, blocks-same}
 use Rattle.rules.proofs.Layouts.{coded-few}
-use Rattle.rules_formats.proofs.Written.{front-blocks, each-blocks, times-blocks}
+use Rattle.rules_formats.proofs.Written.{front-blocks, each-blocks}
 use Rattle.resolutions.specs.Coded.{coded_resolutions}
-use Rattle.packing_codes.specs.Columns.{ordinal, rule_of, length_of, word_of, rule_bits, length_at, word_at, Ruled, AllRuled, padded, padded_rows, padded_codes}
+use Rattle.packing_codes.specs.Columns.{rule_of, rule_bits, length_at, word_at, AllRuled, padded, padded_rows, padded_codes}
 use Rattle.packing_codes.specs.Columns.{RowsRuled, Blank, AllRanged}
 use Rattle.packing_codes.proofs.Columns.{field_is, ruled_fits}
 
 -- ---- a subframe's columns
 
-module _ (rows : List ℕ) (codes : List ℤ) (n : ℕ) (ws ls : List ℕ) where
-  pub columns_bits : n ≤ length rows → n ≤ length codes
-      → field_bits (take n (build (length_at rows codes) n ++ ls)) (take n (build (word_at rows codes) n ++ ws)) ≡ each_bits rule_bits (take n rows) (take n codes)
+module _ (rows : List ℕ) (codes : List ℤ) (e : length codes ≡ length rows) where
+  pub columns_bits : field_bits (build (length_at rows codes) (length rows)) (build (word_at rows codes) (length rows)) ≡ each_bits rule_bits rows codes
   unfolding rule_bits
-  columns_bits h g =
-      ap₂ field_bits
-      (take_at (build (length_at rows codes) n) ls n (length-build (length_at rows codes) n))
-      (take_at (build (word_at rows codes) n) ws n (length-build (word_at rows codes) n))
-      ∙ fields-blocks (length_at rows codes) (word_at rows codes) n
-      ∙ sym (front-blocks rule_bits 0 (pos 0) rows codes n h g)
+  columns_bits =
+      let n : ℕ = length rows in
+      fields-blocks (length_at rows codes) (word_at rows codes) n
+      ∙ sym (front-blocks rule_bits 0 (pos 0) rows codes n (omega arith) (omega (arith, e)))
+      ∙ ap₂ (each_bits rule_bits) (take_all n rows (omega arith)) (take_all n codes (omega (arith, e)))
 
-  column_at_lem : (f : ℕ → ℕ) (d : List ℕ) (i : ℕ) → i < n → get_or (build f n ++ d) i 0 ≡ f i
-  column_at_lem f d i h =
-      let l : i < length (build f n) = rw length-build h in
-      get_or-append (build f n) d 0 i l ∙ build-at f n i 0 h
-
-  pub columns_fit : AllRuled n rows codes → AllFit 12 (build (length_at rows codes) n ++ ls) (build (word_at rows codes) n ++ ws) n
+  pub columns_fit : AllRuled (length rows) rows codes
+      → AllFit 12 (build (length_at rows codes) (length rows)) (build (word_at rows codes) (length rows)) (length rows)
   columns_fit w i h =
+      let n : ℕ = length rows in
       let f = ruled_fits (w i h) in
-      let l : get_or (build (length_at rows codes) n ++ ls) i 0 ≡ length_at rows codes i = column_at_lem (length_at rows codes) ls i h in
-      let x : get_or (build (word_at rows codes) n ++ ws) i 0 ≡ word_at rows codes i = column_at_lem (word_at rows codes) ws i h in
+      let l = build-at (length_at rows codes) n i 0 h in
+      let x = build-at (word_at rows codes) n i 0 h in
       (rw l f.0, rw (l, x) f.1)
 
 -- ---- the buffers' rows

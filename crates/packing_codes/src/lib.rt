@@ -41,10 +41,8 @@ fn code_rules(resolutions: &[u8], rows: &mut [u32])
     ensures { rows.new ≡ build (λ i. rule_of (get_or resolutions.now i 0)) (length resolutions.now) }
 {
     let rules = RULES;
-    let mut i = 0;
-    while i < resolutions.len() {
-        rows[i] = rules[resolutions[i] as usize];
-        i += 1;
+    for (i, &resolution) in resolutions.iter().enumerate() {
+        rows[i] = rules[resolution as usize];
     }
 }
 
@@ -80,19 +78,17 @@ fn field_of(rule: u32, number: u32) -> Piece
     Piece { word: 0, length: 0 }
 }
 
-// The fields of the first n bands of a subframe, as columns of words and lengths.
-fn fields_of(rows: &[u32], codes: &[i32], n: usize, words: &mut [u32], lengths: &mut [u32])
-    requires n_in_bounds { (n ≤ length rows.now) × (n ≤ length codes.now) × (n ≤ length words.old) × (n ≤ length lengths.old) }
-    requires all_ruled { AllRuled n rows.now codes.now }
-    ensures { (words.new ≡ build (word_at rows.now codes.now) n ++ drop n words.old)
-        × (lengths.new ≡ build (length_at rows.now codes.now) n ++ drop n lengths.old) }
+// The fields of a subframe's bands, as columns of words and lengths.
+fn fields_of(rows: &[u32], codes: &[i32], words: &mut [u32], lengths: &mut [u32])
+    requires columns { (length codes.now ≡ length rows.now) × (length words.old ≡ length rows.now) × (length lengths.old ≡ length rows.now) }
+    requires all_ruled { AllRuled (length rows.now) rows.now codes.now }
+    ensures { (words.new ≡ build (word_at rows.now codes.now) (length rows.now))
+        × (lengths.new ≡ build (length_at rows.now codes.now) (length rows.now)) }
 {
-    let mut b = 0;
-    while b < n {
+    for b in 0..rows.len() {
         let field = field_of(rows[b], number_of(codes[b]));
         words[b] = field.word;
         lengths[b] = field.length;
-        b += 1;
     }
 }
 
@@ -102,18 +98,17 @@ fn write_band_codes(
     payload: &mut [u8],
     rows: &[u32],
     codes: &[i32],
-    n: usize,
     words: &mut [u32],
     lengths: &mut [u32],
 ) -> Run
-    requires n_bound { (run.n ≤ 7) × (run.at < 2 ^ 48) × (length rows.now ≡ 128) × (length codes.now ≡ 128) × (n ≤ 128) × (n % 4 ≡ 0)
-        × (128 ≤ length words.old) × (128 ≤ length lengths.old) }
-    requires all_ruled { AllRuled n rows.now codes.now }
-    ensures { Emits run payload.old (each_bits rule_bits (take n rows.now) (take n codes.now)) result payload.new
+    requires n_bound { (run.n ≤ 7) × (run.at < 2 ^ 48) × (length rows.now ≤ 128) × (length rows.now % 4 ≡ 0) }
+    requires columns { (length codes.now ≡ length rows.now) × (length words.old ≡ length rows.now) × (length lengths.old ≡ length rows.now) }
+    requires all_ruled { AllRuled (length rows.now) rows.now codes.now }
+    ensures { Emits run payload.old (each_bits rule_bits rows.now codes.now) result payload.new
         × (8 * result.at + result.n ≤ 8 * run.at + run.n + 1536) }
 {
-    fields_of(rows, codes, n, words, lengths);
-    run.put_all(payload, words, lengths, n)
+    fields_of(rows, codes, words, lengths);
+    run.put_all(payload, words, lengths)
 }
 
 // One subframe of every channel.
@@ -136,23 +131,19 @@ fn write_subframe(
         (build (padded_codes layout codes.now subframe) layout.channels)) result payload.new
         × (8 * result.at + result.n ≤ 8 * run.at + run.n + 24576) }
 {
-    let channels = layout.channels;
     let mut at = run;
-    let mut c = 0;
-    while c < channels {
+    for c in 0..layout.channels {
         let coded = (coded_count(layout, c) + 7) / 8 * 8;
         let r = c * 128;
         let s = c * 1024 + subframe * 128;
         at = write_band_codes(
             at,
             payload,
-            &rows[r..r + 128],
-            &codes[s..s + 128],
-            coded,
-            words,
-            lengths,
+            &rows[r..r + coded],
+            &codes[s..s + coded],
+            &mut words[..coded],
+            &mut lengths[..coded],
         );
-        c += 1;
     }
     at
 }
@@ -179,10 +170,8 @@ pub fn write_codes(
 {
     code_rules(resolutions, rows);
     let mut at = run;
-    let mut s = 0;
-    while s < 8 {
+    for s in 0..8 {
         at = write_subframe(at, payload, layout, s, rows, codes, words, lengths);
-        s += 1;
     }
     at
 }

@@ -1,7 +1,7 @@
 -- The tables' entries, each table by one computed test of all its entries. Assumes nothing.
 use mathlib.Core.Path.{◌≡◌, refl, sym, ap, ◌∙◌}
 use mathlib.Core.Bool.{Bool, true, cond}
-use mathlib.Core.List.{List, []}
+use mathlib.Core.List.{List, [], ◌∷◌, map}
 use mathlib.Core.Logic.{⊎_elim}
 use Prim.Native.Nat.{ℕ, zero, suc, ◌+◌, ◌-◌, ◌*◌, ◌%◌, ◌^◌, ◌≤◌, ◌<◌}
 use native.Mathlib.Nat.{eq-or-lt_of_le}
@@ -16,7 +16,6 @@ use Rattle.buffers.proofs.Build.{build-at}
 use Rattle.buffers.proofs.Every.{every-at}
 use Rattle.rules.specs.Tables.{step_table, max_bit_table, spectrum_bits}
 use Rattle.rules.specs.Code.{step_of, step_shift, magnitude_bits}
-use Rattle.quantizer.specs.SixteenInOne.{entry_of}
 
 -- two functions that give the same list
 pub build_agrees : {A : Type 0} (f g : ℕ → A) (n : ℕ) → build f n ≡ build g n → (i : ℕ) → i < n → f i ≡ g i
@@ -45,9 +44,11 @@ unfolding short
 length-le r p h k = leb-true _ _ (every-at (short r) 16 p (every-at (λ (i : ℕ). every (short i) 16) 8 r all_short h) (omega arith))
 
 -- ---- MAX_BIT_TABLE - 1, and the limit
-pub bits-entry : (r : ℕ) → r ≤ 15 → entry_of 0xBA98765433332210 r ≡ magnitude_bits r
-unfolding build magnitude_bits max_bit_table
-bits-entry r h = build_agrees (entry_of 0xBA98765433332210) magnitude_bits 16 refl r (omega arith)
+-- an entry of a table less one
+pub one-less : (entries : List ℕ) (r : ℕ) → get_or (map (λ (n : ℕ). n - 1) entries) r 0 ≡ get_or entries r 0 - 1
+one-less [] r = refl
+one-less (n ∷ entries) zero = refl
+one-less (n ∷ entries) (suc r) = one-less entries r
 
 pub bits-le : (r : ℕ) → r ≤ 15 → magnitude_bits r ≤ 11
 unfolding every magnitude_bits max_bit_table

@@ -1,2 +1,1 @@
-pub mod SixteenInOne
 pub mod Marks

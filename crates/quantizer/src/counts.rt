@@ -65,13 +65,10 @@ pub fn marks_of(mode: Mode, r: u8) -> Marks
     match mode {
         Mode::Rust => m,
         Mode::Held => Marks {
-            step: m.step,
-            near: m.near,
-            far: m.far,
-            past: m.past,
             low: m.high,
             high: 0,
             drop: 0,
+            ..m
         },
     }
 }
@@ -88,9 +85,7 @@ pub fn small_bits(mode: Mode, scaled: f32, r: u8, m: Marks) -> u32
     requires { (r < 8) × (m ≡ marks_at mode r) }
     ensures { (result ≡ value_bits mode r scaled) × (result ≤ 12) }
 {
-    let step = m.step;
-    let up = step + 1.0;
-    let y = scaled * step + up;
+    let y = scaled * m.step + (m.step + 1.0);
     let most = m.low + reached(1.0, y, m.high) + reached(m.far, y, 1);
     most - (reached(m.near, y, 1) + reached(m.past, y, m.drop))
 }

@@ -3,26 +3,28 @@ use mathlib.Core.Path.{◌≡◌, refl, sym, ◌∙◌, ap, ap₂}
 use mathlib.Core.Bool.{true, false}
 use mathlib.Core.List.{List}
 use Prim.Native.Nat.{ℕ, ◌+◌, ◌-◌, ◌*◌, ◌≤◌}
+use native.Mathlib.Nat.{div-one}
 use native.Mathlib.Omega.{arith}
 use borrow.Author.Tests.{le-leb, eq-eqb, ne_eqb}
 use lib.IntN.{ℤ}
+use Rattle.std.specs.Prelude.{Result, Ok, Err, is_err}
 use lib.ListN.{length, take, drop, length-drop}
 use lib.Seq.{take-take, length-take-le}
 use Rattle.bits.specs.Bits.{bits_of, value}
-use Rattle.bits.specs.Place.{field_at}
+use Rattle.bits.specs.Place.{field_at, look_at}
 use Rattle.bits.specs.declared.Place.{Place}
-use Rattle.bits.specs.declared.Field.TheVariants as field
-use Rattle.bits.proofs.Fields.{field_in, past}
+use Rattle.bits.proofs.Fields.{field_in, look_field}
 use Rattle.bits.proofs.Numbers.{length-bits_of}
 use Rattle.bits.proofs.Parts.{bits-take, bits-drop, part_cut}
 use Rattle.crc.specs.Sealed.{body, is_sealed}
 use Rattle.rules.specs.Format.{ok, number}
 use Rattle.rules.specs.Reading.{read_record, read_fields, faulty, after_fields, scan, strict}
 use Rattle.rules.specs.Lent.{no_factors, no_side, no_codes}
-use Rattle.rules.specs.Reader.{reader_left}
+use Rattle.rules.specs.Reader.{ReaderLeft, reader_left}
 use Rattle.rules.specs.declared.Layout.{Layout}
-use Rattle.rules.specs.declared.ReadAnswer.{ReadAnswer}
-use Rattle.reader.specs.Scans.{scan_part}
+use Rattle.rules.specs.declared.RecordDelivery.{RecordDelivery}
+use Rattle.rules.specs.declared.ReadRefusal.{ReadRefusal}
+use Rattle.reader.specs.Scans.{scan_part, found_left}
 
 -- the part between sync and check
 abbrev pub between : List ℕ → List ℕ
@@ -34,10 +36,6 @@ module _ (l : Layout) (frame : List ℕ) where
   unsealed e = rw e refl
 
   module _ (long : 8 ≤ length frame) where
-    -- the sync's field is always there
-    pub sync-there : {k : ℕ} → field_at frame 0 16 ≡ field.Past k → ⊥
-    sync-there e = omega (arith, (past frame 0 16 e).1)
-
     body-length : length (bits_of (body frame)) ≡ 8 * (length frame - 2)
     body-length = length-bits_of (body frame) ∙ ap (λ n. 8 * n) (length-take-le (length frame - 2) frame (omega arith))
 
@@ -49,10 +47,15 @@ module _ (l : Layout) (frame : List ℕ) where
         let p : length (between frame) ≡ length frame - 2 - 2 = length-take-le (length frame - 2 - 2) (drop 2 frame) (simp length-drop (omega arith)) in
         omega (arith, body-length, length-bits_of (between frame))
 
-    module _ {v : ℕ} {q : Place} (i : field_at frame 0 16 ≡ field.Of v q) where
+    module _ {v : ℕ} (seen : v ≡ look_at frame 0 16) where
+      i : field_at frame 0 16 ≡ Ok (v, record { at = 16 })
+      i = rw (seen, ← div-one (look_at frame 0 16)) (look_field frame 0 16 16 (omega arith) (omega arith))
+
       first-bits : v ≡ value (take 16 (bits_of (body frame)))
       first-bits =
-          let w : v ≡ value (take 16 (bits_of frame)) = cc (field_in frame 0 16 (omega arith)) in
+          let both : ◌≡◌ {A = ℕ × Place} (v, record { at = 16 }) (value (take 16 (bits_of frame)), record { at = 16 }) =
+          cc (i, field_in frame 0 16 (omega arith)) in
+          let w : v ≡ value (take 16 (bits_of frame)) = ap (λ (x : ℕ × Place). x.0) both in
           w ∙ ap value (sym (ap (take 16) (bits-take (length frame - 2) frame) ∙ take-take 16 (8 * (length frame - 2)) (bits_of frame) (omega arith)))
 
       sync-bits : number 16 (bits_of (body frame)) ≡ ok v (bits_of (between frame))
@@ -71,6 +74,13 @@ module _ (l : Layout) (frame : List ℕ) where
         synced h = rw (e, sync-bits, eq-eqb v 0xFFFF h) (ap (λ n. after_fields n (read_record l (bits_of (between frame)))) part_length)
 
 -- buffers that were cleared are the zeros that a refusal leaves
-pub cleared-left : (l : Layout) (a : ReadAnswer) {F S : List ℕ} {C : List ℤ} → F ≡ no_factors l → S ≡ no_side l → C ≡ no_codes l
-    → reader_left a F S C ≡ reader_left a (no_factors l) (no_side l) (no_codes l)
-cleared-left l a f s c = rw (f, s, c) refl
+pub cleared_left : (l : Layout) (r : Result RecordDelivery ReadRefusal) {x : ReaderLeft} {F S : List ℕ} {C : List ℤ} (F' S' : List ℕ) (C' : List ℤ) → is_err r ≡ true
+    → F ≡ no_factors l → S ≡ no_side l → C ≡ no_codes l → found_left l F' S' C' r ≡ x → reader_left r F S C ≡ x
+cleared_left l (Ok d) F' S' C' e f s c h = absurd (let z : ◌≡◌ {A = ℕ} 0 1 = cc in omega arith)
+cleared_left l (Err a) F' S' C' e f s c h = rw (f, s, c) h
+
+-- .. and a record that was found stays
+pub found_kept : (l : Layout) (r : Result RecordDelivery ReadRefusal) {x : ReaderLeft} {F S : List ℕ} {C : List ℤ} → is_err r ≡ false
+    → found_left l F S C r ≡ x → reader_left r F S C ≡ x
+found_kept l (Ok d) e h = h
+found_kept l (Err a) e h = absurd (let z : ◌≡◌ {A = ℕ} 0 1 = cc in omega arith)

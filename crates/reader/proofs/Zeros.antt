@@ -5,6 +5,7 @@ use mathlib.Core.Option.{none, some}
 use Prim.Native.Nat.{ℕ, zero, suc, ◌+◌, ◌-◌, ◌*◌, ◌/◌, ◌^◌, ◌≤◌, ◌<◌}
 use native.Mathlib.Numerals.{add-one}
 use native.Mathlib.Omega.{arith}
+use Rattle.std.specs.Prelude.{Option, Some, None, is_some, false}
 use lib.ListN.{length, get_or, drop_of_length-le}
 use lib.Seq.{drop-cons}
 use Rattle.bits.specs.Bits.{bits, bits_of}
@@ -13,7 +14,8 @@ use Rattle.bits.proofs.Numbers.{length-bits_of}
 use Rattle.bits.proofs.Parts.{bits-drop}
 use Rattle.bits.proofs.Fields.{look_lt, look_field, got}
 use Rattle.rules.specs.Reading.{first_one}
-use Rattle.reader.specs.Ones.{ZerosBetween}
+use Rattle.reader.specs.Ones.{ZerosBetween, Stopped}
+use Rattle.reader.specs.Filled.{Filled}
 
 module _ (part : List ℕ) (p : ℕ) (h : p < 8 * length part) where
   -- the bit at p, and what follows it
@@ -48,3 +50,13 @@ byte_zero part i h e =
 
 pub end_zero : (part : List ℕ) (p : ℕ) → 8 * length part ≤ p → first_one (left_at part p) ≡ none
 end_zero part p h = ap first_one (drop_of_length-le (bits_of part) {i = p} (omega (arith, length-bits_of part)))
+
+-- the search in the rest, after zeros up to bit q
+pub found_late : (part : List ℕ) (p q : ℕ) (r : Option ℕ) → ZerosBetween part p q → Stopped part q (8 * length part) r → Filled part (first_one (left_at part p)) r
+found_late part p q (Some b) z t = record { is = z ∙ t.zeros ∙ t.one; within = omega (arith, t.within) }
+found_late part p q None z t = record { is = z ∙ t ∙ end_zero part (8 * length part) (omega arith); within = tt }
+
+-- a search that found no 1
+pub none_found : (part : List ℕ) (p end : ℕ) (r : Option ℕ) → is_some r ≡ false → Stopped part p end r → ZerosBetween part p end
+none_found part p end (Some b) e t = absurd (let z : ◌≡◌ {A = ℕ} 0 1 = cc in omega arith)
+none_found part p end None e t = t

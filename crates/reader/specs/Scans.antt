@@ -1,6 +1,6 @@
 -- Document 01, **Refusal numbers**: what was found, as the rules say what a scan leaves. `s` is the part of a frame between its sync
 -- and its check; F, S and C are the factors', the side's and the codes' buffers.
-use Rattle.std.specs.Prelude.{◌≡◌, List, ℕ, ◌+◌, ℤ, length}
+use Rattle.std.specs.Prelude.{◌≡◌, List, Result, Ok, Err, ℕ, ◌+◌, ℤ, length}
 use Rattle.bits.specs.Bits.{bits_of}
 use Rattle.rules.specs.Format.{pure}
 use Rattle.rules.specs.Layout.{factor_length, side_length, spectrum_length}
@@ -9,11 +9,9 @@ use Rattle.rules.specs.Reading.{read_record, Scanned, after_fields}
 use Rattle.rules.specs.Lent.{no_factors, no_side, no_codes}
 use Rattle.rules.specs.Reader.{ReaderLeft, reader_left}
 use Rattle.rules.specs.declared.Layout.{Layout}
-use Rattle.rules.specs.declared.ReadAnswer.TheVariants as read
-use Rattle.reader_channels.specs.Started.{HeadAgrees}
-use Rattle.reader_channels.specs.declared.level_and_boundary.Head.{Head}
-use Rattle.reader.specs.declared.fill.FrameFound.{FrameFound}
-use Rattle.reader.specs.declared.fill.FrameFound.TheVariants as found
+use Rattle.rules.specs.declared.RecordDelivery.{RecordDelivery}
+use Rattle.rules.specs.declared.ReadRefusal.{ReadRefusal}
+use Rattle.reader_channels.specs.Started.{Opened, HeadAgrees}
 
 -- the buffers hold what a record is stored as
 pub record Holds (l : Layout) (r : Rec) (F S : List ℕ) (C : List ℤ) : Type 0 where
@@ -22,7 +20,7 @@ pub record Holds (l : Layout) (r : Rec) (F S : List ℕ) (C : List ℤ) : Type 0
   pub codes : store_codes l r ≡ C
 
 -- EVERY FIELD was read: the record lies in the buffers
-abbrev pub FieldsRead : (l : Layout) (s F S : List ℕ) (C : List ℤ) (r : Head) → Type 0
+abbrev pub FieldsRead : (l : Layout) (s F S : List ℕ) (C : List ℤ) (r : Opened) → Type 0
 FieldsRead l s F S C r =
     HeadAgrees l s (λ level boundary. pure (rec_of l level boundary F S C)) (λ level boundary. Holds l (rec_of l level boundary F S C) F S C) r
 
@@ -31,9 +29,9 @@ abbrev pub scan_part : (l : Layout) (s : List ℕ) → Scanned
 scan_part l s = after_fields (length (bits_of s) + 16) (read_record l (bits_of s))
 
 -- what is to be left after an answer: the record that lies in the buffers, or zeros
-abbrev pub found_left : (l : Layout) (F S : List ℕ) (C : List ℤ) (r : FrameFound) → ReaderLeft
-found_left l F S C (found.Of level boundary bit_count) = reader_left (read.Delivered level boundary bit_count) F S C
-found_left l F S C (found.Refused answer) = reader_left answer (no_factors l) (no_side l) (no_codes l)
+abbrev pub found_left : (l : Layout) (F S : List ℕ) (C : List ℤ) (r : Result RecordDelivery ReadRefusal) → ReaderLeft
+found_left l F S C (Ok found) = reader_left (Ok found) F S C
+found_left l F S C (Err refusal) = reader_left (Err refusal) (no_factors l) (no_side l) (no_codes l)
 
 -- THE BUFFERS' LENGTHS, just as stated
 pub record ReaderLengths (l : Layout) (factor_count side_count code_count : ℕ) : Type 0 where

@@ -5,11 +5,12 @@ ghost use Rattle.rules.specs.Reading.{strict};
 ghost use Rattle.rules.specs.Reader.{reader_left, scanned_left};
 ghost use Rattle.reader.specs.Scans.{found_left, ReaderLengths};
 
-use crate::fill::FrameFound;
 use crate::record::read_record;
-use bits::{Field, Place};
-use buffers::{clear_i32, clear_u8};
-use rules::{Layout, ReadAnswer};
+use bits::Place;
+use rules::{Layout, ReadRefusal, RecordDelivery};
+
+// A frame's first two bytes.
+const SYNC: u32 = 0xFFFF;
 
 // The check, the sync, and what stands between them.
 fn scan_frame(
@@ -18,7 +19,7 @@ fn scan_frame(
     factors: &mut [u8],
     side: &mut [u8],
     codes: &mut [i32],
-) -> FrameFound
+) -> Result<RecordDelivery, ReadRefusal>
     requires legal_layout { LegalLayout layout }
     requires frame_len { length frame.now ≡ frame_size layout }
     requires reader_lengths { ReaderLengths layout (length factors.old) (length side.old) (length codes.old) }
@@ -26,14 +27,12 @@ fn scan_frame(
         ≡ scanned_left layout (strict layout frame.now) }
 {
     if !sealing::is_sealed(frame) {
-        return FrameFound::Refused(ReadAnswer::WrongCheck);
+        return Err(ReadRefusal::WrongCheck);
     }
     let start = Place { at: 0 };
-    let Field::Of(sync, _) = start.get(frame, 16) else {
-        return FrameFound::Refused(ReadAnswer::PastEnd(start.at));
-    };
-    if sync != 0xFFFF {
-        return FrameFound::Refused(ReadAnswer::WrongSync);
+    let sync = start.look(frame, 16);
+    if sync != SYNC {
+        return Err(ReadRefusal::WrongSync);
     }
     let end = frame.len() - 2;
     read_record(layout, &frame[2..end], factors, side, codes)
@@ -46,20 +45,18 @@ pub fn read_exact(
     factors: &mut [u8],
     side: &mut [u8],
     codes: &mut [i32],
-) -> ReadAnswer
+) -> Result<RecordDelivery, ReadRefusal>
     requires legal_layout { LegalLayout layout }
     requires frame_len { length frame.now ≡ frame_size layout }
     requires reader_lengths { ReaderLengths layout (length factors.old) (length side.old) (length codes.old) }
     ensures { reader_left result factors.new side.new codes.new
         ≡ scanned_left layout (strict layout frame.now) }
 {
-    match scan_frame(layout, frame, factors, side, codes) {
-        FrameFound::Of(level, boundary, bits) => ReadAnswer::Delivered(level, boundary, bits),
-        FrameFound::Refused(answer) => {
-            clear_u8(factors);
-            clear_u8(side);
-            clear_i32(codes);
-            answer
-        }
+    let found = scan_frame(layout, frame, factors, side, codes);
+    if found.is_err() {
+        factors.fill(0);
+        side.fill(0);
+        codes.fill(0);
     }
+    found
 }

@@ -16,7 +16,7 @@ ghost use Rattle.rules.specs.Reading.{strict};
 ghost use Rattle.rules.specs.Reader.{reader_lent, reader_left, scanned_left, reader_overwrite, read_frame};
 
 use crate::frame::read_exact;
-use rules::{Layout, ReadAnswer, Room};
+use rules::{Layout, ReadRefusal, RecordDelivery, Room};
 
 // Lends the buffers' parts of the stated lengths; a longer buffer's rest stays.
 fn lend_exact(
@@ -25,7 +25,7 @@ fn lend_exact(
     factors: &mut [u8],
     side: &mut [u8],
     codes: &mut [i32],
-) -> ReadAnswer
+) -> Result<RecordDelivery, ReadRefusal>
     requires legal_layout { LegalLayout layout }
     requires has_room { HasRoom layout (room_of (length factors.old) (length side.old) (length codes.old) (length frame.now)) }
     ensures { reader_left result factors.new side.new codes.new
@@ -52,12 +52,12 @@ pub fn read_frame(
     factors: &mut [u8],
     side: &mut [u8],
     codes: &mut [i32],
-) -> ReadAnswer
+) -> Result<RecordDelivery, ReadRefusal>
     ensures { reader_left result factors.new side.new codes.new
         ≡ read_frame layout (reader_lent frame.now factors.old side.old codes.old) }
 {
     if !layouts::legal(layout) {
-        return ReadAnswer::BadLayout;
+        return Err(ReadRefusal::BadLayout);
     }
     let room = Room {
         factors: factors.len(),
@@ -66,7 +66,7 @@ pub fn read_frame(
         frame: frame.len(),
     };
     if !layouts::has_room(layout, room) {
-        return ReadAnswer::ShortBuffer;
+        return Err(ReadRefusal::ShortBuffer);
     }
     lend_exact(layout, frame, factors, side, codes)
 }

@@ -8,6 +8,7 @@ use native.Mathlib.Nat.{eq-or-lt_of_le}
 use native.Mathlib.Numerals.{add-one}
 use native.Mathlib.Omega.{arith}
 use lib.ListN.{length, drop, get_or, drop_of_length-le}
+use Rattle.std.specs.Prelude.{Ok, Err}
 use lib.Seq.{drop-cons}
 use Rattle.bits.specs.Place.{left_at}
 use Rattle.bits.specs.declared.Place.{Place}
@@ -21,12 +22,9 @@ use Rattle.rules.specs.declared.Layout.{Layout}
 use Rattle.rules.proofs.Cuts.{build-same, blocks-same, parts_all, renewed, renewed-length, row_new, row_old}
 use Rattle.rules_formats.proofs.Turns.{onto, onto-none, walk_turn, walk_stop}
 use Rattle.reader_channels.specs.declared.values.faults.Fault.{Fault}
-use Rattle.reader_channels.specs.Steps.{fault_number, fault_bit}
-use Rattle.reader_channels.specs.declared.values.faults.Step.{Step}
-use Rattle.reader_channels.specs.declared.values.faults.Step.TheVariants as step
+use Rattle.reader_channels.specs.Steps.{Step, fault_number, fault_bit}
 use Rattle.reader_channels.specs.StoredRow.{Row, StoredRow}
 use Rattle.reader_channels.specs.Answers.{StoredChannel, Rows, StoredChannels}
-use Rattle.reader_channels.proofs.Widths.{stored_of_lem}
 
 -- A CHANNEL: n and k are its counts, and w is the width of its side values
 abbrev pub ChannelRead : (l : Layout) (c : ℕ) (s : List ℕ) (at : ℕ) (F S : List ℕ) (r : Step) → Type 0
@@ -36,20 +34,20 @@ module _ (l : Layout) (c : ℕ) (s : List ℕ) (at : ℕ) {n : ℕ} (counts : n 
     (t : StoredRow s (read_width n (left_at s at)) n 128 F o) where
   -- the factors, of the coded count itself
   coded : {o' : Step} → o ≡ o' → StoredRow s (read_width (coded_count_at l c) (left_at s at)) (coded_count_at l c) 128 F o'
-  coded {o'} e = subst (λ m. StoredRow s (read_width m (left_at s at)) m 128 F o') counts (stored_of_lem e t)
+  coded {o'} e = subst (λ m. StoredRow s (read_width m (left_at s at)) m 128 F o') counts (subst (λ r. StoredRow s (read_width n (left_at s at)) n 128 F r) e t)
 
-  pub channel_cut : {S : List ℕ} {f : Fault} → o ≡ step.Refused f → ChannelRead l c s at F S o
+  pub channel_cut : {S : List ℕ} {f : Fault} → o ≡ Err f → ChannelRead l c s at F S (Err f)
   unfolding coded_count_at side_count_at
   channel_cut {S} e =
       let v = coded e in
-      subst (ChannelRead l c s at F S) (sym e) (record { done = record { is = rw v.done.is refl; within = v.done.within }; rows = tt })
+      record { done = record { is = rw v.done.is refl; within = v.done.within }; rows = tt }
 
-  module _ {S : List ℕ} {q : Place} (e : o ≡ step.At q) where
+  module _ {S : List ℕ} {q : Place} (e : o ≡ Ok q) where
     sides : (r : Step) → StoredRow s (each (λ _. number (side_width (kind_at l c))) (times (side_count_at l c)) (left_at s q.at)) (side_count_at l c) 8 S r
         → ChannelRead l c s at F S r
     unfolding coded_count_at side_count_at
-    sides (step.At _) u = record { done = record { is = rw ((coded e).done.is, u.done.is) refl; within = u.done.within }; rows = ((coded e).held, u.held) }
-    sides (step.Refused f) u = record { done = record { is = rw ((coded e).done.is, u.done.is) refl; within = u.done.within }; rows = tt }
+    sides (Ok _) u = record { done = record { is = rw ((coded e).done.is, u.done.is) refl; within = u.done.within }; rows = ((coded e).held, u.held) }
+    sides (Err f) u = record { done = record { is = rw ((coded e).done.is, u.done.is) refl; within = u.done.within }; rows = tt }
 
     pub channel_stored : {k w : ℕ} → k ≡ side_count_at l c → w ≡ side_width (kind_at l c) → (r : Step)
         → StoredRow s (each (λ _. number w) (times k) (left_at s q.at)) k 8 S r
@@ -93,7 +91,7 @@ module _ (l : Layout) (s : List ℕ) where
   }
 
   module _ {x : Read (List Chan)} {c at : ℕ} {F S : List ℕ} (w : Reading l s x c at F S) where
-    pub reading_all : (q : Place) → q.at ≡ at → l.channels ≤ c → StoredChannels l s x F S (step.At q)
+    pub reading_all : (q : Place) → q.at ≡ at → l.channels ≤ c → StoredChannels l s x F S (Ok q)
     reading_all q e h =
         let z : c ≡ l.channels = omega (arith, w.below) in
         record {
@@ -105,12 +103,11 @@ module _ (l : Layout) (s : List ℕ) where
         }
 
     module _ (h : c < l.channels) where
-      pub reading_stop : {ys zs : List ℕ} {r : Step} {f : Fault} → r ≡ step.Refused f → ChannelRead l c s at ys zs r
-          → {A B : List ℕ} → StoredChannels l s x A B r
+      pub reading_stop : {ys zs : List ℕ} {r : Step} {f : Fault} → r ≡ Err f → ChannelRead l c s at ys zs r
+          → {A B : List ℕ} → StoredChannels l s x A B (Err f)
       reading_stop {ys} {zs} {r} {f} e t {A} {B} =
           let v = subst (ChannelRead l c s at ys zs) e t in
-          subst (λ z. StoredChannels l s x A B z) (sym e)
-          (record {
+          record {
             done = record {
               is = w.is ∙ rw (kinds_next l c h)
                   (walk_stop stay (λ _. read_channel l) (build (chan_of l F S) c) tt (kind_at l c) (drop (c + 1) (kinds_of l)) (left_at s at) (fault_number f)
@@ -118,11 +115,11 @@ module _ (l : Layout) (s : List ℕ) where
               within = v.done.within;
             };
             rows = tt;
-          })
+          }
 
-      module _ (ys zs : List ℕ) (fl : length ys ≡ 128) (sl : length zs ≡ 8) {q : Place} {r : Step} (z : r ≡ step.At q)
+      module _ (ys zs : List ℕ) (fl : length ys ≡ 128) (sl : length zs ≡ 8) {q : Place} {r : Step} (z : r ≡ Ok q)
           (agrees : ChannelRead l c s at ys zs r) where
-        t : ChannelRead l c s at ys zs (step.At q)
+        t : ChannelRead l c s at ys zs (Ok q)
         t = subst (ChannelRead l c s at ys zs) z agrees
 
         -- the rows end within their buffers

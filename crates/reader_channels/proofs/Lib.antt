@@ -6,4 +6,3 @@ pub mod Heads
 pub mod HeaderChannels
 pub mod Headed
 pub mod Walks
-pub mod Widths

@@ -5,8 +5,7 @@ use Rattle.rules.specs.Format.{Read}
 use Rattle.rules.specs.Layout.{coded_count_at, side_count_at, part}
 use Rattle.rules.specs.Record.{Chan, chan_in, chan_of}
 use Rattle.rules.specs.declared.Layout.{Layout}
-use Rattle.reader_channels.specs.Steps.{Done, if_done}
-use Rattle.reader_channels.specs.declared.values.faults.Step.{Step}
+use Rattle.reader_channels.specs.Steps.{Step, Done, if_done}
 use Rattle.reader_channels.specs.StoredRow.{Row}
 
 -- channel c's factors and side values

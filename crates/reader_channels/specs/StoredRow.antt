@@ -2,8 +2,7 @@
 use Rattle.std.specs.Prelude.{◌≡◌, List, ℕ, ◌<◌, take, get_or}
 use Rattle.rules.specs.Format.{Read}
 use Rattle.rules.specs.Record.{pad}
-use Rattle.reader_channels.specs.Steps.{Done, if_done}
-use Rattle.reader_channels.specs.declared.values.faults.Step.{Step}
+use Rattle.reader_channels.specs.Steps.{Step, Done, if_done}
 
 -- a row: its first `count` values are written, each below 64, and the others are 0
 pub record Row (count size : ℕ) (row : List ℕ) : Type 0 where

@@ -19,9 +19,9 @@ ghost use Rattle.reader_channels.specs.Steps.{Inside};
 ghost use Rattle.reader_channels.specs.Answers.{StoredChannel, StoredChannels};
 ghost use Rattle.reader_channels.specs.Headed.{Headed};
 
-use crate::level_and_boundary::{Head, head_after, read_head};
+use crate::level_and_boundary::{Head, read_head};
 use crate::rows::{read_side, read_width};
-use crate::values::faults::Step;
+use crate::values::faults::Fault;
 use bits::Place;
 use rules::Layout;
 
@@ -33,7 +33,7 @@ fn read_channel(
     place: Place,
     factors: &mut [u8],
     side: &mut [u8],
-) -> Step
+) -> Result<Place, Fault>
     requires legal_layout { LegalLayout layout }
     requires inside { Inside part.now place.at }
     requires channel_bound { (channel < 16) × (length factors.old ≡ 128) × (length side.old ≡ 8) }
@@ -42,10 +42,7 @@ fn read_channel(
         factors.new side.new result }
 {
     let coded = layouts::coded_count(layout, channel);
-    let step = read_width(part, place, coded, factors);
-    let Step::At(next) = step else {
-        return step;
-    };
+    let next = read_width(part, place, coded, factors)?;
     let count = layouts::side_count(layout, channel);
     let width = layouts::side_width(layout, channel);
     read_side(part, next, count, width, side)
@@ -58,7 +55,7 @@ fn read_channels(
     place: Place,
     factors: &mut [u8],
     side: &mut [u8],
-) -> Step
+) -> Result<Place, Fault>
     requires legal_layout { LegalLayout layout }
     requires inside { Inside part.now place.at }
     requires factors_len { (length factors.old ≡ factor_length layout) × (length side.old ≡ side_length layout) }
@@ -66,27 +63,20 @@ fn read_channels(
         (each (read_channel layout) (kinds_of layout) (left_at part.now place.at))
         factors.new side.new result }
 {
-    let channels = layout.channels;
     let mut at = place;
-    let mut c = 0;
-    while c < channels {
+    for c in 0..layout.channels {
         let f = c * 128;
         let s = c * 8;
-        let step = read_channel(
+        at = read_channel(
             layout,
             c,
             part,
             at,
             &mut factors[f..f + 128],
             &mut side[s..s + 8],
-        );
-        let Step::At(next) = step else {
-            return step;
-        };
-        at = next;
-        c += 1;
+        )?;
     }
-    Step::At(at)
+    Ok(at)
 }
 
 // Level, boundary and every channel's factors and side values.
@@ -95,15 +85,12 @@ pub fn read_head_and_channels(
     part: &[u8],
     factors: &mut [u8],
     side: &mut [u8],
-) -> Head
+) -> Result<Head, Fault>
     requires legal_layout { LegalLayout layout }
     requires part_len_bound { (length part.now ≤ 65535) × (length factors.old ≡ factor_length layout) × (length side.old ≡ side_length layout) }
     ensures { Headed layout part.now factors.new side.new result }
 {
-    let head = read_head(part);
-    let Head::Of(level, boundary, place) = head else {
-        return head;
-    };
-    let step = read_channels(layout, part, place, factors, side);
-    head_after(level, boundary, step)
+    let head = read_head(part)?;
+    let next = read_channels(layout, part, head.next, factors, side)?;
+    Ok(Head { next, ..head })
 }

@@ -6,13 +6,7 @@ ghost use Rattle.rules.specs.Width.{width};
 pub fn width_fits(width: u32, coded: usize) -> bool
     ensures { result ≡ (leb width 6 && (leb 1 coded || eqb width 0)) }
 {
-    if 6 < width {
-        return false;
-    }
-    if 1 <= coded {
-        return true;
-    }
-    width == 0
+    width <= 6 && (1 <= coded || width == 0)
 }
 
 // Whether a width of so many bits is the chosen one for a channel's coded factors.
@@ -20,6 +14,5 @@ pub fn is_chosen(bits: u32, factors: &[u8], coded: usize) -> bool
     requires { (coded ≤ 128) × (length factors.now ≡ 128) }
     ensures { result ≡ eqb (width (take coded factors.now)) bits }
 {
-    let chosen = widths::calculate_optimal_delta_length(factors, coded);
-    chosen.bits == bits as usize
+    widths::calculate_optimal_delta_length(factors, coded).bits == bits as usize
 }

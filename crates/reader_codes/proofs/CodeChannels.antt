@@ -5,6 +5,7 @@ use Prim.Native.Nat.{ℕ, ◌+◌, ◌*◌, ◌≤◌, ◌<◌}
 use native.Mathlib.Omega.{arith}
 use lib.IntN.{ℤ}
 use lib.ListN.{length, get_or, take, drop}
+use Rattle.std.specs.Prelude.{Ok, Err}
 use Rattle.bits.specs.Place.{left_at}
 use Rattle.bits.specs.declared.Place.{Place}
 use Rattle.buffers.specs.Walk.{build}
@@ -17,10 +18,8 @@ use Rattle.rules.specs.declared.Layout.{Layout}
 use Rattle.rules.proofs.Cuts.{by_order, build-same, renewed, renewed-length, row_new, row_old}
 use Rattle.rules_formats.proofs.Turns.{onto, onto-none, each_turn, each_stop, each_end}
 use Rattle.reader_codes.specs.Rows.{Blank, StoredCodes, coded_rows, read_subframe, row_of, Subframe}
-use Rattle.reader_channels.specs.Steps.{fault_number}
+use Rattle.reader_channels.specs.Steps.{Step, fault_number}
 use Rattle.reader_channels.specs.declared.values.faults.Fault.{Fault}
-use Rattle.reader_channels.specs.declared.values.faults.Step.{Step}
-use Rattle.reader_channels.specs.declared.values.faults.Step.TheVariants as step
 
 -- the rows of the first n channels
 abbrev up_to : (l : Layout) (s : ℕ) (codes : List ℤ) (n : ℕ) → List (List ℤ)
@@ -55,7 +54,7 @@ module _ (l : Layout) (s : ℕ) (frame rs : List ℕ) (codes₀ : List ℤ) (at�
 
   module _ (codes : List ℤ) (at n : ℕ) (w : Upto l s frame rs codes₀ at₀ codes at n) where
     -- all channels
-    pub upto_all : (q : Place) → q.at ≡ at → l.channels ≤ n → Subframe l frame (read_subframe l rs (left_at frame at₀)) s codes₀ codes (step.At q)
+    pub upto_all : (q : Place) → q.at ≡ at → l.channels ≤ n → Subframe l frame (read_subframe l rs (left_at frame at₀)) s codes₀ codes (Ok q)
     upto_all q z h =
         let e : n ≡ l.channels = omega (arith, w.below) in
         record {
@@ -73,12 +72,11 @@ module _ (l : Layout) (s : ℕ) (frame rs : List ℕ) (codes₀ : List ℤ) (at�
       RowRead ys r = StoredCodes frame (each read_code (coded_resolutions l rs n) (left_at frame at)) (coded_count_at l n) ys r
 
       -- a row that is cut
-      pub upto_stop : {ys after : List ℤ} {r : Step} {f : Fault} → r ≡ step.Refused f → RowRead ys r
-          → Subframe l frame (read_subframe l rs (left_at frame at₀)) s codes₀ after r
+      pub upto_stop : {ys after : List ℤ} {r : Step} {f : Fault} → r ≡ Err f → RowRead ys r
+          → Subframe l frame (read_subframe l rs (left_at frame at₀)) s codes₀ after (Err f)
       upto_stop {ys} {after} {r} {f} z agrees =
           let t = subst (RowRead ys) z agrees in
-          subst (Subframe l frame (read_subframe l rs (left_at frame at₀)) s codes₀ after) (sym z)
-          (record {
+          record {
             done = record {
               is = w.is ∙ each_stop (each read_code) (coded_rows l rs) [] (up_to l s codes n) n (left_at frame at) (fault_number f) _
                   (omega (arith, length-coded l rs)) (rw (coded-at l rs n h) t.done.is);
@@ -86,12 +84,12 @@ module _ (l : Layout) (s : ℕ) (frame rs : List ℕ) (codes₀ : List ℤ) (at�
             };
             blank = tt;
             kept = tt;
-          })
+          }
 
       -- a row more
-      module _ (hs : s < 8) (size : length codes₀ ≡ spectrum_length l) (ys : List ℤ) (e : length ys ≡ 128) {q : Place} {r : Step} (z : r ≡ step.At q)
+      module _ (hs : s < 8) (size : length codes₀ ≡ spectrum_length l) (ys : List ℤ) (e : length ys ≡ 128) {q : Place} {r : Step} (z : r ≡ Ok q)
           (agrees : RowRead ys r) where
-        t : RowRead ys (step.At q)
+        t : RowRead ys (Ok q)
         t = subst (RowRead ys) z agrees
 
         fits : (n * 8 + s) * 128 + 128 ≤ length codes

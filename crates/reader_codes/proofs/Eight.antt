@@ -5,6 +5,7 @@ use Prim.Native.Nat.{ℕ, ◌+◌, ◌*◌, ◌≤◌, ◌<◌}
 use native.Mathlib.Omega.{arith}
 use lib.IntN.{ℤ, pos}
 use lib.ListN.{length, take, drop}
+use Rattle.std.specs.Prelude.{Ok, Err}
 use Rattle.bits.specs.Place.{left_at}
 use Rattle.bits.specs.declared.Place.{Place}
 use Rattle.buffers.specs.Walk.{build, blocks}
@@ -18,7 +19,6 @@ use Rattle.rules_formats.proofs.Turns.{onto, onto-none, each_turn, each_stop, ea
 use Rattle.reader_codes.specs.Rows.{Blank, read_subframe, read_subframes, row_of, subframe_in, Subframe, Subframes}
 use Rattle.reader_channels.specs.Steps.{fault_number}
 use Rattle.reader_channels.specs.declared.values.faults.Fault.{Fault}
-use Rattle.reader_channels.specs.declared.values.faults.Step.TheVariants as step
 
 times_long : length (times 8) ≡ 8
 times_long = refl
@@ -64,7 +64,7 @@ module _ (l : Layout) (frame rs : List ℕ) (codes₀ : List ℤ) (at₀ : ℕ) 
 
   module _ (codes : List ℤ) (at n : ℕ) (w : Eight l frame rs codes₀ at₀ codes at n) where
     pub eight_all : (q : Place) → q.at ≡ at → length codes₀ ≡ spectrum_length l → 8 ≤ n
-        → Subframes l frame (read_subframes l rs (left_at frame at₀)) codes (step.At q)
+        → Subframes l frame (read_subframes l rs (left_at frame at₀)) codes (Ok q)
     eight_all q z size h =
         let e : n ≡ 8 = omega (arith, w.below) in
         record {
@@ -77,8 +77,8 @@ module _ (l : Layout) (frame rs : List ℕ) (codes₀ : List ℤ) (at₀ : ℕ) 
         }
 
     module _ (h : n < 8) (after : List ℤ) where
-      pub eight_stop : (f : Fault) → Subframe l frame (read_subframe l rs (left_at frame at)) n codes after (step.Refused f)
-          → Subframes l frame (read_subframes l rs (left_at frame at₀)) after (step.Refused f)
+      pub eight_stop : (f : Fault) → Subframe l frame (read_subframe l rs (left_at frame at)) n codes after (Err f)
+          → Subframes l frame (read_subframes l rs (left_at frame at₀)) after (Err f)
       eight_stop f t = record {
         done = record {
           is = w.is ∙ each_stop (λ _. read_subframe l rs) (times 8) tt (build (subframe_in l codes) n) n (left_at frame at) (fault_number f) _
@@ -88,7 +88,7 @@ module _ (l : Layout) (frame rs : List ℕ) (codes₀ : List ℤ) (at₀ : ℕ) 
         blank = tt;
       }
 
-      module _ (same : length after ≡ length codes) (q : Place) (t : Subframe l frame (read_subframe l rs (left_at frame at)) n codes after (step.At q)) where
+      module _ (same : length after ≡ length codes) (q : Place) (t : Subframe l frame (read_subframe l rs (left_at frame at)) n codes after (Ok q)) where
         longer : build (subframe_in l after) (n + 1) ≡ build (subframe_in l codes) n ++ (subframe_in l after n ∷ [])
         longer =
             build_more (subframe_in l after) n

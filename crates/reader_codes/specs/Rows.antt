@@ -7,8 +7,7 @@ use Rattle.rules.specs.Record.{codes_in, pad}
 use Rattle.resolutions.specs.Coded.{coded_resolutions}
 use Rattle.rules.specs.Reading.{read_code}
 use Rattle.rules.specs.declared.Layout.{Layout}
-use Rattle.reader_channels.specs.Steps.{Done, if_done}
-use Rattle.reader_channels.specs.declared.values.faults.Step.{Step}
+use Rattle.reader_channels.specs.Steps.{Step, Done, if_done}
 
 -- a row of 128 codes that is zero past its coded count
 abbrev pub Blank : (coded : ℕ) (row : List ℤ) → Type 0

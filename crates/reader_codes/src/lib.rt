@@ -14,11 +14,10 @@ ghost use Rattle.rules.specs.Layout.{LegalLayout, spectrum_length, factor_length
 ghost use Rattle.rules.specs.Reading.{read_code};
 ghost use Rattle.reader_codes.specs.Rows.{read_subframe, read_subframes, StoredCodes, Subframe, Subframes};
 
-use crate::one_code::{Code, read_code};
+use crate::one_code::read_code;
 use bits::Place;
-use buffers::clear_i32;
 use layouts::coded_count;
-use reader_channels::values::faults::{Fault, Step};
+use reader_channels::values::faults::Fault;
 use rules::Layout;
 
 // One subframe of one channel: the codes of its coded bands, and zeros behind them.
@@ -28,7 +27,7 @@ fn read_band_codes(
     resolutions: &[u8],
     coded: usize,
     codes: &mut [i32],
-) -> Step
+) -> Result<Place, Fault>
     requires part_len_bound { (length part.now ≤ 65535) × (place.at ≤ 8 * length part.now) }
     requires coded_bound { (coded ≤ 128) × (length resolutions.now ≡ 128) × (length codes.old ≡ 128) × AtMost 15 resolutions.now }
     ensures { StoredCodes part.now
@@ -36,17 +35,13 @@ fn read_band_codes(
         coded codes.new result }
 {
     let mut at = place;
-    let mut band = 0;
-    while band < coded {
-        let Code::Of(code, next) = read_code(part, at, resolutions[band]) else {
-            return Step::Refused(Fault::PastEnd(at.at));
-        };
-        codes[band] = code;
+    for (band, slot) in codes[..coded].iter_mut().enumerate() {
+        let (code, next) = read_code(part, at, resolutions[band])?;
+        *slot = code;
         at = next;
-        band += 1;
     }
-    clear_i32(&mut codes[coded..]);
-    Step::At(at)
+    codes[coded..].fill(0);
+    Ok(at)
 }
 
 // One subframe of every channel, each into its row of the channel's codes.
@@ -57,7 +52,7 @@ fn read_subframe(
     place: Place,
     resolutions: &[u8],
     codes: &mut [i32],
-) -> Step
+) -> Result<Place, Fault>
     requires legal_layout { LegalLayout layout }
     requires subframe_bound { (subframe < 8) × (length part.now ≤ 65535) × (place.at ≤ 8 * length part.now) }
     requires resolutions_len { (length resolutions.now ≡ factor_length layout) × (length codes.old ≡ spectrum_length layout)
@@ -66,27 +61,20 @@ fn read_subframe(
         (read_subframe layout resolutions.now (left_at part.now place.at))
         subframe codes.old codes.new result }
 {
-    let channels = layout.channels;
     let mut at = place;
-    let mut c = 0;
-    while c < channels {
+    for c in 0..layout.channels {
         let coded = coded_count(layout, c);
         let from = c * 128;
         let to = (c * 8 + subframe) * 128;
-        let step = read_band_codes(
+        at = read_band_codes(
             part,
             at,
             &resolutions[from..from + 128],
             coded,
             &mut codes[to..to + 128],
-        );
-        let Step::At(next) = step else {
-            return step;
-        };
-        at = next;
-        c += 1;
+        )?;
     }
-    Step::At(at)
+    Ok(at)
 }
 
 // The codes of a frame: subframe by subframe, channel by channel.
@@ -96,7 +84,7 @@ pub fn read_all_codes(
     place: Place,
     resolutions: &[u8],
     codes: &mut [i32],
-) -> Step
+) -> Result<Place, Fault>
     requires legal_layout { LegalLayout layout }
     requires part_len_bound { (length part.now ≤ 65535) × (place.at ≤ 8 * length part.now) }
     requires resolutions_len { (length resolutions.now ≡ factor_length layout) × (length codes.old ≡ spectrum_length layout)
@@ -106,14 +94,8 @@ pub fn read_all_codes(
         codes.new result }
 {
     let mut at = place;
-    let mut subframe = 0;
-    while subframe < 8 {
-        let step = read_subframe(layout, subframe, part, at, resolutions, codes);
-        let Step::At(next) = step else {
-            return step;
-        };
-        at = next;
-        subframe += 1;
+    for subframe in 0..8 {
+        at = read_subframe(layout, subframe, part, at, resolutions, codes)?;
     }
-    Step::At(at)
+    Ok(at)
 }

@@ -1,9 +1,9 @@
 // A code from the numbers that its bits make: a prefix code by its first bits, a signed one by magnitude and sign.
 ghost use Rattle.std.specs.Prelude.{◌≡◌, ◌^◌, ◌≤◌, ◌<◌};
-ghost use Rattle.reader_codes.specs.Seen.{word_bits, code_seen, length_seen, place_seen, IsRow};
+ghost use Rattle.reader_codes.specs.Seen.{word_bits, code_seen, length_seen};
 ghost use Rattle.reader_codes.specs.Signs.{signed_of};
 
-use quantizer::tables::{magnitude_bits, row_entry};
+use quantizer::tables::magnitude_bits;
 
 // MAX_BIT_TABLE.
 pub fn word_bits(r: u8) -> u32
@@ -13,54 +13,42 @@ pub fn word_bits(r: u8) -> u32
     magnitude_bits(r) + 1
 }
 
-// The prefix codes below resolution 8, by the number that their first bits make. Sixteen entries stand in
-// a number, the first in its lowest four bits: an array would be copied to the stack at each read.
-fn length_row(r: u8) -> u64
-    requires { r < 8 }
-    ensures { IsRow (length_seen r) result }
-{
-    match r {
-        0 => 0,
-        1 => 0x2211_2211_2211_2211,
-        2 => 0x3322_2222_3322_2222,
-        3 => 0x3333_3322_3333_3322,
-        4 => 0x4433_3333_3333_3333,
-        5 => 0x4444_4433_3333_3333,
-        6 => 0x4444_4444_4433_3333,
-        _ => 0x4444_4444_4444_4433,
-    }
-}
+// The prefix codes below resolution 8, by the number that their first bits make: how many bits the code has that it begins with,
+static LENGTHS: [[u8; 16]; 8] = [
+    [0, 0, 0, 0, 0, 0, 0, 0, 0, 0, 0, 0, 0, 0, 0, 0],
+    [1, 1, 2, 2, 1, 1, 2, 2, 1, 1, 2, 2, 1, 1, 2, 2],
+    [2, 2, 2, 2, 2, 2, 3, 3, 2, 2, 2, 2, 2, 2, 3, 3],
+    [2, 2, 3, 3, 3, 3, 3, 3, 2, 2, 3, 3, 3, 3, 3, 3],
+    [3, 3, 3, 3, 3, 3, 3, 3, 3, 3, 3, 3, 3, 3, 4, 4],
+    [3, 3, 3, 3, 3, 3, 3, 3, 3, 3, 4, 4, 4, 4, 4, 4],
+    [3, 3, 3, 3, 3, 3, 4, 4, 4, 4, 4, 4, 4, 4, 4, 4],
+    [3, 3, 4, 4, 4, 4, 4, 4, 4, 4, 4, 4, 4, 4, 4, 4],
+];
 
-// Codes, each at 8 + code.
-fn code_row(r: u8) -> u64
-    requires { r < 8 }
-    ensures { IsRow (place_seen r) result }
-{
-    match r {
-        0 => 0x8888_8888_8888_8888,
-        1 => 0x7988_7988_7988_7988,
-        2 => 0x6A77_9988_6A77_9988,
-        3 => 0x5B6A_7988_5B6A_7988,
-        4 => 0x4C55_BB66_AA77_9988,
-        5 => 0x3D4C_5B66_AA77_9988,
-        6 => 0x2E3D_4C5B_6A77_9988,
-        _ => 0x1F2E_3D4C_5B6A_7988,
-    }
-}
+// and which code that is.
+static CODES: [[i8; 16]; 8] = [
+    [0, 0, 0, 0, 0, 0, 0, 0, 0, 0, 0, 0, 0, 0, 0, 0],
+    [0, 0, 1, -1, 0, 0, 1, -1, 0, 0, 1, -1, 0, 0, 1, -1],
+    [0, 0, 1, 1, -1, -1, 2, -2, 0, 0, 1, 1, -1, -1, 2, -2],
+    [0, 0, 1, -1, 2, -2, 3, -3, 0, 0, 1, -1, 2, -2, 3, -3],
+    [0, 0, 1, 1, -1, -1, 2, 2, -2, -2, 3, 3, -3, -3, 4, -4],
+    [0, 0, 1, 1, -1, -1, 2, 2, -2, -2, 3, -3, 4, -4, 5, -5],
+    [0, 0, 1, 1, -1, -1, 2, -2, 3, -3, 4, -4, 5, -5, 6, -6],
+    [0, 0, 1, -1, 2, -2, 3, -3, 4, -4, 5, -5, 6, -6, 7, -7],
+];
 
-// The code that a looked-at number begins with, and its bits.
 pub fn seen_length(r: u8, seen: u32) -> u32
     requires { (r < 8) × (seen < 16) }
     ensures { (result ≡ length_seen r seen) × (result ≤ 15) }
 {
-    row_entry(length_row(r), seen as usize)
+    LENGTHS[r as usize][seen as usize] as u32
 }
 
 pub fn seen_code(r: u8, seen: u32) -> i32
     requires { (r < 8) × (seen < 16) }
     ensures { result ≡ code_seen r seen }
 {
-    row_entry(code_row(r), seen as usize) as i32 - 8
+    CODES[r as usize][seen as usize] as i32
 }
 
 // A code from resolution 8 up.

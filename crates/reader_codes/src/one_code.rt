@@ -7,55 +7,45 @@ ghost use Rattle.rules.specs.Reading.{codes_to, read_code};
 ghost use Rattle.reader_codes.specs.CodeAgrees.{signed_code, CodeAgrees};
 
 use crate::lookup::{seen_code, seen_length, with_sign, word_bits};
-use bits::{Field, Place};
+use bits::{PastEnd, Place};
 use quantizer::tables::magnitude_bits;
 
-// A code and the place after it, or the first bit of a code that passes the part's end.
-#[derive(Clone, Copy)]
-pub enum Code {
-    Of(i32, Place),
-    Past(usize),
-}
-
 // A code below resolution 8: one look ahead finds it and how many bits it has, and then its field is taken.
-fn read_word(part: &[u8], place: Place, resolution: u8) -> Code
+#[tactic(auto, using(crate::proofs::Ahead::look_small, crate::proofs::CodeAnswers::word_cut))]
+fn read_word(part: &[u8], place: Place, resolution: u8) -> Result<(i32, Place), PastEnd>
     requires { (length part.now ≤ 65535) × (place.at ≤ 8 * length part.now) × (1 ≤ resolution) × (resolution < 8) }
     ensures { CodeAgrees part.now place.at
         (one_of (small_bits resolution) (codes_to resolution) (left_at part.now place.at)) result }
 {
     let seen = place.look(part, word_bits(resolution));
-    let Field::Of(_, next) = place.get(part, seen_length(resolution, seen)) else {
-        return Code::Past(place.at);
-    };
-    Code::Of(seen_code(resolution, seen), next)
+    let (_, next) = place.get(part, seen_length(resolution, seen))?;
+    Ok((seen_code(resolution, seen), next))
 }
 
-// A code from resolution 8 up, which is one field with its sign bit.
-fn read_signed(part: &[u8], place: Place, resolution: u8) -> Code
+// A code from resolution 8 up, which is one field with its sign bit: cut at its sign, it names its first bit.
+#[tactic(auto, using(crate::proofs::CodeAnswers::magnitude_cut, crate::proofs::CodeAnswers::sign_none, crate::proofs::CodeAnswers::sign_cut))]
+fn read_signed(part: &[u8], place: Place, resolution: u8) -> Result<(i32, Place), PastEnd>
     requires { (length part.now ≤ 65535) × (place.at ≤ 8 * length part.now) × (resolution ≤ 15) }
     ensures { CodeAgrees part.now place.at (signed_code resolution (left_at part.now place.at)) result }
 {
-    let Field::Of(magnitude, next) = place.get(part, magnitude_bits(resolution)) else {
-        return Code::Past(place.at);
-    };
+    let (magnitude, next) = place.get(part, magnitude_bits(resolution))?;
     if magnitude == 0 {
-        return Code::Of(0, next);
+        return Ok((0, next));
     }
-    let Field::Of(sign, end) = next.get(part, 1) else {
-        return Code::Past(place.at);
+    let Ok((sign, end)) = next.get(part, 1) else {
+        return Err(PastEnd { at: place.at });
     };
-    Code::Of(with_sign(magnitude, sign), end)
+    Ok((with_sign(magnitude, sign), end))
 }
 
-pub fn read_code(part: &[u8], place: Place, resolution: u8) -> Code
+#[tactic(auto, using(crate::proofs::CodeAnswers::code_none, crate::proofs::CodeAnswers::code_small, crate::proofs::CodeAnswers::code_large))]
+pub fn read_code(part: &[u8], place: Place, resolution: u8) -> Result<(i32, Place), PastEnd>
     requires { (length part.now ≤ 65535) × (place.at ≤ 8 * length part.now) × (resolution ≤ 15) }
     ensures { CodeAgrees part.now place.at (read_code resolution (left_at part.now place.at)) result }
 {
-    if resolution == 0 {
-        return Code::Of(0, place);
+    match resolution {
+        0 => Ok((0, place)),
+        1..=7 => read_word(part, place, resolution),
+        _ => read_signed(part, place, resolution),
     }
-    if resolution < 8 {
-        return read_word(part, place, resolution);
-    }
-    read_signed(part, place, resolution)
 }

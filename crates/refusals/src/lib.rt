@@ -12,14 +12,14 @@ pub mod list;
 // The WAV reader's.
 pub mod wav;
 
-ghost use Rattle.std.specs.Prelude.{◌≡◌, []};
-ghost use Rattle.rules.specs.Refusals.{delivered, refused, stage_outcome, writer_outcome, reader_outcome};
+ghost use Rattle.std.specs.Prelude.{◌≡◌, Err};
+ghost use Rattle.rules.specs.Refusals.{refused, stage_outcome, writer_outcome, reader_outcome};
 ghost use Rattle.refusals.specs.Refusals.{refusal_of};
 
-use rules::{ReadAnswer, StageAnswer, WriteAnswer};
+use rules::{ReadRefusal, StageRefusal, WriteRefusal};
 
-// A number of 0 stands for no refusal.
-#[derive(Clone, Copy)]
+// A refusal by its number, and the number beside it.
+#[derive(Clone, Copy, Debug, PartialEq, Eq)]
 pub struct Refusal {
     pub number: usize,
     pub beside: usize,
@@ -28,59 +28,50 @@ pub struct Refusal {
 pub fn refused(number: usize, beside: usize) -> Refusal
     ensures { result ≡ refusal_of (refused number beside) }
 {
-    Refusal {
-        number: number,
-        beside: beside,
+    Refusal { number, beside }
+}
+
+impl From<StageRefusal> for Refusal {
+    ghost from_gives = { λ refusal result. result ≡ refusal_of (stage_outcome (Err refusal)) };
+
+    fn from(refusal: StageRefusal) -> Refusal {
+        match refusal {
+            StageRefusal::BadLayout => refused(1, 0),
+            StageRefusal::ShortBuffer => refused(2, 0),
+            StageRefusal::BadIntensity(i) => refused(3, i),
+            StageRefusal::BadSpectrum(i) => refused(4, i),
+            StageRefusal::NoLevel(n) => refused(5, n),
+            StageRefusal::TooLong(n) => refused(7, n),
+        }
     }
 }
 
-pub fn not_refused() -> Refusal
-    ensures { result ≡ refusal_of (delivered []) }
-{
-    Refusal {
-        number: 0,
-        beside: 0,
+impl From<ReadRefusal> for Refusal {
+    ghost from_gives = { λ refusal result. result ≡ refusal_of (reader_outcome (Err refusal)) };
+
+    fn from(refusal: ReadRefusal) -> Refusal {
+        match refusal {
+            ReadRefusal::BadLayout => refused(1, 0),
+            ReadRefusal::ShortBuffer => refused(2, 0),
+            ReadRefusal::WrongCheck => refused(8, 0),
+            ReadRefusal::WrongSync => refused(9, 0),
+            ReadRefusal::BadWidth(n) => refused(11, n),
+            ReadRefusal::BadFactor(n) => refused(12, n),
+            ReadRefusal::PastEnd(n) => refused(13, n),
+            ReadRefusal::FillNotZero(n) => refused(14, n),
+        }
     }
 }
 
-pub fn stage_refusal(answer: StageAnswer) -> Refusal
-    ensures { result ≡ refusal_of (stage_outcome answer) }
-{
-    match answer {
-        StageAnswer::Delivered(_, _, _, _) => not_refused(),
-        StageAnswer::BadLayout => refused(1, 0),
-        StageAnswer::ShortBuffer => refused(2, 0),
-        StageAnswer::BadIntensity(i) => refused(3, i),
-        StageAnswer::BadSpectrum(i) => refused(4, i),
-        StageAnswer::NoLevel(n) => refused(5, n),
-        StageAnswer::TooLong(n) => refused(7, n),
-    }
-}
+impl From<WriteRefusal> for Refusal {
+    ghost from_gives = { λ refusal result. result ≡ refusal_of (writer_outcome (Err refusal)) };
 
-pub fn read_refusal(answer: ReadAnswer) -> Refusal
-    ensures { result ≡ refusal_of (reader_outcome answer) }
-{
-    match answer {
-        ReadAnswer::Delivered(_, _, _) => not_refused(),
-        ReadAnswer::BadLayout => refused(1, 0),
-        ReadAnswer::ShortBuffer => refused(2, 0),
-        ReadAnswer::WrongCheck => refused(8, 0),
-        ReadAnswer::WrongSync => refused(9, 0),
-        ReadAnswer::BadWidth(n) => refused(11, n),
-        ReadAnswer::BadFactor(n) => refused(12, n),
-        ReadAnswer::PastEnd(n) => refused(13, n),
-        ReadAnswer::FillNotZero(n) => refused(14, n),
-    }
-}
-
-pub fn write_refusal(answer: WriteAnswer) -> Refusal
-    ensures { result ≡ refusal_of (writer_outcome answer) }
-{
-    match answer {
-        WriteAnswer::Delivered(_, _, _) => not_refused(),
-        WriteAnswer::BadLayout => refused(1, 0),
-        WriteAnswer::ShortBuffer => refused(2, 0),
-        WriteAnswer::NotLegal => refused(15, 0),
-        WriteAnswer::TooLong(n) => refused(7, n),
+    fn from(refusal: WriteRefusal) -> Refusal {
+        match refusal {
+            WriteRefusal::BadLayout => refused(1, 0),
+            WriteRefusal::ShortBuffer => refused(2, 0),
+            WriteRefusal::NotLegal => refused(15, 0),
+            WriteRefusal::TooLong(n) => refused(7, n),
+        }
     }
 }

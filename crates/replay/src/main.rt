@@ -2,106 +2,95 @@
 #![tactic(auto)]
 
 use self::frames::stage_case;
+use self::kind::Kind;
 use self::records::{check_case, read_case, write_case};
 use replay_lines::replay_lines;
-use replay_vectors::data::bytes_at;
-use replay_vectors::lines::{
-    CaseOutcome, Tally, Verdict, add_to_tally, is_damaged, not_run, say_outcome, say_tally,
-};
+use replay_vectors::cursor::Cursor;
+use replay_vectors::outcome::{Outcome, Tally, Verdict};
 use std::fs::File;
-use std::os::fd::AsRawFd;
+use std::io;
+use std::io::Read;
 use std::rt::Files;
-use system::forms::say_form;
-use system::lines::say;
-use system::places::ahead;
-use system::words::{word, word_past};
 
 mod frames;
+mod kind;
+mod lent;
 mod records;
 
+// What is read of a file, in bytes.
+const LIMIT: u64 = 131_072;
+
 // Runs the call that a case's body says. A kind that there is not is damage.
-fn run_case(kind: usize, body: &[u8]) -> CaseOutcome {
-    match kind {
-        1 => stage_case(body),
-        2 => read_case(body),
-        3 => write_case(body),
-        4 => check_case(body),
-        _ => not_run(Verdict::Damaged),
+fn run_case(kind: u32, body: Cursor<'_>) -> Outcome {
+    match Kind::try_from(kind) {
+        Ok(Kind::Stage) => stage_case(body),
+        Ok(Kind::Read) => read_case(body),
+        Ok(Kind::Write) => write_case(body),
+        Ok(Kind::Check) => check_case(body),
+        Err(_) => Outcome::not_run(Verdict::Damaged),
     }
 }
 
-// Runs the case at a place, and says its line.
-fn replay_case(data: &[u8], at: usize, number: usize) -> Verdict {
-    let kind = word(data, at);
-    let body = bytes_at(data, ahead(at, 4));
-    let a = body.start;
-    let e = body.end;
-    let outcome = run_case(kind, &data[a..e]);
-    say_outcome(number, kind, outcome);
-    outcome.verdict
+// Runs the case that stands next, and says its line.
+fn replay_case(rt: &impl Print, data: &mut Cursor<'_>, number: u32) -> io::Result<Verdict> {
+    let kind = data.word();
+    let outcome = run_case(kind, Cursor::new(data.counted_bytes()));
+    println!(rt; "case {number} kind {kind} {outcome}")?;
+    Ok(outcome.verdict)
 }
 
-// The place past the case at a place.
-fn past_case(data: &[u8], at: usize) -> usize {
-    ahead(ahead(at, 8), word_past(data, at, 4))
-}
-
-// Every case from the head on; the first damaged one ends it.
-fn replay_cases(data: &[u8], tally: Tally) -> Tally {
-    let count = word(data, 8);
-    let mut sums = tally;
-    let mut at = 12;
-    let mut i = 0;
-    while i < count {
-        let came = replay_case(data, at, i);
-        sums = add_to_tally(sums, came);
-        if is_damaged(came) {
-            return sums;
+// Every case behind the head; the first damaged one ends it.
+fn replay_cases(rt: &impl Print, data: &mut Cursor<'_>, tally: &mut Tally) -> io::Result<()> {
+    for number in 0..data.word() {
+        let verdict = replay_case(rt, data, number)?;
+        tally.add(verdict);
+        if verdict == Verdict::Damaged {
+            break;
         }
-        at = past_case(data, at);
-        i += 1;
     }
-    sums
+    Ok(())
 }
 
 // The head: mark, version and number of cases.
-fn replay_data(path: &str, data: &[u8], tally: Tally) -> Tally {
-    if word(data, 0) != 0x5641_4348 {
-        say(1, path.as_bytes());
-        say(1, b" damaged: no file of vectors\n");
-        return add_to_tally(tally, Verdict::Damaged);
+fn replay_data(rt: &impl Print, path: &str, data: &[u8], tally: &mut Tally) -> io::Result<()> {
+    let mut data = Cursor::new(data);
+    if data.word() != u32::from_le_bytes(*b"HCAV") {
+        tally.add(Verdict::Damaged);
+        return println!(rt; "{path} damaged: no file of vectors");
     }
-    let version = word(data, 4);
+    let version = data.word();
     if version != 1 {
-        say(1, path.as_bytes());
-        say_form(1, b" damaged: its version is not 1 but #\n", &[version]);
-        return add_to_tally(tally, Verdict::Damaged);
+        tally.add(Verdict::Damaged);
+        return println!(rt; "{path} damaged: its version is not 1 but {version}");
     }
-    replay_cases(data, tally)
+    replay_cases(rt, &mut data, tally)
 }
 
-// The file is closed before its cases are run.
-fn replay_open(path: &str, file: File, tally: Tally) -> Tally {
-    let mut data = [0u8; 131072];
-    let n = io::read_full(file.as_raw_fd(), &mut data);
-    drop(file);
-    replay_data(path, &data[..n], tally)
-}
-
-fn replay_file<R: Files<File = File> + Eprint>(rt: &R, path: &str, tally: Tally) -> Tally {
+// Where it cannot be read on, what was read of it is run. It is closed before that.
+fn replay_file<R: Files<File = File> + AllocGlobal + Print + Eprint>(
+    rt: &R,
+    path: &str,
+    tally: &mut Tally,
+) -> io::Result<()> {
     match File::open(rt, path) {
-        Ok(file) => replay_open(path, file, tally),
+        Ok(file) => {
+            let mut data = Vec::new(rt.alloc());
+            let _ = file.take(LIMIT).read_to_end(&mut data);
+            replay_data(rt, path, &data, tally)
+        }
         Err(error) => {
             let _ = eprintln!(rt; "{path}: {error}");
-            add_to_tally(tally, Verdict::Damaged)
+            tally.add(Verdict::Damaged);
+            Ok(())
         }
     }
 }
 
+// Where it cannot print it goes on, and it ends as ever.
 fn main(rt: HostRuntime) {
-    let none = Tally { counts: [0; 4] };
-    replay_lines();
-    let first = replay_file(&rt, "stage.vec", none);
-    let both = replay_file(&rt, "records.vec", first);
-    say_tally(both);
+    let mut tally = Tally::default();
+    let _ = replay_lines(&rt);
+    let _ = replay_file(&rt, "stage.vec", &mut tally);
+    let _ = replay_file(&rt, "records.vec", &mut tally);
+    let _ = println!(rt; "{tally}");
 }

@@ -1,9 +1,8 @@
-// What the program `replay` is made of: reading the fixed vectors, the sums of what a call leaves, and the lines that say what a case came to.
+// What the program `replay` is made of: reading the fixed vectors, the sums of what a call leaves, and what a case came to.
 // These functions promise that they are safe and end; that they read and sum rightly is what the program's run shows.
 #![tactic(auto)]
 
-pub mod bodies;
-pub mod data;
-pub mod lines;
-pub mod runs;
+pub mod cursor;
+pub mod outcome;
 pub mod sums;
+pub mod word;

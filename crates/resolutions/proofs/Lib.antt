@@ -1,5 +1,4 @@
 -- noise_curve
-pub mod CurveEntries
 pub mod Stretches
 -- the whole
 pub mod Bands

@@ -6,12 +6,12 @@ use Prim.Native.Nat.{ℕ, ◌+◌, ◌-◌, ◌*◌, ◌/◌, ◌≤◌, ◌<◌
 use native.Mathlib.Omega.{arith}
 use borrow.Author.Tests.{eqb-true, eqb-false, ltb-true, ltb-false, leb-true}
 use lib.Dec.{eqb, ltb, leb}
-use lib.ListN.{length, get_or, take, drop, replicate, get_or-append}
-use lib.Seq.{get_or-take, get_or-drop, get_or-append-add}
+use lib.ListN.{length, get_or, take, drop, replicate, get_or-append, length-append, length-replicate}
+use lib.Seq.{get_or-take, get_or-drop, get_or-append-add, length-take-le}
 use Rattle.buffers.specs.Walk.{every, build}
 use Rattle.buffers.proofs.Every.{every-at}
 use Rattle.buffers.proofs.Tests.{all_le, get_d_le, and_fst, and_snd, cond_bound}
-use Rattle.buffers.proofs.Build.{Filled, length-build, build-at, back-width}
+use Rattle.buffers.proofs.Build.{Filled, filled-all, length-build, build-at, back-width}
 use Rattle.rules.specs.Tables.{resolution_curve}
 use Rattle.rules.specs.Resolution.{held_position, resolution_in, resolution}
 use Rattle.resolutions.specs.Stretched.{stretched_curve, place_of, IsPlain, IsStretched, Placed}
@@ -78,25 +78,37 @@ plain-is l t p a b = record {
   limit = omega arith;
 }
 
--- the table is filled up to entry 416 and blank from there on
-pub table_is : (l : Layout) (plain t : List ℕ) (n : ℕ) → IsPlain plain → n ≡ 416 → l.maximum ≤ 15
-    → Filled (λ k. min (max (get_or plain k 0) l.minimum) l.maximum) (replicate 688 0) n t → IsStretched l t
-unfolding all_le
-table_is l plain t n p e m f =
-    let g : ℕ → ℕ = λ k. min (max (get_or plain k 0) l.minimum) l.maximum in
-    let blank : List ℕ = replicate 688 0 in
-    let z : t ≡ build g 416 ++ drop 416 blank = f.1 ∙ rw e in
+-- its first 416 entries, which are held, and what is not held yet is as it was
+pub held_part : (t : List ℕ) → IsPlain t → length (take 416 t) ≡ 416
+held_part t p =
+    let long : length t ≡ 688 = ap length p.table ∙ length-append stretched_curve (replicate 272 0) ∙ omega (arith, curve_long, length-replicate {A = ℕ} 272 0) in
+    length-take-le 416 t (omega arith)
+
+pub as_it_was : (f : ℕ → ℕ) (d : List ℕ) (n : ℕ) (xs : List ℕ) → Filled f d n xs → get_or xs n 0 ≡ get_or d n 0
+as_it_was f d n xs w =
+    let at : n ≡ length (build f n) + 0 = omega (arith, length-build f n) in
+    let same : n + 0 ≡ n = omega arith in
+    ap (λ (x : List ℕ). get_or x n 0) w.1
+    ∙ ap (λ (k : ℕ). get_or (build f n ++ drop n d) k 0) at
+    ∙ get_or-append-add (build f n) (drop n d) 0 0
+    ∙ get_or-drop n d 0 0
+    ∙ ap (λ (k : ℕ). get_or d k 0) same
+
+-- held up to entry 416, and as it was from there on
+pub table_is : (l : Layout) (plain xs : List ℕ) (n : ℕ) → IsPlain plain → n ≡ 416 → l.maximum ≤ 15
+    → Filled (λ k. min (max (get_or (take 416 plain) k 0) l.minimum) l.maximum) (take 416 plain) n xs → IsStretched l (xs ++ drop 416 plain)
+table_is l plain xs n p e m f =
+    let g : ℕ → ℕ = λ k. min (max (get_or (take 416 plain) k 0) l.minimum) l.maximum in
+    let z : xs ≡ build g 416 = filled-all g (take 416 plain) n 416 xs (held_part plain p) (omega arith) (omega arith) f in
     let long : length (build g 416) ≡ 416 = length-build g 416 in
     record {
       entries = λ i h.
-          rw z (get_or-append (build g 416) (drop 416 blank) 0 i (omega arith) ∙ build-at g 416 i 0 h)
-          ∙ ap (λ (n : ℕ). min (max n l.minimum) l.maximum) (plain_entry plain p i h);
+          rw z (get_or-append (build g 416) (drop 416 plain) 0 i (omega arith) ∙ build-at g 416 i 0 h)
+          ∙ ap (λ (n : ℕ). min (max n l.minimum) l.maximum) (get_or-take 416 plain i 0 h ∙ plain_entry plain p i h);
       zeros = λ i h.
           let j : ℕ = i - 416 in
           let q : i ≡ length (build g 416) + j = omega arith in
-          let none : get_or blank (416 + j) 0 ≤ 0 = get_d_le 0 blank refl (416 + j) in
-          let past : get_or (drop 416 blank) j 0 ≡ 0 = get_or-drop 416 blank j 0 ∙ omega arith in
-          rw (z, q) (get_or-append-add (build g 416) (drop 416 blank) j 0 ∙ past);
+          rw (z, q) (get_or-append-add (build g 416) (drop 416 plain) j 0 ∙ get_or-drop 416 plain j 0 ∙ plain-zero plain p (416 + j) (omega arith));
       limit = m;
     }
 

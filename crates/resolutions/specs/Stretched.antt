@@ -1,6 +1,6 @@
 -- SCALE_TO_RESOLUTION_CURVE, stretched: with its first entry before it and its last after it, so that no position is held. A call's is within its
 -- layout's pair, with a removed band's zeros behind. Definitions only.
-use Rattle.std.specs.Prelude.{◌≡◌, cond, List, ◌++◌, ℕ, ◌+◌, ◌-◌, ◌*◌, ◌/◌, ◌≤◌, ◌<◌, min, max, eqb, get_or, replicate}
+use Rattle.std.specs.Prelude.{◌≡◌, cond, List, ◌++◌, ℕ, ◌-◌, ◌*◌, ◌/◌, ◌≤◌, ◌<◌, min, max, eqb, get_or, replicate}
 use Rattle.rules.specs.Tables.{resolution_curve}
 use Rattle.rules.specs.declared.Layout.{Layout}
 

@@ -4,13 +4,12 @@
 // The noise of a band, and the curve that a resolution is read from.
 pub mod noise_curve;
 
-ghost use Rattle.std.specs.Prelude.{◌≡◌, cond, ◌*◌, ◌≤◌, min, max, ltb, length};
+ghost use Rattle.std.specs.Prelude.{◌≡◌, cond, ◌*◌, ◌≤◌, ltb, length};
 ghost use Rattle.rules.specs.Layout.{LegalLayout};
 ghost use Rattle.rules.specs.Resolution.{noise_at, held_position, resolution_in, resolution, channel_resolutions, all_resolutions};
 
 use crate::noise_curve::{curve, noise_at};
 use layouts::coded_count;
-use quantizer::held;
 use rules::Layout;
 
 // Room for the resolutions of sixteen channels, of which a caller lends the layout's.
@@ -21,21 +20,8 @@ fn held_position(noise: usize, factor: u8) -> usize
     requires { noise ≤ 511 }
     ensures { (result ≡ held_position noise factor) × (result ≤ 58) }
 {
-    let down = 5 * (factor as usize) / 2;
-    let position = noise as i64 - down as i64 + 2;
-    held(position, 0, 58) as usize
-}
-
-pub(crate) fn larger(a: u8, b: u8) -> u8
-    ensures { result ≡ max a b }
-{
-    if a < b { b } else { a }
-}
-
-pub(crate) fn smaller(a: u8, b: u8) -> u8
-    ensures { result ≡ min a b }
-{
-    if b < a { b } else { a }
+    let down = 5 * factor as usize / 2;
+    (noise as i64 - down as i64 + 2).clamp(0, 58) as usize
 }
 
 fn resolution_in(lowest: u8, highest: u8, noise: usize, factor: u8) -> u8
@@ -43,10 +29,10 @@ fn resolution_in(lowest: u8, highest: u8, noise: usize, factor: u8) -> u8
     ensures { (result ≡ resolution_in lowest highest noise factor) × (result ≤ highest) }
 {
     if factor == 0 {
-        return 0;
+        0
+    } else {
+        curve(held_position(noise, factor)).max(lowest).min(highest)
     }
-    let at = held_position(noise, factor);
-    smaller(larger(curve(at), lowest), highest)
 }
 
 // Within the layout's pair.
@@ -71,9 +57,10 @@ fn band_resolution(
     ensures { (result ≡ cond (ltb band coded) (resolution layout (noise_at level boundary band) factor) 0) × (result ≤ 15) }
 {
     if band < coded {
-        return calculate_resolution(layout, factor, noise_at(level, boundary, band));
+        calculate_resolution(layout, factor, noise_at(level, boundary, band))
+    } else {
+        0
     }
-    0
 }
 
 fn channel_resolutions(
@@ -88,10 +75,8 @@ fn channel_resolutions(
     requires factors_len { (length factors.now ≡ 128) × (length resolutions.old ≡ 128) }
     ensures { resolutions.new ≡ channel_resolutions layout level boundary factors.now coded }
 {
-    let mut b = 0;
-    while b < 128 {
-        resolutions[b] = band_resolution(layout, level, boundary, factors[b], coded, b);
-        b += 1;
+    for (b, resolution) in resolutions.iter_mut().enumerate() {
+        *resolution = band_resolution(layout, level, boundary, factors[b], coded, b);
     }
 }
 
@@ -107,19 +92,15 @@ pub fn calculate_frame_resolutions(
     requires factors_len { (length factors.now ≡ layout.channels * 128) × (length resolutions.old ≡ layout.channels * 128) }
     ensures { resolutions.new ≡ all_resolutions layout level boundary factors.now }
 {
-    let channels = layout.channels;
-    let mut c = 0;
-    while c < channels {
+    for c in 0..layout.channels {
         let at = c * 128;
-        let coded = coded_count(layout, c);
         channel_resolutions(
             layout,
             level,
             boundary,
             &factors[at..at + 128],
-            coded,
+            coded_count(layout, c),
             &mut resolutions[at..at + 128],
         );
-        c += 1;
     }
 }

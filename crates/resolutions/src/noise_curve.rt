@@ -1,14 +1,11 @@
 // Document 01, **Resolution**: the noise of a band, and the curve that a resolution is read from.
-ghost use Rattle.std.specs.Prelude.{◌≡◌, ◌*◌, ◌≤◌, length, get_or, take, drop};
+ghost use Rattle.std.specs.Prelude.{◌≡◌, ◌*◌, ◌≤◌, length, get_or};
 ghost use Rattle.buffers.specs.Walk.{AtMost};
 ghost use Rattle.rules.specs.Layout.{LegalLayout};
 ghost use Rattle.rules.specs.Tables.{resolution_curve};
 ghost use Rattle.rules.specs.Resolution.{noise_at, resolution};
-ghost use Rattle.quantizer.specs.SixteenInOne.{sixteen_in_one};
 ghost use Rattle.resolutions.specs.Stretched.{IsPlain, IsStretched, place_of, Placed};
 
-use crate::{larger, smaller};
-use quantizer::tables::row_entry;
 use rules::Layout;
 
 mod stretched;
@@ -17,32 +14,24 @@ pub fn noise_at(level: usize, boundary: usize, band: usize) -> usize
     ensures { (result ≡ noise_at level boundary band) × (result ≤ level) }
 {
     if band < boundary {
-        if level == 0 {
-            return 0;
-        }
-        return level - 1;
+        level.saturating_sub(1)
+    } else {
+        level
     }
-    level
 }
 
-// SCALE_TO_RESOLUTION_CURVE, sixteen entries in a number as in the quantizer's tables.
-fn curve_row(i: usize) -> u64
-    requires { i ≤ 3 }
-    ensures { result ≡ sixteen_in_one (take 16 (drop (16 * i) resolution_curve)) }
-{
-    match i {
-        0 => 0xCCCD_DDDD_DEEE_EEEF,
-        1 => 0xAAAA_AAAB_BBBB_BCCC,
-        2 => 0x5667_8888_8899_9999,
-        _ => 0x0000_0122_2233_3444,
-    }
-}
+// SCALE_TO_RESOLUTION_CURVE.
+static CURVE: [u8; 59] = [
+    15, 14, 14, 14, 14, 14, 14, 13, 13, 13, 13, 13, 13, 12, 12, 12, 12, 12, 12, 11, 11, 11, 11, 11,
+    11, 10, 10, 10, 10, 10, 10, 10, 9, 9, 9, 9, 9, 9, 8, 8, 8, 8, 8, 8, 7, 6, 6, 5, 4, 4, 4, 3, 3,
+    3, 2, 2, 2, 2, 1,
+];
 
 pub fn curve(at: usize) -> u8
     requires { at ≤ 58 }
     ensures { (result ≡ get_or resolution_curve at 0) × (result ≤ 15) }
 {
-    row_entry(curve_row(at / 16), at % 16) as u8
+    CURVE[at]
 }
 
 // The curve, stretched, with its rule.
@@ -59,12 +48,9 @@ fn held_curve(layout: Layout) -> [u8; 688]
 {
     let lowest = layout.minimum as u8;
     let highest = layout.maximum as u8;
-    let plain = plain_curve();
-    let mut table = [0u8; 688];
-    let mut i = 0;
-    while i < 416 {
-        table[i] = smaller(larger(plain[i], lowest), highest);
-        i += 1;
+    let mut table = plain_curve();
+    for entry in &mut table[..416] {
+        *entry = (*entry).max(lowest).min(highest);
     }
     table
 }
@@ -74,12 +60,11 @@ pub fn curve_table(layout: Layout) -> [u8; 688]
     requires { LegalLayout layout }
     ensures { IsStretched layout result }
 {
-    if layout.minimum == 1 {
-        if layout.maximum == 15 {
-            return plain_curve();
-        }
+    if layout.minimum == 1 && layout.maximum == 15 {
+        plain_curve()
+    } else {
+        held_curve(layout)
     }
-    held_curve(layout)
 }
 
 // Where a factor stands on it at noise 0.
@@ -87,8 +72,11 @@ pub fn place_of(factor: u8) -> u16
     requires { factor ≤ 63 }
     ensures { (result ≡ place_of factor) × (result ≤ 417) }
 {
-    let down = 5 * (factor as u16) / 2;
-    if factor == 0 { 417 } else { 159 - down }
+    if factor == 0 {
+        417
+    } else {
+        159 - 5 * factor as u16 / 2
+    }
 }
 
 // The places of all factors.
@@ -96,11 +84,8 @@ pub fn fill_places(factors: &[u8], places: &mut [u16])
     requires { AtMost 63 factors.now × (length places.old ≡ length factors.now) }
     ensures { Placed (length factors.now) factors.now places.new }
 {
-    let n = factors.len();
-    let mut i = 0;
-    while i < n {
-        places[i] = place_of(factors[i]);
-        i += 1;
+    for (b, place) in places.iter_mut().enumerate() {
+        *place = place_of(factors[b]);
     }
 }
 

@@ -7,12 +7,15 @@ use mir.Val.{has_key}
 use lib.Dec.{T}
 use types.Run.{OneOf, hit}
 use Rattle.rules.specs.Refusals.{Outcome, delivered, refused, stage_outcome, writer_outcome, reader_outcome}
-use Rattle.rules.specs.declared.StageAnswer.{StageAnswer}
-use Rattle.rules.specs.declared.StageAnswer.TheVariants as stage
-use Rattle.rules.specs.declared.WriteAnswer.{WriteAnswer}
-use Rattle.rules.specs.declared.WriteAnswer.TheVariants as write
-use Rattle.rules.specs.declared.ReadAnswer.{ReadAnswer}
-use Rattle.rules.specs.declared.ReadAnswer.TheVariants as read
+use Rattle.std.specs.Prelude.{Result, Ok, Err}
+use Rattle.rules.specs.declared.Delivery.{Delivery}
+use Rattle.rules.specs.declared.StageRefusal.{StageRefusal}
+use Rattle.rules.specs.declared.StageRefusal.TheVariants as stage
+use Rattle.rules.specs.declared.RecordDelivery.{RecordDelivery}
+use Rattle.rules.specs.declared.WriteRefusal.{WriteRefusal}
+use Rattle.rules.specs.declared.WriteRefusal.TheVariants as write
+use Rattle.rules.specs.declared.ReadRefusal.{ReadRefusal}
+use Rattle.rules.specs.declared.ReadRefusal.TheVariants as read
 
 -- where it refuses, the number is one of these
 abbrev pub Numbered : (numbers : List ℕ) (o : Outcome) → Type 0
@@ -37,32 +40,32 @@ writer_numbers = 1 ∷ 2 ∷ 7 ∷ 15 ∷ []
 abbrev pub reader_numbers : List ℕ
 reader_numbers = 1 ∷ 2 ∷ 8 ∷ 9 ∷ 11 ∷ 12 ∷ 13 ∷ 14 ∷ []
 
-pub stage_answers : (a : StageAnswer) → Numbered stage_numbers (stage_outcome a)
+pub stage_answers : (a : Result Delivery StageRefusal) → Numbered stage_numbers (stage_outcome a)
 unfolding stage_outcome
-stage_answers (stage.Delivered level boundary pairs bits) = unnumbered stage_numbers _
-stage_answers stage.BadLayout = numbered stage_numbers 1 0 tt
-stage_answers stage.ShortBuffer = numbered stage_numbers 2 0 tt
-stage_answers (stage.BadIntensity i) = numbered stage_numbers 3 i tt
-stage_answers (stage.BadSpectrum i) = numbered stage_numbers 4 i tt
-stage_answers (stage.NoLevel pairs) = numbered stage_numbers 5 pairs tt
-stage_answers (stage.TooLong bits) = numbered stage_numbers 7 bits tt
+stage_answers (Ok d) = unnumbered stage_numbers _
+stage_answers (Err stage.BadLayout) = numbered stage_numbers 1 0 tt
+stage_answers (Err stage.ShortBuffer) = numbered stage_numbers 2 0 tt
+stage_answers (Err (stage.BadIntensity i)) = numbered stage_numbers 3 i tt
+stage_answers (Err (stage.BadSpectrum i)) = numbered stage_numbers 4 i tt
+stage_answers (Err (stage.NoLevel pairs)) = numbered stage_numbers 5 pairs tt
+stage_answers (Err (stage.TooLong bits)) = numbered stage_numbers 7 bits tt
 
-pub write_answers : (a : WriteAnswer) → Numbered writer_numbers (writer_outcome a)
+pub write_answers : (a : Result RecordDelivery WriteRefusal) → Numbered writer_numbers (writer_outcome a)
 unfolding writer_outcome
-write_answers (write.Delivered level boundary bits) = unnumbered writer_numbers _
-write_answers write.BadLayout = numbered writer_numbers 1 0 tt
-write_answers write.ShortBuffer = numbered writer_numbers 2 0 tt
-write_answers write.NotLegal = numbered writer_numbers 15 0 tt
-write_answers (write.TooLong bits) = numbered writer_numbers 7 bits tt
+write_answers (Ok d) = unnumbered writer_numbers _
+write_answers (Err write.BadLayout) = numbered writer_numbers 1 0 tt
+write_answers (Err write.ShortBuffer) = numbered writer_numbers 2 0 tt
+write_answers (Err write.NotLegal) = numbered writer_numbers 15 0 tt
+write_answers (Err (write.TooLong bits)) = numbered writer_numbers 7 bits tt
 
-pub read_answers : (a : ReadAnswer) → Numbered reader_numbers (reader_outcome a)
+pub read_answers : (a : Result RecordDelivery ReadRefusal) → Numbered reader_numbers (reader_outcome a)
 unfolding reader_outcome
-read_answers (read.Delivered level boundary bits) = unnumbered reader_numbers _
-read_answers read.BadLayout = numbered reader_numbers 1 0 tt
-read_answers read.ShortBuffer = numbered reader_numbers 2 0 tt
-read_answers read.WrongCheck = numbered reader_numbers 8 0 tt
-read_answers read.WrongSync = numbered reader_numbers 9 0 tt
-read_answers (read.BadWidth bit) = numbered reader_numbers 11 bit tt
-read_answers (read.BadFactor bit) = numbered reader_numbers 12 bit tt
-read_answers (read.PastEnd bit) = numbered reader_numbers 13 bit tt
-read_answers (read.FillNotZero bit) = numbered reader_numbers 14 bit tt
+read_answers (Ok d) = unnumbered reader_numbers _
+read_answers (Err read.BadLayout) = numbered reader_numbers 1 0 tt
+read_answers (Err read.ShortBuffer) = numbered reader_numbers 2 0 tt
+read_answers (Err read.WrongCheck) = numbered reader_numbers 8 0 tt
+read_answers (Err read.WrongSync) = numbered reader_numbers 9 0 tt
+read_answers (Err (read.BadWidth bit)) = numbered reader_numbers 11 bit tt
+read_answers (Err (read.BadFactor bit)) = numbered reader_numbers 12 bit tt
+read_answers (Err (read.PastEnd bit)) = numbered reader_numbers 13 bit tt
+read_answers (Err (read.FillNotZero bit)) = numbered reader_numbers 14 bit tt

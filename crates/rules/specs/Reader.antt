@@ -1,12 +1,13 @@
 -- The strict reader: what it answers and leaves in every lent buffer, for every call, refused ones too.
-use Rattle.std.specs.Prelude.{List, [], ◌∷◌, Bool, cond, not, ℕ, ℤ, length, take}
+use Rattle.std.specs.Prelude.{List, [], ◌∷◌, Bool, cond, not, ℕ, ℤ, length, take, Result}
 use Rattle.rules.specs.Layout.{legal_layout, frame_size, room_of, has_room}
 use Rattle.rules.specs.Record.{store_factors, store_side, store_codes}
 use Rattle.rules.specs.Reading.{Scanned, accepted, faulty, strict}
 use Rattle.rules.specs.Refusals.{Outcome, delivered, refused, reader_outcome}
 use Rattle.rules.specs.Lent.{overwrite, no_codes, no_factors, no_side}
 use Rattle.rules.specs.declared.Layout.{Layout}
-use Rattle.rules.specs.declared.ReadAnswer.{ReadAnswer}
+use Rattle.rules.specs.declared.RecordDelivery.{RecordDelivery}
+use Rattle.rules.specs.declared.ReadRefusal.{ReadRefusal}
 
 pub record ReaderLent : Type 0 where
   pub frame : List ℕ
@@ -23,7 +24,7 @@ pub record ReaderLeft : Type 0 where
 abbrev pub reader_lent : (frame factors side : List ℕ) (codes : List ℤ) → ReaderLent
 reader_lent frame factors side codes = record { frame = frame; factors = factors; side = side; codes = codes }
 
-abbrev pub reader_left : (answer : ReadAnswer) (factors side : List ℕ) (codes : List ℤ) → ReaderLeft
+abbrev pub reader_left : (answer : Result RecordDelivery ReadRefusal) (factors side : List ℕ) (codes : List ℤ) → ReaderLeft
 reader_left answer factors side codes = record { outcome = reader_outcome answer; factors = factors; side = side; codes = codes }
 
 abbrev pub reader_has_room : (l : Layout) (t : ReaderLent) → Bool

@@ -1,6 +1,6 @@
 -- The stage: what it answers and leaves in every lent buffer, for every call, refused ones too. One definition, so that the contract
 -- `stage_left r .. ≡ encode_frame layout (stage_lent ..)` allows one outcome only.
-use Rattle.std.specs.Prelude.{List, [], ◌∷◌, Bool, cond, not, ◌&&◌, ℕ, ◌/◌, leb, ltb, ℤ, Float, length, get_or, take}
+use Rattle.std.specs.Prelude.{List, [], ◌∷◌, Bool, cond, not, ◌&&◌, ℕ, ◌/◌, leb, ltb, ℤ, Float, length, get_or, take, Result}
 use Rattle.std.proofs.Math.Option.{Option, none, some}
 use Rattle.std.specs.Float.{nan}
 use Rattle.std.specs.Float.Ieee.Scale.{finite}
@@ -22,7 +22,8 @@ use Rattle.rules.specs.Lent.{overwrite, no_floats, no_codes, no_factors, no_side
 use Rattle.rules.specs.declared.Layout.{Layout}
 use Rattle.rules.specs.declared.Room.{Room}
 use Rattle.rules.specs.declared.StageRoom.{StageRoom}
-use Rattle.rules.specs.declared.StageAnswer.{StageAnswer}
+use Rattle.rules.specs.declared.Delivery.{Delivery}
+use Rattle.rules.specs.declared.StageRefusal.{StageRefusal}
 
 -- WHAT IS LENT AND LEFT
 
@@ -56,7 +57,7 @@ stage_lent spectra intensities scaled codes factors side frame = record {
   frame = frame;
 }
 
-abbrev pub stage_left : (answer : StageAnswer) (scaled : List Float) (codes : List ℤ) (factors side frame : List ℕ) → StageLeft
+abbrev pub stage_left : (answer : Result Delivery StageRefusal) (scaled : List Float) (codes : List ℤ) (factors side frame : List ℕ) → StageLeft
 stage_left answer scaled codes factors side frame = record {
   outcome = stage_outcome answer;
   scaled = scaled;

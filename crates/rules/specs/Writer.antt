@@ -1,5 +1,5 @@
 -- The record writer: what it answers and leaves in the lent frame, for every call, refused ones too.
-use Rattle.std.specs.Prelude.{List, [], ◌∷◌, Bool, cond, not, ℕ, ltb, ℤ, length}
+use Rattle.std.specs.Prelude.{List, [], ◌∷◌, Bool, cond, not, ℕ, ltb, ℤ, length, Result}
 use Rattle.rules.specs.Layout.{legal_layout, room_of, has_room}
 use Rattle.rules.specs.Record.{Rec, rec_of, legal_record}
 use Rattle.rules.specs.Fields.{fields}
@@ -7,7 +7,8 @@ use Rattle.rules.specs.Frame.{field_end, frame_of}
 use Rattle.rules.specs.Refusals.{Outcome, delivered, refused, writer_outcome}
 use Rattle.rules.specs.Lent.{overwrite, no_frame}
 use Rattle.rules.specs.declared.Layout.{Layout}
-use Rattle.rules.specs.declared.WriteAnswer.{WriteAnswer}
+use Rattle.rules.specs.declared.RecordDelivery.{RecordDelivery}
+use Rattle.rules.specs.declared.WriteRefusal.{WriteRefusal}
 
 -- a record as it is lent, and the frame's buffer
 pub record WriterLent : Type 0 where
@@ -32,7 +33,7 @@ writer_lent level boundary factors side codes frame = record {
   frame = frame;
 }
 
-abbrev pub writer_left : (answer : WriteAnswer) (frame : List ℕ) → WriterLeft
+abbrev pub writer_left : (answer : Result RecordDelivery WriteRefusal) (frame : List ℕ) → WriterLeft
 writer_left answer frame = record { outcome = writer_outcome answer; frame = frame }
 
 abbrev pub writer_has_room : (l : Layout) (t : WriterLent) → Bool

@@ -1,7 +1,7 @@
 // Document 01 as types and definitions: what every crate above works on, and what a reader must believe.
 #![tactic(auto)]
 
-#[derive(Clone, Copy)]
+#[derive(Clone, Copy, Debug, PartialEq, Eq)]
 pub enum ChannelType {
     Discrete,
     StereoPrimary,
@@ -14,7 +14,7 @@ pub struct Channel {
 }
 
 // Whether a code may leave its range below resolution 8, as in the Rust, or is held within it.
-#[derive(Clone, Copy)]
+#[derive(Clone, Copy, Debug, PartialEq, Eq)]
 pub enum Mode {
     Rust,
     Held,
@@ -52,10 +52,18 @@ pub struct StageRoom {
     pub stored: Room,
 }
 
-// What the stage answers: level, boundary, pairs removed and bits written, or a refusal with the number beside it.
-#[derive(Clone, Copy)]
-pub enum StageAnswer {
-    Delivered(usize, usize, usize, usize),
+// What the stage delivers: level, boundary, pairs removed and bits written.
+#[derive(Clone, Copy, Debug, PartialEq, Eq)]
+pub struct Delivery {
+    pub level: usize,
+    pub boundary: usize,
+    pub pairs: usize,
+    pub bits: usize,
+}
+
+// Why the stage refuses, with the number beside it.
+#[derive(Clone, Copy, Debug, PartialEq, Eq)]
+pub enum StageRefusal {
     BadLayout,
     ShortBuffer,
     BadIntensity(usize),
@@ -64,20 +72,26 @@ pub enum StageAnswer {
     TooLong(usize),
 }
 
-// What the record writer answers: level, boundary and bits written, or a refusal; beside TooLong the bits that all fields need.
-#[derive(Clone, Copy)]
-pub enum WriteAnswer {
-    Delivered(usize, usize, usize),
+// What the record writer and the strict reader deliver: level, boundary, and the bits written or read.
+#[derive(Clone, Copy, Debug, PartialEq, Eq)]
+pub struct RecordDelivery {
+    pub level: usize,
+    pub boundary: usize,
+    pub bits: usize,
+}
+
+// Why the record writer refuses; beside TooLong the bits that all fields need.
+#[derive(Clone, Copy, Debug, PartialEq, Eq)]
+pub enum WriteRefusal {
     BadLayout,
     ShortBuffer,
     NotLegal,
     TooLong(usize),
 }
 
-// What the strict reader answers: level, boundary and bits read, or a refusal with the bit that it names.
-#[derive(Clone, Copy)]
-pub enum ReadAnswer {
-    Delivered(usize, usize, usize),
+// Why the strict reader refuses, with the bit that it names.
+#[derive(Clone, Copy, Debug, PartialEq, Eq)]
+pub enum ReadRefusal {
     BadLayout,
     ShortBuffer,
     WrongCheck,

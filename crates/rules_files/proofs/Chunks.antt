@@ -7,18 +7,17 @@ use native.Mathlib.Omega.{arith}
 use borrow.Author.Tests.{lt-ltb, le-ltb, ltb-false, eq-eqb, ne_eqb}
 use lib.Dec.{eqb, ltb}
 use lib.ListN.{length}
+use Rattle.std.specs.Prelude.{Some, None}
 use Rattle.buffers.proofs.Tests.{cond_same}
 use Rattle.rules_files.specs.Wav.{chunk_name, chunk_size, next_chunk, format_after, data_name, walk_chunks, walked, default_format}
 use Rattle.rules_files.specs.declared.wav.WavFormat.{WavFormat}
-use Rattle.rules_files.specs.declared.wav.WavWalk.{WavWalk}
-use Rattle.rules_files.specs.declared.wav.WavWalk.TheVariants as at_end
 
 module _ (wav : List ℕ) where
   -- the format after the chunk at pos
   abbrev pub format_next : (pos : ℕ) (f : WavFormat) → WavFormat
   format_next pos f = format_after wav (chunk_name wav pos) (chunk_size wav pos) (pos + 8) f
 
-  pub walk-short : (n pos : ℕ) (f : WavFormat) → length wav < pos + 8 → walk_chunks wav n pos f ≡ at_end.Ended
+  pub walk-short : (n pos : ℕ) (f : WavFormat) → length wav < pos + 8 → walk_chunks wav n pos f ≡ None
   unfolding walk_chunks
   walk-short zero pos f h = refl
   walk-short (suc n) pos f h = rw (lt-ltb _ _ h)
@@ -30,12 +29,12 @@ module _ (wav : List ℕ) where
     more = omega arith
 
     pub walk-found : chunk_name wav pos ≡ data_name
-        → walk_chunks wav (length wav - pos) pos f ≡ at_end.Found (record { format = f; body = pos + 8; size = chunk_size wav pos })
+        → walk_chunks wav (length wav - pos) pos f ≡ Some (record { format = f; body = pos + 8; size = chunk_size wav pos })
     unfolding walk_chunks
     walk-found e = rw (more, le-ltb _ _ h, eq-eqb _ _ e)
 
     module _ (other : chunk_name wav pos ≡ data_name → ⊥) where
-      pub walk_cut : length wav - (pos + 8) < chunk_size wav pos → walk_chunks wav (length wav - pos) pos f ≡ at_end.Ended
+      pub walk_cut : length wav - (pos + 8) < chunk_size wav pos → walk_chunks wav (length wav - pos) pos f ≡ None
       unfolding walk_chunks
       walk_cut k = rw (more, le-ltb _ _ h, ne_eqb _ _ other, lt-ltb _ _ k)
 
@@ -61,5 +60,5 @@ module _ (wav : List ℕ) where
   pub walk_start : walk_chunks wav (length wav - 12) 12 default_format ≡ walked wav
   walk_start = walk_enough (length wav - 12) (length wav) 12 default_format (omega arith) (omega arith)
 
-  pub walk_end : (pos : ℕ) (f : WavFormat) → length wav < pos + 8 → walk_chunks wav (length wav - pos) pos f ≡ at_end.Ended
+  pub walk_end : (pos : ℕ) (f : WavFormat) → length wav < pos + 8 → walk_chunks wav (length wav - pos) pos f ≡ None
   walk_end pos f h = walk-short (length wav - pos) pos f h

@@ -95,7 +95,7 @@ number-part : (xs : List ℕ) (i k : ℕ) → k < 4 → get_or xs (i * 4 + k) 0 
 number-part xs i k h = sym (get_or-take 4 (drop (i * 4) xs) k 0 h ∙ get_or-drop (i * 4) xs k 0)
 
 -- an entry's four numbers are its part
-entry-part : (entries : List ℕ) (i : ℕ) → entry_at entries i ≡ entry_at (part 4 entries i) 0
+pub entry-part : (entries : List ℕ) (i : ℕ) → entry_at entries i ≡ entry_at (part 4 entries i) 0
 unfolding entry_at
 entry-part entries i =
     let first : get_or entries (i * 4) 0 ≡ get_or (part 4 entries i) 0 0 =

@@ -4,6 +4,7 @@ use mathlib.Core.List.{[], ◌∷◌, ◌++◌, map}
 use mathlib.Core.Bool.{Bool, true, false}
 use Prim.Native.Nat.{ℕ, ◌+◌}
 use lib.ListN.{length, replicate}
+use Rattle.std.specs.Prelude.{Option, Some, None, Ok, Err}
 use Rattle.bits.specs.Bits.{bits, value, bits_of}
 use Rattle.buffers.specs.Walk.{build}
 use Rattle.crc.specs.Check.{checksum}
@@ -14,12 +15,11 @@ use Rattle.rules.specs.declared.ChannelType.TheVariants.{Discrete}
 use Rattle.rules.specs.declared.Mode.TheVariants.{Rust}
 use Rattle.rules.specs.declared.Layout.{Layout}
 use Rattle.rules_files.specs.declared.header.LoopPoints.{LoopPoints}
-use Rattle.rules_files.specs.declared.header.LoopPoints.TheVariants.{Absent, Given}
 use Rattle.rules_files.specs.declared.header.LoopFields.{LoopFields}
 use Rattle.rules_files.specs.declared.header.Stream.{Stream}
 use Rattle.rules_files.specs.FileHeader.{channel_mapping, valid_mappings, channel_config, loop_fields, loop_pieces, after_loop, pieces, byte_of, header_of}
 use Rattle.rules_files.specs.FileHeader.{Piece, piece, piece_bytes, magic_pieces, format_pieces, frame_pieces, band_pieces, field_pieces, tail_pieces}
-use Rattle.rules_files.specs.declared.header.HeaderAnswer.TheVariants as answers
+use Rattle.rules_files.specs.declared.header.HeaderRefusal.TheVariants as why
 use Rattle.rules_files.specs.FileHeader.{header_outcome, fits_points, fits_header, write_header}
 
 -- base 64, total 100, 170 bytes a frame
@@ -36,9 +36,13 @@ voices channels = record {
   mode = Rust;
 }
 
+-- a loop from start to end
+abbrev loop : (start end : ℕ) → Option LoopPoints
+loop start end = Some (record { start = start; end = end })
+
 -- 48,000 Hz, 47 frames, padding 512, a loop from 0 to 896: its end is an edge
 abbrev pub looped : Stream
-looped = record { rate = 48000; frames = 47; padding = 512; points = Given 0 896 }
+looped = record { rate = 48000; frames = 47; padding = 512; points = loop 0 896 }
 
 pub worked_header : header_of (voices 1) looped ≡
     0x48 ∷ 0x43 ∷ 0x41 ∷ 0x00 ∷ 0x02 ∷ 0x00 ∷ 0x00 ∷ 0x60 ∷ 0x66 ∷ 0x6D ∷ 0x74 ∷ 0x00 ∷ 0x01 ∷ 0x00 ∷ 0xBB ∷ 0x80
@@ -79,11 +83,11 @@ mixed_bands = record {
   mode = Rust;
 }
 
-abbrev pub full_stream : (points : LoopPoints) → Stream
+abbrev pub full_stream : (points : Option LoopPoints) → Stream
 full_stream points = record { rate = 0x123456; frames = 0x0A0B0C0D; padding = 0x0E1F; points = points }
 
 -- with a loop inside frames 0x2060A1 and 0x2464A5
-pub looped-header : header_of mixed_bands (full_stream (Given 0x81828384 0x91929394)) ≡
+pub looped-header : header_of mixed_bands (full_stream (loop 0x81828384 0x91929394)) ≡
     0x48 ∷ 0x43 ∷ 0x41 ∷ 0x00 ∷ 0x02 ∷ 0x00 ∷ 0x00 ∷ 0x60 ∷ 0x66 ∷ 0x6D ∷ 0x74 ∷ 0x00 ∷ 0x03 ∷ 0x12 ∷ 0x34 ∷ 0x56
     ∷ 0x0A ∷ 0x0B ∷ 0x0C ∷ 0x0D ∷ 0x00 ∷ 0x80 ∷ 0x0E ∷ 0x1F ∷ 0x63 ∷ 0x6F ∷ 0x6D ∷ 0x70 ∷ 0xA1 ∷ 0xB2 ∷ 0x01 ∷ 0x0F
     ∷ 0x01 ∷ 0x04 ∷ 0x64 ∷ 0x32 ∷ 0x14 ∷ 0x04 ∷ 0x00 ∷ 0x00 ∷ 0x6C ∷ 0x6F ∷ 0x6F ∷ 0x70 ∷ 0x00 ∷ 0x20 ∷ 0x60 ∷ 0xA1
@@ -93,7 +97,7 @@ unfolding header_of pieces byte_of build high_first channel_mapping bands_per_gr
 looped-header = refl
 
 -- and with none
-pub plain-header : header_of mixed_bands (full_stream Absent) ≡
+pub plain-header : header_of mixed_bands (full_stream None) ≡
     0x48 ∷ 0x43 ∷ 0x41 ∷ 0x00 ∷ 0x02 ∷ 0x00 ∷ 0x00 ∷ 0x60 ∷ 0x66 ∷ 0x6D ∷ 0x74 ∷ 0x00 ∷ 0x03 ∷ 0x12 ∷ 0x34 ∷ 0x56
     ∷ 0x0A ∷ 0x0B ∷ 0x0C ∷ 0x0D ∷ 0x00 ∷ 0x80 ∷ 0x0E ∷ 0x1F ∷ 0x63 ∷ 0x6F ∷ 0x6D ∷ 0x70 ∷ 0xA1 ∷ 0xB2 ∷ 0x01 ∷ 0x0F
     ∷ 0x01 ∷ 0x04 ∷ 0x64 ∷ 0x32 ∷ 0x14 ∷ 0x04 ∷ 0x00 ∷ 0x00 ∷ 0x63 ∷ 0x69 ∷ 0x70 ∷ 0x68 ∷ 0x00 ∷ 0x00 ∷ 0x70 ∷ 0x61
@@ -102,20 +106,20 @@ unfolding header_of pieces byte_of build high_first channel_mapping bands_per_gr
 plain-header = refl
 
 -- each limit of refusal 16 is taken, and the next number is not
-abbrev fitting : (channels rate frames padding : ℕ) (points : LoopPoints) → Bool
+abbrev fitting : (channels rate frames padding : ℕ) (points : Option LoopPoints) → Bool
 fitting channels rate frames padding points = fits_header (voices channels) (record { rate = rate; frames = frames; padding = padding; points = points })
 
 pub sixteen_row :
-    fitting 8 1 0 0 Absent ∷ fitting 8 0x7FFFFF 0xFFFFFFFF 0xFFFF (Given 0xFFFFFF7F 0xFFFFFF7F) ∷ []
-    ++ (fitting 9 1 0 0 Absent ∷ fitting 8 0 0 0 Absent ∷ fitting 8 0x800000 0 0 Absent ∷ fitting 8 1 0x100000000 0 Absent ∷ fitting 8 1 0 0x10000 Absent
-    ∷ fitting 8 1 0 0 (Given 0xFFFFFF80 0) ∷ fitting 8 1 0 0 (Given 0 0xFFFFFF80) ∷ [])
+    fitting 8 1 0 0 None ∷ fitting 8 0x7FFFFF 0xFFFFFFFF 0xFFFF (loop 0xFFFFFF7F 0xFFFFFF7F) ∷ []
+    ++ (fitting 9 1 0 0 None ∷ fitting 8 0 0 0 None ∷ fitting 8 0x800000 0 0 None ∷ fitting 8 1 0x100000000 0 None ∷ fitting 8 1 0 0x10000 None
+    ∷ fitting 8 1 0 0 (loop 0xFFFFFF80 0) ∷ fitting 8 1 0 0 (loop 0 0xFFFFFF80) ∷ [])
     ≡ true ∷ true ∷ replicate 7 false
 unfolding fits_header fits_points
 sixteen_row = refl
 
 -- the number of each answer
 pub header-numbers :
-    map header_outcome (answers.Delivered ∷ answers.BadLayout ∷ answers.ShortBuffer ∷ answers.BadHeader ∷ [])
+    map header_outcome (Ok tt ∷ Err why.BadLayout ∷ Err why.ShortBuffer ∷ Err why.BadHeader ∷ [])
     ≡ delivered [] ∷ refused 1 0 ∷ refused 2 0 ∷ refused 16 0 ∷ []
 unfolding header_outcome
 header-numbers = refl

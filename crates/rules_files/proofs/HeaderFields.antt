@@ -8,6 +8,7 @@ use borrow.Author.Tests.{leb-true, le-leb, lt-leb, lt-ltb}
 use lib.Dec.{leb, ltb}
 use lib.ListN.{length, get_or, take, drop, length-drop, get_or-append}
 use lib.Seq.{length-take-le, get_or-take, get_or-drop}
+use Rattle.std.specs.Prelude.{Option, Some, None}
 use Rattle.buffers.specs.Walk.{build}
 use Rattle.buffers.proofs.Build.{build-at, build-of, length-build, back-width}
 use Rattle.buffers.proofs.Tests.{and_fst, and_snd, all_le, cond_bound, get_d_le}
@@ -22,7 +23,7 @@ use Rattle.rules.specs.declared.Layout.{Layout}
 use Rattle.rules.proofs.Layouts.{legal_sizes}
 use Rattle.rules.proofs.Answers.{never}
 use Rattle.rules_files.specs.declared.header.LoopPoints.{LoopPoints}
-use Rattle.rules_files.specs.declared.header.LoopPoints.TheVariants.{Absent, Given}
+use Rattle.rules_files.specs.declared.header.LoopFields.{LoopFields}
 use Rattle.rules_files.specs.declared.header.Stream.{Stream}
 use Rattle.rules_files.specs.FileHeader.{Piece, piece, covers, piece_bytes, byte_of, pieces, pieces_with, loop_pieces, after_loop, header_byte, header_of}
 use Rattle.rules_files.specs.FileHeader.{magic_pieces, format_pieces, frame_pieces, band_pieces, tail_pieces}
@@ -103,15 +104,16 @@ tail-fits : (at : ℕ) → AllFit (tail_pieces at)
 unfolding AllFit
 tail-fits at = (omega arith, (omega arith, (omega arith, tt)))
 
-loop_fits : (points : LoopPoints) → PointsFit points → AllFit (loop_pieces points)
+loop_fits : (points : Option LoopPoints) → PointsFit points → AllFit (loop_pieces points)
 unfolding AllFit loop_pieces
-loop_fits Absent h = tt
-loop_fits (Given start end) h =
-    let m : LoopMoved start end = loop_moved start end in
-    let s : 1024 * (loop_fields start end).start_frame + (loop_fields start end).delay ≡ start + 128 = m.begins in
-    let e : 1024 * ((loop_fields start end).end_frame + 1) - (loop_fields start end).padding ≡ end + 128 = m.ends in
-    let a : start + 128 ≤ 0xFFFFFFFF = h.0 in
-    let b : end + 128 ≤ 0xFFFFFFFF = h.1 in
+loop_fits None h = tt
+loop_fits (Some p) h =
+    let f : LoopFields = loop_fields p.start p.end in
+    let m : LoopMoved p.start p.end = loop_moved p.start p.end in
+    let s : 1024 * f.start_frame + f.delay ≡ p.start + 128 = m.begins in
+    let e : 1024 * (f.end_frame + 1) - f.padding ≡ p.end + 128 = m.ends in
+    let a : p.start + 128 ≤ 0xFFFFFFFF = h.0 in
+    let b : p.end + 128 ≤ 0xFFFFFFFF = h.1 in
     (omega arith, (omega arith, (omega arith, (omega (arith, m.delay), (omega (arith, m.padding), tt)))))
 
 module _ (l : Layout) (st : Stream) (s : LegalLayout l) (h : HeaderFits l st) where
@@ -140,9 +142,9 @@ within-body : (l : Layout) (st : Stream) → within 94 (pieces l st) ≡ true
 unfolding pieces within loop_pieces after_loop
 within-body l st = by_points st.points
   where
-    by_points : (p : LoopPoints) → within 94 (pieces_with l st p) ≡ true
-    by_points Absent = refl
-    by_points (Given start end) = refl
+    by_points : (p : Option LoopPoints) → within 94 (pieces_with l st p) ≡ true
+    by_points None = refl
+    by_points (Some p) = refl
 
 -- ---- the number of its width at its offset, the high byte first, is its value
 
@@ -187,9 +189,9 @@ module _ (l : Layout) (st : Stream) where
   unfolding pieces byte_of loop_pieces after_loop high_first
   pair-bytes s = by_points st.points
     where
-      by_points : (p : LoopPoints) → (byte_of (pieces_with l st p) 30 0 ≡ l.minimum) × (byte_of (pieces_with l st p) 31 0 ≡ l.maximum)
-      by_points Absent = (omega arith, omega arith)
-      by_points (Given start end) = (omega arith, omega arith)
+      by_points : (p : Option LoopPoints) → (byte_of (pieces_with l st p) 30 0 ≡ l.minimum) × (byte_of (pieces_with l st p) 31 0 ≡ l.maximum)
+      by_points None = (omega arith, omega arith)
+      by_points (Some p) = (omega arith, omega arith)
 
   -- of every delivered header
   pub header-pair : (h : List ℕ) → (write_header l st h).outcome ≡ delivered []

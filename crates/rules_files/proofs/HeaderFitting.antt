@@ -4,25 +4,25 @@ use mathlib.Core.Bool.{true, false}
 use Prim.Native.Nat.{◌+◌, ◌≤◌}
 use borrow.Author.Tests.{le-leb, leb-true}
 use lib.Dec.{leb}
+use Rattle.std.specs.Prelude.{Option, Some, None}
 use Rattle.buffers.proofs.Tests.{and_fst, and_snd, and-true, not_true_false}
 use Rattle.rules.specs.declared.Layout.{Layout}
 use Rattle.rules_files.specs.declared.header.LoopPoints.{LoopPoints}
-use Rattle.rules_files.specs.declared.header.LoopPoints.TheVariants.{Absent, Given}
 use Rattle.rules_files.specs.declared.header.Stream.{Stream}
 use Rattle.rules_files.specs.FileHeader.{encoder_delay, fits_points, fits_header, PointsFit, HeaderFits}
 
-pub points_true : (p : LoopPoints) → PointsFit p → fits_points p ≡ true
+pub points_true : (p : Option LoopPoints) → PointsFit p → fits_points p ≡ true
 unfolding fits_points
-points_true Absent h = refl
-points_true (Given start end) h = and-true (le-leb _ _ h.0) (le-leb _ _ h.1)
+points_true None h = refl
+points_true (Some p) h = and-true (le-leb _ _ h.0) (le-leb _ _ h.1)
 
-pub points_facts : (p : LoopPoints) → fits_points p ≡ true → PointsFit p
+pub points_facts : (p : Option LoopPoints) → fits_points p ≡ true → PointsFit p
 unfolding fits_points
-points_facts Absent e = tt
-points_facts (Given start end) e =
-    (leb-true _ _ (and_fst (leb (start + encoder_delay) 0xFFFFFFFF) _ e), leb-true _ _ (and_snd (leb (start + encoder_delay) 0xFFFFFFFF) _ e))
+points_facts None e = tt
+points_facts (Some p) e =
+    (leb-true _ _ (and_fst (leb (p.start + encoder_delay) 0xFFFFFFFF) _ e), leb-true _ _ (and_snd (leb (p.start + encoder_delay) 0xFFFFFFFF) _ e))
 
-pub points_false : (p : LoopPoints) → (PointsFit p → ⊥) → fits_points p ≡ false
+pub points_false : (p : Option LoopPoints) → (PointsFit p → ⊥) → fits_points p ≡ false
 points_false p h = not_true_false (fits_points p) (λ e. h (points_facts p e))
 
 module _ (l : Layout) (st : Stream) where

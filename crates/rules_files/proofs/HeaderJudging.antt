@@ -7,6 +7,7 @@ use native.Mathlib.Omega.{arith}
 use borrow.Author.Tests.{le-leb, leb-true, lt-ltb, ltb-true, not-true, not-false}
 use lib.Dec.{leb, ltb}
 use lib.ListN.{length, get_or}
+use Rattle.std.specs.Prelude.{Some, None}
 use Rattle.buffers.proofs.Tests.{and_fst, and_snd, and-true, not_true_false}
 use Rattle.rules.specs.Layout.{legal_layout, LegalLayout}
 use Rattle.rules.specs.declared.Channel.{Channel}
@@ -14,15 +15,14 @@ use Rattle.rules.specs.declared.Layout.{Layout}
 use Rattle.rules.specs.declared.Mode.{Mode}
 use Rattle.rules.specs.declared.Mode.TheVariants.{Rust}
 use Rattle.rules.proofs.Layouts.{legal_true, legal_sizes}
-use Rattle.rules_files.specs.declared.header.LoopFrames.{LoopFrames}
-use Rattle.rules_files.specs.declared.header.LoopFrames.TheVariants.{Absent, Given}
+use Rattle.rules_files.specs.declared.header.LoopFields.{LoopFields}
 use Rattle.rules_files.specs.declared.header.FileHeader.{FileHeader}
 use Rattle.rules_files.specs.FileHeader.{Piece}
 use Rattle.rules_files.specs.HeaderReading.{stands, all_stand, layout_with, limits_right, moved_start, moved_end, is_moved, loop_right}
 
 -- ---- pieces that stand
 
-and_group : (a b c : Bool) → (a && (b && c)) ≡ ((a && b) && c)
+pub and_group : (a b c : Bool) → (a && (b && c)) ≡ ((a && b) && c)
 and_group true b c = refl
 and_group false b c = refl
 
@@ -47,32 +47,32 @@ module _ (h : List ℕ) where
 
 -- ---- a loop
 
-pub record LoopIs (frame delay end_frame padding : ℕ) : Type 0 where
-  pub delayed : delay < 1024
-  pub padded : padding < 1024
-  pub start-low : 128 ≤ 1024 * frame + delay
-  pub start-high : 1024 * frame + delay ≤ 0xFFFFFFFF
-  pub end_low : 128 ≤ 1024 * (end_frame + 1) - padding
-  pub end_high : 1024 * (end_frame + 1) - padding ≤ 0xFFFFFFFF
+pub record LoopIs (f : LoopFields) : Type 0 where
+  pub delayed : f.delay < 1024
+  pub padded : f.padding < 1024
+  pub start-low : 128 ≤ 1024 * f.start_frame + f.delay
+  pub start-high : 1024 * f.start_frame + f.delay ≤ 0xFFFFFFFF
+  pub end_low : 128 ≤ 1024 * (f.end_frame + 1) - f.padding
+  pub end_high : 1024 * (f.end_frame + 1) - f.padding ≤ 0xFFFFFFFF
 
-module _ (frame delay end_frame padding : ℕ) where
-  pub loop_facts : loop_right (Given frame delay end_frame padding) ≡ true → LoopIs frame delay end_frame padding
+module _ (f : LoopFields) where
+  pub loop_facts : loop_right (Some f) ≡ true → LoopIs f
   unfolding loop_right
   loop_facts e₁ =
-      let e₂ = and_snd (ltb delay 1024) _ e₁ in
-      let e₃ = and_snd (ltb padding 1024) _ e₂ in
-      let s = and_fst (is_moved (moved_start frame delay)) _ e₃ in
-      let e = and_snd (is_moved (moved_start frame delay)) _ e₃ in
+      let e₂ = and_snd (ltb f.delay 1024) _ e₁ in
+      let e₃ = and_snd (ltb f.padding 1024) _ e₂ in
+      let s = and_fst (is_moved (moved_start f.start_frame f.delay)) _ e₃ in
+      let e = and_snd (is_moved (moved_start f.start_frame f.delay)) _ e₃ in
       record {
-        delayed = ltb-true _ _ (and_fst (ltb delay 1024) _ e₁);
-        padded = ltb-true _ _ (and_fst (ltb padding 1024) _ e₂);
-        start-low = leb-true _ _ (and_fst (leb 128 (moved_start frame delay)) _ s);
-        start-high = leb-true _ _ (and_snd (leb 128 (moved_start frame delay)) _ s);
-        end_low = leb-true _ _ (and_fst (leb 128 (moved_end end_frame padding)) _ e);
-        end_high = leb-true _ _ (and_snd (leb 128 (moved_end end_frame padding)) _ e);
+        delayed = ltb-true _ _ (and_fst (ltb f.delay 1024) _ e₁);
+        padded = ltb-true _ _ (and_fst (ltb f.padding 1024) _ e₂);
+        start-low = leb-true _ _ (and_fst (leb 128 (moved_start f.start_frame f.delay)) _ s);
+        start-high = leb-true _ _ (and_snd (leb 128 (moved_start f.start_frame f.delay)) _ s);
+        end_low = leb-true _ _ (and_fst (leb 128 (moved_end f.end_frame f.padding)) _ e);
+        end_high = leb-true _ _ (and_snd (leb 128 (moved_end f.end_frame f.padding)) _ e);
       }
 
-  pub loop_true : LoopIs frame delay end_frame padding → loop_right (Given frame delay end_frame padding) ≡ true
+  pub loop_true : LoopIs f → loop_right (Some f) ≡ true
   unfolding loop_right
   loop_true k =
       rw (
@@ -84,10 +84,10 @@ module _ (frame delay end_frame padding : ℕ) where
         le-leb _ _ k.end_high,
       )
 
-  pub loop_false : (LoopIs frame delay end_frame padding → ⊥) → loop_right (Given frame delay end_frame padding) ≡ false
+  pub loop_false : (LoopIs f → ⊥) → loop_right (Some f) ≡ false
   loop_false k = not_true_false _ (λ e. k (loop_facts e))
 
-pub loop_none : loop_right Absent ≡ true
+pub loop_none : loop_right None ≡ true
 unfolding loop_right
 loop_none = refl
 

@@ -3,6 +3,7 @@ use mathlib.Core.Path.{◌≡◌, refl}
 use mathlib.Core.List.{List, [], ◌∷◌, ◌++◌, map}
 use Prim.Native.Nat.{ℕ, ◌+◌, ◌/◌, ◌%◌}
 use lib.ListN.{length, take, drop, replicate, set}
+use Rattle.std.specs.Prelude.{Option, Some, None, Ok, Err}
 use Rattle.bits.specs.Bits.{bits, value, bits_of}
 use Rattle.buffers.specs.Walk.{build, every}
 use Rattle.crc.specs.Check.{checksum}
@@ -13,15 +14,13 @@ use Rattle.rules.specs.Refusals.{Outcome, delivered, refused}
 use Rattle.rules.specs.declared.ChannelType.TheVariants.{Discrete}
 use Rattle.rules.specs.declared.Mode.TheVariants.{Rust}
 use Rattle.rules.specs.declared.Layout.{Layout}
-use Rattle.rules_files.specs.declared.header.LoopPoints.TheVariants as points
-use Rattle.rules_files.specs.declared.header.LoopFrames.{LoopFrames}
-use Rattle.rules_files.specs.declared.header.LoopFrames.TheVariants.{Absent, Given}
+use Rattle.rules_files.specs.declared.header.LoopFields.{LoopFields}
 use Rattle.rules_files.specs.declared.header.Stream.{Stream}
 use Rattle.rules_files.specs.declared.header.FileHeader.{FileHeader}
-use Rattle.rules_files.specs.declared.header.HeaderReadAnswer.TheVariants as answers
+use Rattle.rules_files.specs.declared.header.HeaderReadRefusal.TheVariants as why
 use Rattle.rules_files.specs.FileHeader.{channel_mapping, loop_fields, loop_pieces, after_loop, pieces, byte_of, header_of}
 use Rattle.rules_files.specs.HeaderReading.{number_at, all_stand, zero_bytes, names_right, loop_at, fields_of, limits_right, loop_right, fields_right, rest_zero}
-use Rattle.rules_files.specs.HeaderReading.{points_back, stream_back, exact_read, read_header, header_read_outcome, loop_numbers, header_layout}
+use Rattle.rules_files.specs.HeaderReading.{start_and_end, points_back, stream_back, exact_read, read_header, header_read_outcome, loop_numbers, header_layout}
 
 -- C 2, base 52, stereo 52, total 128, F 417; 44,100 Hz, 40 frames, padding 832, a loop from 5,000 to 40,000: 94 bytes, then the check
 abbrev sample : List ℕ
@@ -33,7 +32,11 @@ sample =
     ∷ 0x64 ∷ (replicate 29 0 ++ (0xDA ∷ 0x93 ∷ []))
 
 abbrev sample_stream : Stream
-sample_stream = record { rate = 44100; frames = 40; padding = 832; points = points.Given 5000 40000 }
+sample_stream = record { rate = 44100; frames = 40; padding = 832; points = Some (record { start = 5000; end = 40000 }) }
+
+-- a loop's frame, delay, end frame and padding
+abbrev loop_of : (frame delay end_frame padding : ℕ) → LoopFields
+loop_of frame delay end_frame padding = record { start_frame = frame; end_frame = end_frame; delay = delay; padding = padding }
 
 pub sample-written : sample ≡ header_of (record {
   channels = 2;
@@ -49,7 +52,7 @@ pub sample-written : sample ≡ header_of (record {
 unfolding header_of pieces byte_of build high_first channel_mapping bands_per_group group_count ceil_div loop_pieces after_loop loop_fields checksum value bits_of bits
 sample-written = refl
 
-pub sample_read : read_header sample ≡ answers.Read (record {
+pub sample_read : read_header sample ≡ Ok (record {
   channels = 2;
   base = 52;
   stereo = 52;
@@ -60,7 +63,7 @@ pub sample_read : read_header sample ≡ answers.Read (record {
   rate = 44100;
   frames = 40;
   padding = 832;
-  points = Given 5 8 39 832;
+  points = Some (loop_of 5 8 39 832);
 })
 unfolding read_header exact_read is_sealed checksum value bits_of bits names_right all_stand number_at of_high fields_right limits_right legal_layout
     fields_of
@@ -68,8 +71,8 @@ unfolding read_header exact_read is_sealed checksum value bits_of bits names_rig
     rest_zero zero_bytes every bands_per_group ceil_div channel_mapping
 sample_read = refl
 
-pub sample-points : points_back (Given 5 8 39 832) ≡ points.Given 5000 40000
-unfolding points_back loop_right
+pub sample-points : points_back (Some (loop_of 5 8 39 832)) ≡ Some (record { start = 5000; end = 40000 })
+unfolding points_back start_and_end loop_right
 sample-points = refl
 
 -- a header with another check
@@ -102,7 +105,7 @@ unfolding header_read_outcome read_header exact_read is_sealed checksum value bi
 last_byte = refl
 
 -- each field under its own place, none like another: the stream's and the loop's eight numbers, the layout's seven, and none beside a refusal
-abbrev fields_with : (points : LoopFrames) → FileHeader
+abbrev fields_with : (points : Option LoopFields) → FileHeader
 fields_with points = record {
   channels = 2;
   base = 52;
@@ -118,12 +121,12 @@ fields_with points = record {
 }
 
 pub answered-numbers :
-    (header_read_outcome (answers.Read (fields_with (Given 5 8 39 831))) ≡ delivered (44100 ∷ 40 ∷ 832 ∷ 1 ∷ 5 ∷ 8 ∷ 39 ∷ 831 ∷ []))
-    × (header_read_outcome (answers.Read (fields_with Absent)) ≡ delivered (44100 ∷ 40 ∷ 832 ∷ 0 ∷ 0 ∷ 0 ∷ 0 ∷ 0 ∷ []))
-    × (header_layout (answers.Read (fields_with Absent)) ≡ 2 ∷ 52 ∷ 53 ∷ 128 ∷ 417 ∷ 3 ∷ 15 ∷ [])
-    × (map header_layout (answers.ShortBuffer ∷ answers.WrongCheck ∷ answers.WrongName ∷ answers.BadField ∷ answers.NotZero ∷ [])
+    (header_read_outcome (Ok (fields_with (Some (loop_of 5 8 39 831)))) ≡ delivered (44100 ∷ 40 ∷ 832 ∷ 1 ∷ 5 ∷ 8 ∷ 39 ∷ 831 ∷ []))
+    × (header_read_outcome (Ok (fields_with None)) ≡ delivered (44100 ∷ 40 ∷ 832 ∷ 0 ∷ 0 ∷ 0 ∷ 0 ∷ 0 ∷ []))
+    × (header_layout (Ok (fields_with None)) ≡ 2 ∷ 52 ∷ 53 ∷ 128 ∷ 417 ∷ 3 ∷ 15 ∷ [])
+    × (map header_layout (Err why.ShortBuffer ∷ Err why.WrongCheck ∷ Err why.WrongName ∷ Err why.BadField ∷ Err why.NotZero ∷ [])
     ≡ [] ∷ [] ∷ [] ∷ [] ∷ [] ∷ [])
-    × (map header_read_outcome (answers.ShortBuffer ∷ answers.WrongCheck ∷ answers.WrongName ∷ answers.BadField ∷ answers.NotZero ∷ [])
+    × (map header_read_outcome (Err why.ShortBuffer ∷ Err why.WrongCheck ∷ Err why.WrongName ∷ Err why.BadField ∷ Err why.NotZero ∷ [])
     ≡ refused 2 0 ∷ refused 26 0 ∷ refused 27 0 ∷ refused 28 0 ∷ refused 29 0 ∷ [])
 unfolding header_read_outcome loop_numbers header_layout
 answered-numbers = (refl, refl, refl, refl, refl)

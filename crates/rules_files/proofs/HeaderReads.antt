@@ -7,24 +7,26 @@ use Prim.Native.Nat.{ℕ, ◌≤◌, ◌<◌}
 use borrow.Author.Tests.{not-true, not-false, ltb-true, ltb-false, lt-ltb, le-ltb, eqb-false}
 use lib.Dec.{eqb, ltb}
 use lib.ListN.{length, take}
+use Rattle.std.specs.Prelude.{Result, Ok, Err}
 use Rattle.buffers.proofs.Tests.{cond_both}
 use Rattle.crc.specs.Sealed.{is_sealed}
 use Rattle.rules.specs.Refusals.{Outcome, refused}
 use Rattle.rules.proofs.Answers.{never, Numbered, numbered, unnumbered}
-use Rattle.rules_files.specs.declared.header.HeaderReadAnswer.{HeaderReadAnswer}
-use Rattle.rules_files.specs.declared.header.HeaderReadAnswer.TheVariants as answers
+use Rattle.rules_files.specs.declared.header.FileHeader.{FileHeader}
+use Rattle.rules_files.specs.declared.header.HeaderReadRefusal.{HeaderReadRefusal}
+use Rattle.rules_files.specs.declared.header.HeaderReadRefusal.TheVariants as why
 use Rattle.rules_files.specs.HeaderReading.{names_right, fields_right, rest_zero, fields_of, exact_read, read_header, header_read_outcome, header_layout}
 
 other : {A : Type 0} {a b n k : ℕ} → refused a b ≡ refused n k → eqb a n ≡ false → A
 other {A} {a} {b} {n} {k} e d = let z : a ≡ n = cc e in absurd (eqb-false a n d z)
 
 -- what each end has, every end has
-pub exact_case : (h : List ℕ) (P : HeaderReadAnswer → Type 0)
-    → (is_sealed h ≡ false → P answers.WrongCheck)
-    → (is_sealed h ≡ true → names_right h ≡ false → P answers.WrongName)
-    → (is_sealed h ≡ true → names_right h ≡ true → fields_right h ≡ false → P answers.BadField)
-    → (is_sealed h ≡ true → names_right h ≡ true → fields_right h ≡ true → rest_zero h ≡ false → P answers.NotZero)
-    → (is_sealed h ≡ true → names_right h ≡ true → fields_right h ≡ true → rest_zero h ≡ true → P (answers.Read (fields_of h)))
+pub exact_case : (h : List ℕ) (P : Result FileHeader HeaderReadRefusal → Type 0)
+    → (is_sealed h ≡ false → P (Err why.WrongCheck))
+    → (is_sealed h ≡ true → names_right h ≡ false → P (Err why.WrongName))
+    → (is_sealed h ≡ true → names_right h ≡ true → fields_right h ≡ false → P (Err why.BadField))
+    → (is_sealed h ≡ true → names_right h ≡ true → fields_right h ≡ true → rest_zero h ≡ false → P (Err why.NotZero))
+    → (is_sealed h ≡ true → names_right h ≡ true → fields_right h ≡ true → rest_zero h ≡ true → P (Ok (fields_of h)))
     → P (exact_read h)
 unfolding exact_read
 exact_case h P check name field zero done =
@@ -42,13 +44,13 @@ module _ (h : List ℕ) where
   front = take 96 h
 
   -- what each end has, every end has
-  pub read_case : (P : HeaderReadAnswer → Type 0) → (length h < 96 → P answers.ShortBuffer)
-      → (96 ≤ length h → is_sealed front ≡ false → P answers.WrongCheck)
-      → (96 ≤ length h → is_sealed front ≡ true → names_right front ≡ false → P answers.WrongName)
-      → (96 ≤ length h → is_sealed front ≡ true → names_right front ≡ true → fields_right front ≡ false → P answers.BadField)
-      → (96 ≤ length h → is_sealed front ≡ true → names_right front ≡ true → fields_right front ≡ true → rest_zero front ≡ false → P answers.NotZero)
+  pub read_case : (P : Result FileHeader HeaderReadRefusal → Type 0) → (length h < 96 → P (Err why.ShortBuffer))
+      → (96 ≤ length h → is_sealed front ≡ false → P (Err why.WrongCheck))
+      → (96 ≤ length h → is_sealed front ≡ true → names_right front ≡ false → P (Err why.WrongName))
+      → (96 ≤ length h → is_sealed front ≡ true → names_right front ≡ true → fields_right front ≡ false → P (Err why.BadField))
+      → (96 ≤ length h → is_sealed front ≡ true → names_right front ≡ true → fields_right front ≡ true → rest_zero front ≡ false → P (Err why.NotZero))
       → (96 ≤ length h → is_sealed front ≡ true → names_right front ≡ true → fields_right front ≡ true → rest_zero front ≡ true
-      → P (answers.Read (fields_of front)))
+      → P (Ok (fields_of front)))
       → P (read_header h)
   unfolding read_header
   read_case P short check name field zero done =
@@ -124,5 +126,5 @@ module _ (h : List ℕ) where
   )
 
 -- two outcomes that the contract allows coincide
-pub header_read_once : (h : List ℕ) (a b : HeaderReadAnswer) → a ≡ read_header h → b ≡ read_header h → a ≡ b
+pub header_read_once : (h : List ℕ) (a b : Result FileHeader HeaderReadRefusal) → a ≡ read_header h → b ≡ read_header h → a ≡ b
 header_read_once h a b p q = p ∙ sym q

@@ -8,6 +8,7 @@ use native.Mathlib.Omega.{arith}
 use borrow.Author.Tests.{not-true, not-false, ltb-true, ltb-false, lt-ltb, le-ltb, eqb-true, eqb-false, eq-eqb}
 use lib.Dec.{leb, ltb, eqb}
 use lib.ListN.{length, get_or, replicate}
+use Rattle.std.specs.Prelude.{Option, Some, None, Result, Ok, Err}
 use Rattle.bits.specs.Bits.{Bytes}
 use Rattle.bits.proofs.Parts.{bytes-all, bytes_at_lem}
 use Rattle.buffers.specs.Walk.{build}
@@ -23,11 +24,10 @@ use Rattle.rules.specs.Refusals.{Outcome, delivered, refused}
 use Rattle.rules.specs.declared.Layout.{Layout}
 use Rattle.rules.proofs.Answers.{never, Numbered, numbered, unnumbered}
 use Rattle.rules_files.specs.declared.header.LoopPoints.{LoopPoints}
-use Rattle.rules_files.specs.declared.header.LoopPoints.TheVariants.{Absent, Given}
 use Rattle.rules_files.specs.declared.header.LoopFields.{LoopFields}
 use Rattle.rules_files.specs.declared.header.Stream.{Stream}
-use Rattle.rules_files.specs.declared.header.HeaderAnswer.{HeaderAnswer}
-use Rattle.rules_files.specs.declared.header.HeaderAnswer.TheVariants as answers
+use Rattle.rules_files.specs.declared.header.HeaderRefusal.{HeaderRefusal}
+use Rattle.rules_files.specs.declared.header.HeaderRefusal.TheVariants as why
 use Rattle.rules_files.specs.FileHeader.{Piece, covers, piece_bytes, byte_of, pieces, pieces_with, loop_pieces, after_loop, header_byte, header_of}
 use Rattle.rules_files.specs.FileHeader.{loop_fields, channel_mapping, valid_mappings, channel_config, fits_header, HeaderFits}
 use Rattle.rules_files.specs.FileHeader.{header_outcome, HeaderLeft, header_left, write_header}
@@ -62,9 +62,9 @@ pub pieces-apart : (l : Layout) (st : Stream) → apart (pieces l st) ≡ true
 unfolding pieces apart loop_pieces after_loop
 pieces-apart l st = by_points st.points
   where
-    by_points : (p : LoopPoints) → apart (pieces_with l st p) ≡ true
-    by_points Absent = refl
-    by_points (Given start end) = refl
+    by_points : (p : Option LoopPoints) → apart (pieces_with l st p) ≡ true
+    by_points None = refl
+    by_points (Some p) = refl
 
 -- ---- the channel configuration
 
@@ -177,18 +177,18 @@ module _ (l : Layout) (st : Stream) (h : List ℕ) where
   )
 
 -- two outcomes that the contract allows coincide
-header_answer : Outcome → HeaderAnswer
-header_answer (delivered xs) = answers.Delivered
-header_answer (refused n k) = get_or (answers.BadLayout ∷ answers.ShortBuffer ∷ []) (n - 1) answers.BadHeader
+header_answer : Outcome → Result (Unit {0}) HeaderRefusal
+header_answer (delivered xs) = Ok tt
+header_answer (refused n k) = Err (get_or (why.BadLayout ∷ why.ShortBuffer ∷ []) (n - 1) why.BadHeader)
 
-header-said : (a : HeaderAnswer) → header_answer (header_outcome a) ≡ a
+header-said : (a : Result (Unit {0}) HeaderRefusal) → header_answer (header_outcome a) ≡ a
 unfolding header_answer header_outcome
-header-said answers.Delivered = refl
-header-said answers.BadLayout = refl
-header-said answers.ShortBuffer = refl
-header-said answers.BadHeader = refl
+header-said (Ok x) = refl
+header-said (Err why.BadLayout) = refl
+header-said (Err why.ShortBuffer) = refl
+header-said (Err why.BadHeader) = refl
 
-pub header_once : (l : Layout) (st : Stream) (h g g' : List ℕ) (a b : HeaderAnswer)
+pub header_once : (l : Layout) (st : Stream) (h g g' : List ℕ) (a b : Result (Unit {0}) HeaderRefusal)
     → header_left a g ≡ write_header l st h → header_left b g' ≡ write_header l st h → (a ≡ b) × (g ≡ g')
 header_once l st h g g' a b p q =
     let z : header_left a g ≡ header_left b g' = p ∙ sym q in

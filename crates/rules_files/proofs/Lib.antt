@@ -17,6 +17,8 @@ pub mod ListExamples
 pub mod Summaries
 pub mod ListCalls
 pub mod ListOutcomes
+-- a test of each, as a test of every index
+pub mod Ranges
 -- A13: laws that the code cites
 pub mod Samples
 pub mod Chunks

@@ -10,6 +10,7 @@ use borrow.Author.Tests.{ltb-true, ltb-false, lt-ltb, le-ltb, not-false}
 use lib.Dec.{ltb}
 use lib.ListN.{length, get_or, take, drop}
 use lib.Seq.{take_at}
+use Rattle.std.specs.Prelude.{Result, Ok, Err}
 use Rattle.bits.specs.Bits.{Bytes}
 use Rattle.buffers.specs.Walk.{AtMost, sum_to}
 use Rattle.buffers.proofs.Tests.{cond_both}
@@ -22,8 +23,8 @@ use Rattle.rules_files.specs.List.{summary_numbers, ListLeft, write_list, Entrie
 use Rattle.rules_files.specs.List.{list_summary}
 use Rattle.rules_files.specs.declared.list.Entry.{Entry}
 use Rattle.rules_files.specs.declared.list.Summary.{Summary}
-use Rattle.rules_files.specs.declared.list.Judgement.{Judgement}
-use Rattle.rules_files.specs.declared.list.Judgement.TheVariants as found
+use Rattle.rules_files.specs.declared.list.ListFault.{ListFault}
+use Rattle.rules_files.specs.declared.list.ListFault.TheVariants as found
 use Rattle.rules_files.proofs.Entries.{Limits, legal-limits, legal-front, entries-length, entries_at}
 use Rattle.rules_files.proofs.Lists.{list_length, list-frames, list_entry_lem, list-entries, list-front, list-good, good-accepted, frames_small}
 use Rattle.rules_files.proofs.Lists.{entries-small, list-is}
@@ -61,46 +62,46 @@ module _ (n : ℕ) (entries list : List ℕ) where
 -- ---- when the others deliver
 
 module _ (list : List ℕ) where
-  looks_good : (frame : ℕ) (ns : List ℕ) (j : Judgement) → list_entry_as j list frame ≡ delivered ns
-      → (n : ℕ) × (j ≡ found.Good n) × (frame < n) × (ns ≡ entry_numbers (entry_in list frame))
+  looks_good : (frame : ℕ) (ns : List ℕ) (j : Result ℕ ListFault) → list_entry_as j list frame ≡ delivered ns
+      → (n : ℕ) × (j ≡ Ok n) × (frame < n) × (ns ≡ entry_numbers (entry_in list frame))
   unfolding list_entry_as
-  looks_good frame ns found.BadMark e = refusal e
-  looks_good frame ns found.BadLength e = refusal e
-  looks_good frame ns (found.BadEntry n) e = refusal e
-  looks_good frame ns (found.Good n) e =
+  looks_good frame ns (Err found.BadMark) e = refusal e
+  looks_good frame ns (Err found.BadLength) e = refusal e
+  looks_good frame ns (Err (found.BadEntry n)) e = refusal e
+  looks_good frame ns (Ok n) e =
       let P : Outcome → Type 0 = λ o. o ≡ delivered ns → (frame < n) × (ns ≡ entry_numbers (entry_in list frame)) in
       let (l, q) = cond_both P (ltb frame n) (λ h e. (ltb-true _ _ h, (cc))) (λ _. refusal) e in
       (n, refl, l, q)
 
-  sums_good : (ns : List ℕ) (j : Judgement) → list_summary_as j list ≡ delivered ns
-      → (n : ℕ) × (j ≡ found.Good n) × (ns ≡ summary_numbers (summary_of n (entries_of list)))
+  sums_good : (ns : List ℕ) (j : Result ℕ ListFault) → list_summary_as j list ≡ delivered ns
+      → (n : ℕ) × (j ≡ Ok n) × (ns ≡ summary_numbers (summary_of n (entries_of list)))
   unfolding list_summary_as
-  sums_good ns found.BadMark e = refusal e
-  sums_good ns found.BadLength e = refusal e
-  sums_good ns (found.BadEntry n) e = refusal e
-  sums_good ns (found.Good n) e = (n, refl, (cc))
+  sums_good ns (Err found.BadMark) e = refusal e
+  sums_good ns (Err found.BadLength) e = refusal e
+  sums_good ns (Err (found.BadEntry n)) e = refusal e
+  sums_good ns (Ok n) e = (n, refl, (cc))
 
-  reads-good : (entries ns : List ℕ) (j : Judgement) → (read_list_as j list entries).outcome ≡ delivered ns
-      → (n : ℕ) × (j ≡ found.Good n) × (n * 4 ≤ length entries) × (ns ≡ n ∷ [])
+  reads-good : (entries ns : List ℕ) (j : Result ℕ ListFault) → (read_list_as j list entries).outcome ≡ delivered ns
+      → (n : ℕ) × (j ≡ Ok n) × (n * 4 ≤ length entries) × (ns ≡ n ∷ [])
   unfolding read_list_as
-  reads-good entries ns found.BadMark e = refusal e
-  reads-good entries ns found.BadLength e = refusal e
-  reads-good entries ns (found.BadEntry n) e =
+  reads-good entries ns (Err found.BadMark) e = refusal e
+  reads-good entries ns (Err found.BadLength) e = refusal e
+  reads-good entries ns (Err (found.BadEntry n)) e =
       absurd (cond_both (λ (o : Outcome). o ≡ delivered ns → ⊥) (ltb (length entries) (n * 4)) (λ _. refusal) (λ _. refusal) e)
-  reads-good entries ns (found.Good n) e =
+  reads-good entries ns (Ok n) e =
       let P : EntriesLeft → Type 0 = λ x. x.outcome ≡ delivered ns → (n * 4 ≤ length entries) × (ns ≡ n ∷ []) in
       let (l, q) = cond_both P (ltb (length entries) (n * 4)) (λ _. refusal) (λ h e. (ltb-false _ _ h, (cc))) e in
       (n, refl, l, q)
 
-  reads_this : (entries : List ℕ) (n : ℕ) → (read_list list entries).outcome ≡ delivered (n ∷ []) → (judged_list list ≡ found.Good n) × (n * 4 ≤ length entries)
+  reads_this : (entries : List ℕ) (n : ℕ) → (read_list list entries).outcome ≡ delivered (n ∷ []) → (judged_list list ≡ Ok n) × (n * 4 ≤ length entries)
   unfolding read_list
   reads_this entries n e =
       let (m, good, l, q) = reads-good entries (n ∷ []) (judged_list list) e in
       let k : m ≡ n = cc in
-      (good ∙ ap found.Good k, rw k at l)
+      (good ∙ ap Ok k, rw k at l)
 
   -- what a good list is read, looked up and summed as
-  module _ (n : ℕ) (good : judged_list list ≡ found.Good n) where
+  module _ (n : ℕ) (good : judged_list list ≡ Ok n) where
     pub good_read : (entries : List ℕ) → n * 4 ≤ length entries
         → read_list list entries ≡ record { outcome = delivered (n ∷ []); entries = overwrite (entries_of list) entries }
     unfolding read_list read_list_as
@@ -181,7 +182,7 @@ pub record ListFor (n : ℕ) (entries list : List ℕ) : Type 0 where
   pub bytes : list ≡ list_of n entries
 
 module _ (list : List ℕ) (n : ℕ) where
-  good_for : Bytes list → judged_list list ≡ found.Good n → (entries : List ℕ) × ListFor n entries list
+  good_for : Bytes list → judged_list list ≡ Ok n → (entries : List ℕ) × ListFor n entries list
   good_for b good =
       let a = good-accepted list n good in (
         entries_of list,
@@ -194,7 +195,7 @@ module _ (list : List ℕ) (n : ℕ) where
         },
       )
 
-  for_good : (entries : List ℕ) → ListFor n entries list → judged_list list ≡ found.Good n
+  for_good : (entries : List ℕ) → ListFor n entries list → judged_list list ≡ Ok n
   for_good entries f = rw f.bytes (list-good n entries f.few (omega (arith, f.size)) f.words f.legal)
 
 -- The reader, lent room enough, delivers n frames just where the bytes are the list of n legal entries,
@@ -249,7 +250,7 @@ pub record Summarizes (list : List ℕ) (level pairs bits : ℕ) : Type 0 where
   -- the total never passes 64 bits: at most 2^32 - 1 frames of at most 2^32 - 1 bits
   pub total : Bytes list → bits ≤ 4294967295 * 4294967295
 
-module _ (list : List ℕ) (n : ℕ) (good : judged_list list ≡ found.Good n) where
+module _ (list : List ℕ) (n : ℕ) (good : judged_list list ≡ Ok n) where
   abbrev its : ℕ → Entry
   its i = entry_at (entries_of list) i
 

@@ -5,17 +5,18 @@ use mathlib.Core.Bool.{Bool, true, false}
 use Prim.Native.Nat.{ℕ}
 use native.Mathlib.Omega.{arith}
 use lib.ListN.{length, replicate, length-append}
+use Rattle.std.specs.Prelude.{Result, Ok, Err}
 use Rattle.buffers.specs.Walk.{sum_to, blocks, every}
 use Rattle.numbers.specs.Numbers.{high_first, of_high}
 use Rattle.rules.specs.Refusals.{Outcome, delivered, refused}
 use Rattle.rules_files.specs.List.{entry_bytes, entry_from, entry_at, legal_entry, legal_entries, list_head, list_of, frames_in, entries_of, is_marked, judged_list}
 use Rattle.rules_files.specs.List.{max_to, summary_of, ListLeft, write_list, read_list_as, read_list, list_entry_as, list_entry, list_summary_as, list_summary}
 use Rattle.rules_files.specs.List.{list_written_outcome, list_read_outcome, entry_outcome, summary_outcome}
-use Rattle.rules_files.specs.declared.list.Judgement.{Judgement}
-use Rattle.rules_files.specs.declared.list.ListWritten.TheVariants as write
-use Rattle.rules_files.specs.declared.list.ListAnswer.TheVariants as read
-use Rattle.rules_files.specs.declared.list.EntryAnswer.TheVariants as look
-use Rattle.rules_files.specs.declared.list.SummaryAnswer.TheVariants as sum
+use Rattle.rules_files.specs.declared.list.ListFault.{ListFault}
+use Rattle.rules_files.specs.declared.list.ListWriteRefusal.TheVariants as write
+use Rattle.rules_files.specs.declared.list.ListReadRefusal.TheVariants as read
+use Rattle.rules_files.specs.declared.list.EntryRefusal.TheVariants as look
+use Rattle.rules_files.specs.declared.list.SummaryRefusal.TheVariants as sum
 use Rattle.numbers.proofs.HighFirst.{high-length}
 use Rattle.rules_files.proofs.Lists.{judged-length}
 
@@ -96,7 +97,8 @@ wrap_long = refl
 pub never_wraps : list_summary wrap_bytes ≡ refused 20 0
 unfolding list_summary list_summary_as
 never_wraps =
-    ap (λ (j : Judgement). list_summary_as j wrap_bytes) (sym (judged-length wrap_bytes 0x20000001 wrap_marked (sym wrap_frames) (λ e. omega (arith, wrap_long))))
+    ap (λ (j : Result ℕ ListFault). list_summary_as j wrap_bytes)
+    (sym (judged-length wrap_bytes 0x20000001 wrap_marked (sym wrap_frames) (λ e. omega (arith, wrap_long))))
 
 -- refusal 21's three limits are legal, and the next numbers are not
 abbrev heard : (level boundary pairs : ℕ) → Bool
@@ -174,10 +176,11 @@ marks_row = refl
 
 -- the number of each answer
 pub list-numbers :
-    (map list_written_outcome (write.Delivered ∷ write.ShortBuffer ∷ write.BadEntry ∷ []) ≡ delivered [] ∷ refused 2 0 ∷ refused 21 0 ∷ [])
-    × (map list_read_outcome (read.Delivered 7 ∷ read.ShortBuffer ∷ read.BadMark ∷ read.BadLength ∷ read.BadEntry ∷ [])
+    (map list_written_outcome (Ok tt ∷ Err write.ShortBuffer ∷ Err write.BadEntry ∷ []) ≡ delivered [] ∷ refused 2 0 ∷ refused 21 0 ∷ [])
+    × (map list_read_outcome (Ok 7 ∷ Err read.ShortBuffer ∷ Err read.BadMark ∷ Err read.BadLength ∷ Err read.BadEntry ∷ [])
     ≡ delivered (7 ∷ []) ∷ refused 2 0 ∷ refused 19 0 ∷ refused 20 0 ∷ refused 21 0 ∷ [])
-    × (map entry_outcome (look.BadMark ∷ look.BadLength ∷ look.BadEntry ∷ look.NoFrame ∷ []) ≡ refused 19 0 ∷ refused 20 0 ∷ refused 21 0 ∷ refused 31 0 ∷ [])
-    × (map summary_outcome (sum.BadMark ∷ sum.BadLength ∷ sum.BadEntry ∷ []) ≡ refused 19 0 ∷ refused 20 0 ∷ refused 21 0 ∷ [])
+    × (map entry_outcome (Err look.BadMark ∷ Err look.BadLength ∷ Err look.BadEntry ∷ Err look.NoFrame ∷ [])
+    ≡ refused 19 0 ∷ refused 20 0 ∷ refused 21 0 ∷ refused 31 0 ∷ [])
+    × (map summary_outcome (Err sum.BadMark ∷ Err sum.BadLength ∷ Err sum.BadEntry ∷ []) ≡ refused 19 0 ∷ refused 20 0 ∷ refused 21 0 ∷ [])
 unfolding list_written_outcome list_read_outcome entry_outcome summary_outcome
 list-numbers = (refl, refl, refl, refl)

@@ -9,6 +9,7 @@ use borrow.Author.Tests.{le-leb, leb-true, eq-eqb, ne_eqb, eqb-true, not-false}
 use lib.Dec.{leb, eqb}
 use lib.ListN.{length, take, drop, length-take, length-drop}
 use lib.Seq.{get_or-drop}
+use Rattle.std.specs.Prelude.{Result, Ok, Err}
 use Rattle.bits.specs.Bits.{Bytes}
 use Rattle.bits.proofs.Parts.{bytes-all, bytes_at_lem}
 use Rattle.buffers.specs.Walk.{blocks, AtMost}
@@ -22,8 +23,8 @@ use Rattle.rules.specs.Layout.{part}
 use Rattle.rules.proofs.Cuts.{blocks-same, parts_all, block_part, length_part}
 use Rattle.rules_files.specs.List.{entry_bytes, entry_from, entry_numbers, entry_at, legal_entry, legal_entries, list_head, list_of, frames_in, entry_in, entries_of}
 use Rattle.rules_files.specs.List.{is_marked, judged_list}
-use Rattle.rules_files.specs.declared.list.Judgement.{Judgement}
-use Rattle.rules_files.specs.declared.list.Judgement.TheVariants as found
+use Rattle.rules_files.specs.declared.list.ListFault.{ListFault}
+use Rattle.rules_files.specs.declared.list.ListFault.TheVariants as found
 use Rattle.rules_files.proofs.Entries.{legal-limits, entry_length, entry-back, bytes-part, field_restored, next_field, entry_restored, entry-front}
 use Rattle.rules_files.proofs.Entries.{legal-front, entries-front, entries_at}
 
@@ -72,7 +73,7 @@ module _ (n : ℕ) (entries : List ℕ) where
           ap (blocks (λ i. entry_numbers (entry_in (list_of n entries) i))) list-frames
           ∙ blocks-same _ _ n (λ i h. ap entry_numbers (list_entry_lem i h)) ∙ entries-front n entries room
 
-      pub list-good : judged_list (list_of n entries) ≡ found.Good n
+      pub list-good : judged_list (list_of n entries) ≡ Ok n
       unfolding judged_list
       list-good = rw (list_marked, list-frames, eq-eqb _ _ list_length, list-entries, legal-front n entries, legal)
 
@@ -83,21 +84,21 @@ module _ (list : List ℕ) where
   unfolding is_marked
   marked_long e = leb-true _ _ (and_fst (leb 9 (length list)) _ e)
 
-  pub judged_mark : is_marked list ≡ false → found.BadMark ≡ judged_list list
+  pub judged_mark : is_marked list ≡ false → Err found.BadMark ≡ judged_list list
   unfolding judged_list
   judged_mark e = rw e
 
   module _ (n : ℕ) (e : is_marked list ≡ true) (k : n ≡ frames_in list) where
-    pub judged-length : (length list ≡ 9 + n * 8 → ⊥) → found.BadLength ≡ judged_list list
+    pub judged-length : (length list ≡ 9 + n * 8 → ⊥) → Err found.BadLength ≡ judged_list list
     unfolding judged_list
     judged-length h = rw (e, ← k, ne_eqb _ _ h)
 
     module _ (long : length list ≡ 9 + n * 8) where
-      pub judged-entry : legal_entries n (entries_of list) ≡ false → found.BadEntry n ≡ judged_list list
+      pub judged-entry : legal_entries n (entries_of list) ≡ false → Err (found.BadEntry n) ≡ judged_list list
       unfolding judged_list
       judged-entry h = rw (e, ← k, eq-eqb _ _ long, h)
 
-      pub judged-good : legal_entries n (entries_of list) ≡ true → found.Good n ≡ judged_list list
+      pub judged-good : legal_entries n (entries_of list) ≡ true → Ok n ≡ judged_list list
       unfolding judged_list
       judged-good h = rw (e, ← k, eq-eqb _ _ long, h)
 
@@ -111,26 +112,26 @@ pub record Accepted (list : List ℕ) (n : ℕ) : Type 0 where
   pub legal : legal_entries n (entries_of list) ≡ true
 
 -- two judgements that differ
-differs : {P : Type 0} {a b : Judgement} (place : Judgement → ℕ) → a ≡ b → (place a ≡ place b → ⊥) → P
+differs : {P : Type 0} {a b : Result ℕ ListFault} (place : Result ℕ ListFault → ℕ) → a ≡ b → (place a ≡ place b → ⊥) → P
 differs place e h = absurd (h (ap place e))
 
-abbrev place_of : Judgement → ℕ
-place_of (found.Good n) = 0
-place_of found.BadMark = 19
-place_of found.BadLength = 20
-place_of (found.BadEntry n) = 21
+abbrev place_of : Result ℕ ListFault → ℕ
+place_of (Ok n) = 0
+place_of (Err found.BadMark) = 19
+place_of (Err found.BadLength) = 20
+place_of (Err (found.BadEntry n)) = 21
 
-frames_of : Judgement → ℕ
-frames_of (found.Good n) = n
-frames_of found.BadMark = 0
-frames_of found.BadLength = 0
-frames_of (found.BadEntry n) = n
+frames_of : Result ℕ ListFault → ℕ
+frames_of (Ok n) = n
+frames_of (Err found.BadMark) = 0
+frames_of (Err found.BadLength) = 0
+frames_of (Err (found.BadEntry n)) = n
 
 module _ (list : List ℕ) (n : ℕ) where
-  pub good-accepted : judged_list list ≡ found.Good n → Accepted list n
+  pub good-accepted : judged_list list ≡ Ok n → Accepted list n
   unfolding judged_list frames_of
   good-accepted =
-      let P : Judgement → Type 0 = λ j. j ≡ found.Good n → Accepted list n in
+      let P : Result ℕ ListFault → Type 0 = λ j. j ≡ Ok n → Accepted list n in
       cond_both P (not (is_marked list)) (λ _ e. differs place_of e (λ z. omega arith))
       (λ a. cond_both P (not (eqb (length list) (9 + frames_in list * 8))) (λ _ e. differs place_of e (λ z. omega arith))
       (λ b. cond_both P (not (legal_entries (frames_in list) (entries_of list))) (λ _ e. differs place_of e (λ z. omega arith))
@@ -142,15 +143,15 @@ module _ (list : List ℕ) (n : ℕ) where
         legal = rw k at (not-false (legal_entries (frames_in list) (entries_of list)) c);
       })))
 
-  pub accepted-good : Accepted list n → judged_list list ≡ found.Good n
+  pub accepted-good : Accepted list n → judged_list list ≡ Ok n
   unfolding judged_list
   accepted-good a = rw (a.marked, a.frames, eq-eqb _ _ a.long, a.legal)
 
   -- a list with a bad entry is of the count that is named
-  pub bad-frames : judged_list list ≡ found.BadEntry n → frames_in list ≡ n
+  pub bad-frames : judged_list list ≡ Err (found.BadEntry n) → frames_in list ≡ n
   unfolding judged_list frames_of
   bad-frames =
-      let P : Judgement → Type 0 = λ j. j ≡ found.BadEntry n → frames_in list ≡ n in
+      let P : Result ℕ ListFault → Type 0 = λ j. j ≡ Err (found.BadEntry n) → frames_in list ≡ n in
       cond_both P (not (is_marked list)) (λ _ e. differs place_of e (λ z. omega arith))
       (λ a. cond_both P (not (eqb (length list) (9 + frames_in list * 8))) (λ _ e. differs place_of e (λ z. omega arith))
       (λ b. cond_both P (not (legal_entries (frames_in list) (entries_of list))) (λ _ e. ap frames_of e)

@@ -8,6 +8,7 @@ use borrow.Author.Tests.{leb-true, leb-false, ltb-true, ltb-false}
 use lib.Dec.{leb, ltb}
 use lib.ListN.{length, get_or, take, replicate, get_or-replicate}
 use lib.Seq.{length-take-le, get_or-take}
+use Rattle.std.specs.Prelude.{Option, Some, None}
 use Rattle.buffers.specs.Walk.{build}
 use Rattle.buffers.proofs.Build.{build-of}
 use Rattle.buffers.proofs.Tests.{and_fst, and_snd}
@@ -16,7 +17,6 @@ use Rattle.numbers.proofs.HighFirst.{high-length}
 use Rattle.numbers.proofs.Replaced.{replaced-length, replaced-before, replaced_inside, replaced-after}
 use Rattle.rules.specs.declared.Layout.{Layout}
 use Rattle.rules_files.specs.declared.header.LoopPoints.{LoopPoints}
-use Rattle.rules_files.specs.declared.header.LoopPoints.TheVariants.{Absent, Given}
 use Rattle.rules_files.specs.declared.header.Stream.{Stream}
 use Rattle.rules_files.specs.FileHeader.{Piece, covers, piece_bytes, byte_of, stamped, pieces, pieces_with, header_byte}
 use Rattle.rules_files.specs.FileHeader.{magic_pieces, format_pieces, frame_pieces, band_pieces, loop_pieces, after_loop, tail_pieces}
@@ -87,9 +87,9 @@ module _ (l : Layout) (st : Stream) where
   unfolding pieces within loop_pieces after_loop
   header-within = by_points st.points
     where
-      by_points : (p : LoopPoints) → within 96 (pieces_with l st p) ≡ true
-      by_points Absent = refl
-      by_points (Given start end) = refl
+      by_points : (p : Option LoopPoints) → within 96 (pieces_with l st p) ≡ true
+      by_points None = refl
+      by_points (Some p) = refl
 
   -- over zeros they give the first 94 bytes
   pub header-body : take 94 (stamped (pieces l st) (replicate 96 0)) ≡ build (header_byte l st) 94

@@ -1,5 +1,6 @@
 -- Request A1, **File header**: the 96 bytes in front of the frames, by byte offset; and its writer's whole call.
 use Rattle.std.specs.Prelude.{List, [], ◌∷◌, ◌++◌, Bool, true, false, cond, not, ◌&&◌, ℕ, ◌+◌, ◌-◌, ◌/◌, ◌%◌, ◌≤◌, eqb, leb, ltb, length, get_or}
+use Rattle.std.specs.Prelude.{Option, Some, None, Result, Ok, Err}
 use Rattle.buffers.specs.Walk.{build}
 use Rattle.crc.specs.Sealed.{sealed}
 use Rattle.numbers.specs.Numbers.{high_first, replaced}
@@ -8,11 +9,10 @@ use Rattle.rules.specs.Lent.{overwrite}
 use Rattle.rules.specs.Refusals.{Outcome, delivered, refused}
 use Rattle.rules.specs.declared.Layout.{Layout}
 use Rattle.rules_files.specs.declared.header.LoopPoints.{LoopPoints}
-use Rattle.rules_files.specs.declared.header.LoopPoints.TheVariants.{Absent, Given}
 use Rattle.rules_files.specs.declared.header.LoopFields.{LoopFields}
 use Rattle.rules_files.specs.declared.header.Stream.{Stream}
-use Rattle.rules_files.specs.declared.header.HeaderAnswer.{HeaderAnswer}
-use Rattle.rules_files.specs.declared.header.HeaderAnswer.TheVariants as answers
+use Rattle.rules_files.specs.declared.header.HeaderRefusal.{HeaderRefusal}
+use Rattle.rules_files.specs.declared.header.HeaderRefusal.TheVariants.{BadLayout, ShortBuffer, BadHeader}
 
 abbrev pub header_size : ℕ
 header_size = 96
@@ -184,19 +184,19 @@ abbrev pub field_pieces : (f : LoopFields) → List Piece
 field_pieces f =
     loop_name ∷ start_frame_piece f.start_frame ∷ end_frame_piece f.end_frame ∷ start_delay_piece f.delay ∷ end_padding_piece f.padding ∷ []
 
-unfoldable pub loop_pieces : (points : LoopPoints) → List Piece
-loop_pieces Absent = []
-loop_pieces (Given start end) = field_pieces (loop_fields start end)
+unfoldable pub loop_pieces : (points : Option LoopPoints) → List Piece
+loop_pieces None = []
+loop_pieces (Some p) = field_pieces (loop_fields p.start p.end)
 
-unfoldable pub after_loop : (points : LoopPoints) → ℕ
-after_loop Absent = tail_at false
-after_loop (Given start end) = tail_at true
+unfoldable pub after_loop : (points : Option LoopPoints) → ℕ
+after_loop None = tail_at false
+after_loop (Some p) = tail_at true
 
 -- ciph, type 0, pad\0
 abbrev pub tail_pieces : (at : ℕ) → List Piece
 tail_pieces at = cipher_name at ∷ cipher_piece at ∷ pad_name at ∷ []
 
-abbrev pub pieces_with : (l : Layout) (st : Stream) (points : LoopPoints) → List Piece
+abbrev pub pieces_with : (l : Layout) (st : Stream) (points : Option LoopPoints) → List Piece
 pieces_with l st points =
     magic_pieces ++ (format_pieces l.channels st ++ (frame_pieces l ++ (band_pieces l ++ (loop_pieces points ++ tail_pieces (after_loop points)))))
 
@@ -230,9 +230,9 @@ stamped (p ∷ ps) s = stamped ps (replaced s p.offset (piece_bytes p))
 -- ---- the call
 
 -- every number fits its field, and a loop point its 32 bits after the shift: else refusal 16
-unfoldable pub fits_points : (points : LoopPoints) → Bool
-fits_points Absent = true
-fits_points (Given start end) = leb (start + encoder_delay) 0xFFFFFFFF && leb (end + encoder_delay) 0xFFFFFFFF
+unfoldable pub fits_points : (points : Option LoopPoints) → Bool
+fits_points None = true
+fits_points (Some p) = leb (p.start + encoder_delay) 0xFFFFFFFF && leb (p.end + encoder_delay) 0xFFFFFFFF
 
 unfoldable pub fits_header : (l : Layout) (st : Stream) → Bool
 fits_header l st =
@@ -240,9 +240,12 @@ fits_header l st =
     && (leb st.padding 0xFFFF && fits_points st.points))))
 
 -- the same as facts
-abbrev pub PointsFit : (points : LoopPoints) → Type 0
-PointsFit Absent = Unit {0}
-PointsFit (Given start end) = (start + encoder_delay ≤ 0xFFFFFFFF) × (end + encoder_delay ≤ 0xFFFFFFFF)
+abbrev pub PointFits : (p : LoopPoints) → Type 0
+PointFits p = (p.start + encoder_delay ≤ 0xFFFFFFFF) × (p.end + encoder_delay ≤ 0xFFFFFFFF)
+
+abbrev pub PointsFit : (points : Option LoopPoints) → Type 0
+PointsFit None = Unit {0}
+PointsFit (Some p) = PointFits p
 
 pub record HeaderFits (l : Layout) (st : Stream) : Type 0 where
   pub channels : l.channels ≤ 8
@@ -253,17 +256,17 @@ pub record HeaderFits (l : Layout) (st : Stream) : Type 0 where
   pub points : PointsFit st.points
 
 -- 1, 2, 16 in this order
-unfoldable pub header_outcome : (answer : HeaderAnswer) → Outcome
-header_outcome answers.Delivered = delivered []
-header_outcome answers.BadLayout = refused 1 0
-header_outcome answers.ShortBuffer = refused 2 0
-header_outcome answers.BadHeader = refused 16 0
+unfoldable pub header_outcome : (answer : Result (Unit {0}) HeaderRefusal) → Outcome
+header_outcome (Ok x) = delivered []
+header_outcome (Err BadLayout) = refused 1 0
+header_outcome (Err ShortBuffer) = refused 2 0
+header_outcome (Err BadHeader) = refused 16 0
 
 pub record HeaderLeft : Type 0 where
   pub outcome : Outcome
   pub header : List ℕ
 
-abbrev pub header_left : (answer : HeaderAnswer) (header : List ℕ) → HeaderLeft
+abbrev pub header_left : (answer : Result (Unit {0}) HeaderRefusal) (header : List ℕ) → HeaderLeft
 header_left answer header = record { outcome = header_outcome answer; header = header }
 
 -- what the call answers and leaves, refused ones too: a refusal leaves the buffer, and a longer buffer's rest stays

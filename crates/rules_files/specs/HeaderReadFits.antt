@@ -1,17 +1,22 @@
 -- Request A14: what a header says fits C's numbers; the bounds that the reader promises beside its answer. No rule of the format stands here.
-use Rattle.std.specs.Prelude.{ℕ, ◌<◌}
-use Rattle.rules_files.specs.declared.header.LoopFrames.{LoopFrames}
-use Rattle.rules_files.specs.declared.header.LoopFrames.TheVariants.{Absent, Given}
+use Rattle.std.specs.Prelude.{ℕ, ◌<◌, Option, Some, None, Result, Ok, Err}
+use Rattle.rules_files.specs.declared.header.LoopFields.{LoopFields}
 use Rattle.rules_files.specs.declared.header.FileHeader.{FileHeader}
-use Rattle.rules_files.specs.declared.header.HeaderReadAnswer.{HeaderReadAnswer}
-use Rattle.rules_files.specs.declared.header.HeaderReadAnswer.TheVariants as answers
+use Rattle.rules_files.specs.declared.header.HeaderReadRefusal.{HeaderReadRefusal}
 
 abbrev pub Word : (n : ℕ) → Type 0
 Word n = n < 4294967296
 
-unfoldable pub LoopFits : (loop : LoopFrames) → Type 0
-LoopFits Absent = Unit {0}
-LoopFits (Given frame delay end_frame padding) = Word frame × Word delay × Word end_frame × Word padding
+-- a loop's four numbers
+pub record LoopWords (f : LoopFields) : Type 0 where
+  pub first : Word f.start_frame
+  pub last : Word f.end_frame
+  pub delay : Word f.delay
+  pub padding : Word f.padding
+
+unfoldable pub LoopFits : (loop : Option LoopFields) → Type 0
+LoopFits None = Unit {0}
+LoopFits (Some f) = LoopWords f
 
 pub record FieldsFit (f : FileHeader) : Type 0 where
   pub channels : Word f.channels
@@ -26,10 +31,6 @@ pub record FieldsFit (f : FileHeader) : Type 0 where
   pub padding : Word f.padding
   pub points : LoopFits f.points
 
-unfoldable pub ReadFits : (answer : HeaderReadAnswer) → Type 0
-ReadFits (answers.Read f) = FieldsFit f
-ReadFits answers.ShortBuffer = Unit {0}
-ReadFits answers.WrongCheck = Unit {0}
-ReadFits answers.WrongName = Unit {0}
-ReadFits answers.BadField = Unit {0}
-ReadFits answers.NotZero = Unit {0}
+unfoldable pub ReadFits : (answer : Result FileHeader HeaderReadRefusal) → Type 0
+ReadFits (Ok f) = FieldsFit f
+ReadFits (Err e) = Unit {0}

@@ -1,6 +1,7 @@
 -- Request A14, **Header back in**: what is judged of a header, in whole passes, and its reader's whole call.
 -- Where a number stands is said by the piece that writes it (FileHeader).
 use Rattle.std.specs.Prelude.{List, [], ◌∷◌, Bool, true, cond, not, ◌&&◌, ℕ, ◌+◌, ◌-◌, ◌*◌, eqb, leb, ltb, length, get_or, take, drop}
+use Rattle.std.specs.Prelude.{Option, Some, None, Result, Ok, Err}
 use Rattle.buffers.specs.Walk.{every}
 use Rattle.crc.specs.Sealed.{is_sealed}
 use Rattle.numbers.specs.Numbers.{of_high}
@@ -11,14 +12,11 @@ use Rattle.rules.specs.declared.Layout.{Layout}
 use Rattle.rules.specs.declared.Mode.{Mode}
 use Rattle.rules.specs.declared.Mode.TheVariants.{Rust}
 use Rattle.rules_files.specs.declared.header.LoopPoints.{LoopPoints}
-use Rattle.rules_files.specs.declared.header.LoopPoints.TheVariants as points
 use Rattle.rules_files.specs.declared.header.LoopFields.{LoopFields}
-use Rattle.rules_files.specs.declared.header.LoopFrames.{LoopFrames}
-use Rattle.rules_files.specs.declared.header.LoopFrames.TheVariants.{Absent, Given}
 use Rattle.rules_files.specs.declared.header.Stream.{Stream}
 use Rattle.rules_files.specs.declared.header.FileHeader.{FileHeader}
-use Rattle.rules_files.specs.declared.header.HeaderReadAnswer.{HeaderReadAnswer}
-use Rattle.rules_files.specs.declared.header.HeaderReadAnswer.TheVariants as answers
+use Rattle.rules_files.specs.declared.header.HeaderReadRefusal.{HeaderReadRefusal}
+use Rattle.rules_files.specs.declared.header.HeaderReadRefusal.TheVariants as why
 use Rattle.rules_files.specs.FileHeader.{header_size, body_size, encoder_delay, frame_samples, channel_config, loop_fields, Piece}
 use Rattle.rules_files.specs.FileHeader.{hca_name, version_piece, size_piece, format_name, channels_piece, rate_piece, count_piece, delay_piece, padding_piece}
 use Rattle.rules_files.specs.FileHeader.{compression_name, frame_size_piece, minimum_piece, maximum_piece, track_piece}
@@ -70,9 +68,13 @@ names_right header = all_stand header (name_pieces (tail_of header))
 
 -- ---- 28: fields
 
-unfoldable pub loop_at : (header : List ℕ) → LoopFrames
-loop_at header =
-    Given (field_at header start_frame_piece) (field_at header start_delay_piece) (field_at header end_frame_piece) (field_at header end_padding_piece)
+unfoldable pub loop_at : (header : List ℕ) → LoopFields
+loop_at header = record {
+  start_frame = field_at header start_frame_piece;
+  end_frame = field_at header end_frame_piece;
+  delay = field_at header start_delay_piece;
+  padding = field_at header end_padding_piece;
+}
 
 unfoldable pub fields_of : (header : List ℕ) → FileHeader
 fields_of header = record {
@@ -86,7 +88,7 @@ fields_of header = record {
   rate = field_at header rate_piece;
   frames = field_at header count_piece;
   padding = field_at header padding_piece;
-  points = cond (looped header) (loop_at header) Absent;
+  points = cond (looped header) (Some (loop_at header)) None;
 }
 
 -- the layout that is handed out, with the caller's kinds and mode
@@ -124,10 +126,11 @@ abbrev pub is_moved : (sample : ℕ) → Bool
 is_moved sample = leb encoder_delay sample && leb sample 0xFFFFFFFF
 
 -- the four numbers that the writer gives for some points
-unfoldable pub loop_right : (loop : LoopFrames) → Bool
-loop_right Absent = true
-loop_right (Given frame delay end_frame padding) =
-    ltb delay frame_samples && (ltb padding frame_samples && (is_moved (moved_start frame delay) && is_moved (moved_end end_frame padding)))
+unfoldable pub loop_right : (loop : Option LoopFields) → Bool
+loop_right None = true
+loop_right (Some f) =
+    ltb f.delay frame_samples
+    && (ltb f.padding frame_samples && (is_moved (moved_start f.start_frame f.delay) && is_moved (moved_end f.end_frame f.padding)))
 
 unfoldable pub fields_right : (header : List ℕ) → Bool
 fields_right header =
@@ -142,22 +145,22 @@ rest_zero header = zero_bytes header (behind (per_group_piece 0)) loop_name.offs
 -- ---- the points back
 
 -- start and end in samples of the input; none for four numbers that the writer gives for no points
-unfoldable pub points_back : (loop : LoopFrames) → LoopPoints
-points_back Absent = points.Absent
-points_back (Given frame delay end_frame padding) =
-    cond (loop_right (Given frame delay end_frame padding))
-    (points.Given (moved_start frame delay - encoder_delay) (moved_end end_frame padding - encoder_delay)) points.Absent
+unfoldable pub start_and_end : (f : LoopFields) → LoopPoints
+start_and_end f =
+    record { start = moved_start f.start_frame f.delay - encoder_delay; end = moved_end f.end_frame f.padding - encoder_delay }
+
+unfoldable pub points_back : (loop : Option LoopFields) → Option LoopPoints
+points_back None = None
+points_back (Some f) = cond (loop_right (Some f)) (Some (start_and_end f)) None
 
 abbrev pub stream_back : (f : FileHeader) → Stream
 stream_back f = record { rate = f.rate; frames = f.frames; padding = f.padding; points = points_back f.points }
 
 -- ---- what the writer's input is read as
 
-unfoldable pub loop_frames : (points : LoopPoints) → LoopFrames
-loop_frames points.Absent = Absent
-loop_frames (points.Given start end) =
-    let f = loop_fields start end in
-    Given f.start_frame f.delay f.end_frame f.padding
+unfoldable pub loop_frames : (points : Option LoopPoints) → Option LoopFields
+loop_frames None = None
+loop_frames (Some p) = Some (loop_fields p.start p.end)
 
 abbrev pub fields_for : (l : Layout) (st : Stream) → FileHeader
 fields_for l st = record {
@@ -177,43 +180,39 @@ fields_for l st = record {
 -- ---- the call
 
 -- of 96 bytes: 26, 27, 28, 29 in this order
-unfoldable pub exact_read : (header : List ℕ) → HeaderReadAnswer
+unfoldable pub exact_read : (header : List ℕ) → Result FileHeader HeaderReadRefusal
 exact_read header =
-    cond (not (is_sealed header)) answers.WrongCheck
-    (cond (not (names_right header)) answers.WrongName
-    (cond (not (fields_right header)) answers.BadField
-    (cond (not (rest_zero header)) answers.NotZero (answers.Read (fields_of header)))))
+    cond (not (is_sealed header)) (Err why.WrongCheck)
+    (cond (not (names_right header)) (Err why.WrongName)
+    (cond (not (fields_right header)) (Err why.BadField)
+    (cond (not (rest_zero header)) (Err why.NotZero) (Ok (fields_of header)))))
 
 -- 2 first; what stands behind 96 bytes is not looked at
-unfoldable pub read_header : (header : List ℕ) → HeaderReadAnswer
-read_header header = cond (ltb (length header) header_size) answers.ShortBuffer (exact_read (take header_size header))
+unfoldable pub read_header : (header : List ℕ) → Result FileHeader HeaderReadRefusal
+read_header header = cond (ltb (length header) header_size) (Err why.ShortBuffer) (exact_read (take header_size header))
 
 -- ---- an answer as numbers
 
 -- loop or none, frame, delay, end frame, padding
-unfoldable pub loop_numbers : (loop : LoopFrames) → List ℕ
-loop_numbers Absent = 0 ∷ 0 ∷ 0 ∷ 0 ∷ 0 ∷ []
-loop_numbers (Given frame delay end_frame padding) = 1 ∷ frame ∷ delay ∷ end_frame ∷ padding ∷ []
+unfoldable pub loop_numbers : (loop : Option LoopFields) → List ℕ
+loop_numbers None = 0 ∷ 0 ∷ 0 ∷ 0 ∷ 0 ∷ []
+loop_numbers (Some f) = 1 ∷ f.start_frame ∷ f.delay ∷ f.end_frame ∷ f.padding ∷ []
 
 abbrev pub stream_numbers : (f : FileHeader) → List ℕ
 stream_numbers f = f.rate ∷ f.frames ∷ f.padding ∷ loop_numbers f.points
 
-unfoldable pub header_read_outcome : (answer : HeaderReadAnswer) → Outcome
-header_read_outcome (answers.Read f) = delivered (stream_numbers f)
-header_read_outcome answers.ShortBuffer = refused 2 0
-header_read_outcome answers.WrongCheck = refused 26 0
-header_read_outcome answers.WrongName = refused 27 0
-header_read_outcome answers.BadField = refused 28 0
-header_read_outcome answers.NotZero = refused 29 0
+unfoldable pub header_read_outcome : (answer : Result FileHeader HeaderReadRefusal) → Outcome
+header_read_outcome (Ok f) = delivered (stream_numbers f)
+header_read_outcome (Err why.ShortBuffer) = refused 2 0
+header_read_outcome (Err why.WrongCheck) = refused 26 0
+header_read_outcome (Err why.WrongName) = refused 27 0
+header_read_outcome (Err why.BadField) = refused 28 0
+header_read_outcome (Err why.NotZero) = refused 29 0
 
 -- the layout's seven numbers, none beside a refusal
 abbrev pub layout_numbers : (f : FileHeader) → List ℕ
 layout_numbers f = f.channels ∷ f.base ∷ f.stereo ∷ f.total ∷ f.frame_size ∷ f.minimum ∷ f.maximum ∷ []
 
-unfoldable pub header_layout : (answer : HeaderReadAnswer) → List ℕ
-header_layout (answers.Read f) = layout_numbers f
-header_layout answers.ShortBuffer = []
-header_layout answers.WrongCheck = []
-header_layout answers.WrongName = []
-header_layout answers.BadField = []
-header_layout answers.NotZero = []
+unfoldable pub header_layout : (answer : Result FileHeader HeaderReadRefusal) → List ℕ
+header_layout (Ok f) = layout_numbers f
+header_layout (Err e) = []

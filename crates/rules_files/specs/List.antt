@@ -1,5 +1,6 @@
 -- Request A7, **List beside the bank**: its bytes, and each of its four calls whole, refused ones too.
 use Rattle.std.specs.Prelude.{List, [], ◌∷◌, ◌++◌, Bool, cond, not, ◌&&◌, ℕ, zero, suc, ◌+◌, ◌*◌, max, leb, ltb, eqb, length, get_or, take, drop}
+use Rattle.std.specs.Prelude.{Result, Ok, Err}
 use Rattle.buffers.specs.Walk.{sum_to, blocks, every}
 use Rattle.numbers.specs.Numbers.{high_first, of_high}
 use Rattle.rules.specs.Layout.{part}
@@ -7,16 +8,16 @@ use Rattle.rules.specs.Lent.{overwrite}
 use Rattle.rules.specs.Refusals.{Outcome, delivered, refused}
 use Rattle.rules_files.specs.declared.list.Entry.{Entry}
 use Rattle.rules_files.specs.declared.list.Summary.{Summary}
-use Rattle.rules_files.specs.declared.list.Judgement.{Judgement}
-use Rattle.rules_files.specs.declared.list.Judgement.TheVariants as found
-use Rattle.rules_files.specs.declared.list.ListWritten.{ListWritten}
-use Rattle.rules_files.specs.declared.list.ListWritten.TheVariants as write
-use Rattle.rules_files.specs.declared.list.ListAnswer.{ListAnswer}
-use Rattle.rules_files.specs.declared.list.ListAnswer.TheVariants as read
-use Rattle.rules_files.specs.declared.list.EntryAnswer.{EntryAnswer}
-use Rattle.rules_files.specs.declared.list.EntryAnswer.TheVariants as look
-use Rattle.rules_files.specs.declared.list.SummaryAnswer.{SummaryAnswer}
-use Rattle.rules_files.specs.declared.list.SummaryAnswer.TheVariants as sum
+use Rattle.rules_files.specs.declared.list.ListFault.{ListFault}
+use Rattle.rules_files.specs.declared.list.ListFault.TheVariants as found
+use Rattle.rules_files.specs.declared.list.ListWriteRefusal.{ListWriteRefusal}
+use Rattle.rules_files.specs.declared.list.ListWriteRefusal.TheVariants as write
+use Rattle.rules_files.specs.declared.list.ListReadRefusal.{ListReadRefusal}
+use Rattle.rules_files.specs.declared.list.ListReadRefusal.TheVariants as read
+use Rattle.rules_files.specs.declared.list.EntryRefusal.{EntryRefusal}
+use Rattle.rules_files.specs.declared.list.EntryRefusal.TheVariants as look
+use Rattle.rules_files.specs.declared.list.SummaryRefusal.{SummaryRefusal}
+use Rattle.rules_files.specs.declared.list.SummaryRefusal.TheVariants as sum
 
 -- AN ENTRY: level (16 bits), boundary (8), pairs removed (8) and bits written (32), high byte first
 unfoldable pub entry_bytes : (entry : Entry) → List ℕ
@@ -73,11 +74,11 @@ unfoldable pub is_marked : (list : List ℕ) → Bool
 is_marked list = leb 9 (length list) && (eqb (of_high (take 3 list)) 0x564649 && eqb (of_high (take 2 (drop 3 list))) 1)
 
 -- 19, then 20: a length that does not match the count; then 21
-unfoldable pub judged_list : (list : List ℕ) → Judgement
+unfoldable pub judged_list : (list : List ℕ) → Result ℕ ListFault
 judged_list list =
-    cond (not (is_marked list)) found.BadMark
-    (cond (not (eqb (length list) (9 + frames_in list * 8))) found.BadLength
-    (cond (not (legal_entries (frames_in list) (entries_of list))) (found.BadEntry (frames_in list)) (found.Good (frames_in list))))
+    cond (not (is_marked list)) (Err found.BadMark)
+    (cond (not (eqb (length list) (9 + frames_in list * 8))) (Err found.BadLength)
+    (cond (not (legal_entries (frames_in list) (entries_of list))) (Err (found.BadEntry (frames_in list))) (Ok (frames_in list))))
 
 -- THE SUMMARY: the highest level, the most pairs, the total of bits, each from 0
 unfoldable pub max_to : (f : ℕ → ℕ) (n : ℕ) → ℕ
@@ -94,42 +95,59 @@ summary_of frames entries = record {
 abbrev pub summary_numbers : (s : Summary) → List ℕ
 summary_numbers s = s.level ∷ s.pairs ∷ s.bits ∷ []
 
+-- WHAT A FAULT IS TO A CALL THAT REFUSES FOR IT
+-- the reader has so many places: where the count is known, 2 comes first
+abbrev pub read_refusal_of : (fault : ListFault) (places : ℕ) → ListReadRefusal
+read_refusal_of found.BadMark places = read.BadMark
+read_refusal_of found.BadLength places = read.BadLength
+read_refusal_of (found.BadEntry n) places = cond (ltb places (n * 4)) read.ShortBuffer read.BadEntry
+
+abbrev pub entry_refusal_of : (fault : ListFault) → EntryRefusal
+entry_refusal_of found.BadMark = look.BadMark
+entry_refusal_of found.BadLength = look.BadLength
+entry_refusal_of (found.BadEntry n) = look.BadEntry
+
+abbrev pub summary_refusal_of : (fault : ListFault) → SummaryRefusal
+summary_refusal_of found.BadMark = sum.BadMark
+summary_refusal_of found.BadLength = sum.BadLength
+summary_refusal_of (found.BadEntry n) = sum.BadEntry
+
 -- THE NUMBERS OF EACH ANSWER
 -- the writer: 2, 21
-unfoldable pub list_written_outcome : (answer : ListWritten) → Outcome
-list_written_outcome write.Delivered = delivered []
-list_written_outcome write.ShortBuffer = refused 2 0
-list_written_outcome write.BadEntry = refused 21 0
+unfoldable pub list_written_outcome : (answer : Result (Unit {0}) ListWriteRefusal) → Outcome
+list_written_outcome (Ok x) = delivered []
+list_written_outcome (Err write.ShortBuffer) = refused 2 0
+list_written_outcome (Err write.BadEntry) = refused 21 0
 
 -- the reader: 19, 20, 2, 21
-unfoldable pub list_read_outcome : (answer : ListAnswer) → Outcome
-list_read_outcome (read.Delivered frames) = delivered (frames ∷ [])
-list_read_outcome read.ShortBuffer = refused 2 0
-list_read_outcome read.BadMark = refused 19 0
-list_read_outcome read.BadLength = refused 20 0
-list_read_outcome read.BadEntry = refused 21 0
+unfoldable pub list_read_outcome : (answer : Result ℕ ListReadRefusal) → Outcome
+list_read_outcome (Ok frames) = delivered (frames ∷ [])
+list_read_outcome (Err read.ShortBuffer) = refused 2 0
+list_read_outcome (Err read.BadMark) = refused 19 0
+list_read_outcome (Err read.BadLength) = refused 20 0
+list_read_outcome (Err read.BadEntry) = refused 21 0
 
 -- the lookup: 19, 20, 21, 31
-unfoldable pub entry_outcome : (answer : EntryAnswer) → Outcome
-entry_outcome (look.Found entry) = delivered (entry_numbers entry)
-entry_outcome look.BadMark = refused 19 0
-entry_outcome look.BadLength = refused 20 0
-entry_outcome look.BadEntry = refused 21 0
-entry_outcome look.NoFrame = refused 31 0
+unfoldable pub entry_outcome : (answer : Result Entry EntryRefusal) → Outcome
+entry_outcome (Ok entry) = delivered (entry_numbers entry)
+entry_outcome (Err look.BadMark) = refused 19 0
+entry_outcome (Err look.BadLength) = refused 20 0
+entry_outcome (Err look.BadEntry) = refused 21 0
+entry_outcome (Err look.NoFrame) = refused 31 0
 
 -- the summary: 19, 20, 21
-unfoldable pub summary_outcome : (answer : SummaryAnswer) → Outcome
-summary_outcome (sum.Summed s) = delivered (summary_numbers s)
-summary_outcome sum.BadMark = refused 19 0
-summary_outcome sum.BadLength = refused 20 0
-summary_outcome sum.BadEntry = refused 21 0
+unfoldable pub summary_outcome : (answer : Result Summary SummaryRefusal) → Outcome
+summary_outcome (Ok s) = delivered (summary_numbers s)
+summary_outcome (Err sum.BadMark) = refused 19 0
+summary_outcome (Err sum.BadLength) = refused 20 0
+summary_outcome (Err sum.BadEntry) = refused 21 0
 
 -- EACH CALL WHOLE: its answer, and what is left in a lent buffer. A refusal changes nothing.
 pub record ListLeft : Type 0 where
   pub outcome : Outcome
   pub list : List ℕ
 
-abbrev pub list_left : (answer : ListWritten) (list : List ℕ) → ListLeft
+abbrev pub list_left : (answer : Result (Unit {0}) ListWriteRefusal) (list : List ℕ) → ListLeft
 list_left answer list = record { outcome = list_written_outcome answer; list = list }
 
 -- the writer: 2 for the numbers, 2 for the bytes, 21
@@ -144,15 +162,15 @@ pub record EntriesLeft : Type 0 where
   pub outcome : Outcome
   pub entries : List ℕ
 
-abbrev pub entries_left : (answer : ListAnswer) (entries : List ℕ) → EntriesLeft
+abbrev pub entries_left : (answer : Result ℕ ListReadRefusal) (entries : List ℕ) → EntriesLeft
 entries_left answer entries = record { outcome = list_read_outcome answer; entries = entries }
 
 -- the reader: 2 stands between 20, where the count is known, and 21
-unfoldable pub read_list_as : (judgement : Judgement) (list entries : List ℕ) → EntriesLeft
-read_list_as found.BadMark list entries = record { outcome = refused 19 0; entries = entries }
-read_list_as found.BadLength list entries = record { outcome = refused 20 0; entries = entries }
-read_list_as (found.BadEntry n) list entries = record { outcome = cond (ltb (length entries) (n * 4)) (refused 2 0) (refused 21 0); entries = entries }
-read_list_as (found.Good n) list entries =
+unfoldable pub read_list_as : (judgement : Result ℕ ListFault) (list entries : List ℕ) → EntriesLeft
+read_list_as (Err found.BadMark) list entries = record { outcome = refused 19 0; entries = entries }
+read_list_as (Err found.BadLength) list entries = record { outcome = refused 20 0; entries = entries }
+read_list_as (Err (found.BadEntry n)) list entries = record { outcome = cond (ltb (length entries) (n * 4)) (refused 2 0) (refused 21 0); entries = entries }
+read_list_as (Ok n) list entries =
     cond (ltb (length entries) (n * 4)) (record { outcome = refused 2 0; entries = entries })
     (record { outcome = delivered (n ∷ []); entries = overwrite (entries_of list) entries })
 
@@ -160,20 +178,20 @@ unfoldable pub read_list : (list entries : List ℕ) → EntriesLeft
 read_list list entries = read_list_as (judged_list list) list entries
 
 -- the lookup: 31 comes after the whole list was judged
-unfoldable pub list_entry_as : (judgement : Judgement) (list : List ℕ) (frame : ℕ) → Outcome
-list_entry_as found.BadMark list frame = refused 19 0
-list_entry_as found.BadLength list frame = refused 20 0
-list_entry_as (found.BadEntry n) list frame = refused 21 0
-list_entry_as (found.Good n) list frame = cond (ltb frame n) (delivered (entry_numbers (entry_in list frame))) (refused 31 0)
+unfoldable pub list_entry_as : (judgement : Result ℕ ListFault) (list : List ℕ) (frame : ℕ) → Outcome
+list_entry_as (Err found.BadMark) list frame = refused 19 0
+list_entry_as (Err found.BadLength) list frame = refused 20 0
+list_entry_as (Err (found.BadEntry n)) list frame = refused 21 0
+list_entry_as (Ok n) list frame = cond (ltb frame n) (delivered (entry_numbers (entry_in list frame))) (refused 31 0)
 
 unfoldable pub list_entry : (list : List ℕ) (frame : ℕ) → Outcome
 list_entry list frame = list_entry_as (judged_list list) list frame
 
-unfoldable pub list_summary_as : (judgement : Judgement) (list : List ℕ) → Outcome
-list_summary_as found.BadMark list = refused 19 0
-list_summary_as found.BadLength list = refused 20 0
-list_summary_as (found.BadEntry n) list = refused 21 0
-list_summary_as (found.Good n) list = delivered (summary_numbers (summary_of n (entries_of list)))
+unfoldable pub list_summary_as : (judgement : Result ℕ ListFault) (list : List ℕ) → Outcome
+list_summary_as (Err found.BadMark) list = refused 19 0
+list_summary_as (Err found.BadLength) list = refused 20 0
+list_summary_as (Err (found.BadEntry n)) list = refused 21 0
+list_summary_as (Ok n) list = delivered (summary_numbers (summary_of n (entries_of list)))
 
 unfoldable pub list_summary : (list : List ℕ) → Outcome
 list_summary list = list_summary_as (judged_list list) list

@@ -1,6 +1,7 @@
 -- Request A13, **WAV in**: the walk over the chunks, the samples' exact values, the level note, and the whole call. Numbers stand low byte first.
 use mathlib.Core.List.{List, [], ◌∷◌, foldl}
 use Rattle.std.specs.Prelude.{Bool, true, false, cond, not, ◌&&◌, ◌||◌, ℕ, zero, suc, ◌+◌, ◌-◌, ◌*◌, ◌/◌, ◌%◌, ◌^◌, ◌≤◌, ◌<◌, min, eqb, leb, ltb, ℤ, pos, negsuc, neg_ℤ, length, take, drop, Float}
+use Rattle.std.specs.Prelude.{Option, Some, None, Result, Ok, Err}
 use Rattle.std.specs.Float.{binary32}
 use Rattle.std.specs.Float.Ieee.{odd, of_bits}
 use Rattle.std.specs.Float.Ieee.Scale.{finite}
@@ -11,11 +12,10 @@ use Rattle.rules.specs.Lent.{overwrite}
 use Rattle.rules.specs.Refusals.{Outcome, delivered, refused}
 use Rattle.rules_files.specs.declared.wav.WavFormat.{WavFormat}
 use Rattle.rules_files.specs.declared.wav.WavData.{WavData}
-use Rattle.rules_files.specs.declared.wav.WavWalk.{WavWalk}
-use Rattle.rules_files.specs.declared.wav.WavWalk.TheVariants as at_end
 use Rattle.rules_files.specs.declared.wav.LevelNote.{LevelNote}
-use Rattle.rules_files.specs.declared.wav.WavAnswer.{WavAnswer}
-use Rattle.rules_files.specs.declared.wav.WavAnswer.TheVariants as wav-of
+use Rattle.rules_files.specs.declared.wav.Take.{Take}
+use Rattle.rules_files.specs.declared.wav.WavRefusal.{WavRefusal}
+use Rattle.rules_files.specs.declared.wav.WavRefusal.TheVariants.{NotWave, NoData, BadDepth, TooMany, ShortBuffer, NotFinite}
 
 -- ---- The walk
 
@@ -68,16 +68,16 @@ next_chunk wav at = at + 8 + chunk_size wav at + chunk_size wav at % 2
 
 -- from at on, with the format so far. Under 8 bytes end the walk; it stops at data, whatever its size; another chunk whose size runs past the file
 -- ends it. A turn passes 8 bytes or more, so as many turns as bytes are enough.
-unfoldable pub walk_chunks : (wav : List ℕ) (turns at : ℕ) (f : WavFormat) → WavWalk
-walk_chunks wav zero at f = at_end.Ended
+unfoldable pub walk_chunks : (wav : List ℕ) (turns at : ℕ) (f : WavFormat) → Option WavData
+walk_chunks wav zero at f = None
 walk_chunks wav (suc n) at f =
     let further = walk_chunks wav n (next_chunk wav at) (format_after wav (chunk_name wav at) (chunk_size wav at) (at + 8) f) in
-    cond (ltb (length wav) (at + 8)) at_end.Ended
-    (cond (eqb (chunk_name wav at) data_name) (at_end.Found (record { format = f; body = at + 8; size = chunk_size wav at }))
-    (cond (ltb (length wav - (at + 8)) (chunk_size wav at)) at_end.Ended further))
+    cond (ltb (length wav) (at + 8)) None
+    (cond (eqb (chunk_name wav at) data_name) (Some (record { format = f; body = at + 8; size = chunk_size wav at }))
+    (cond (ltb (length wav - (at + 8)) (chunk_size wav at)) None further))
 
 -- from the first chunk on
-abbrev pub walked : (wav : List ℕ) → WavWalk
+abbrev pub walked : (wav : List ℕ) → Option WavData
 walked wav = walk_chunks wav (length wav) 12 default_format
 
 -- ---- The samples
@@ -126,31 +126,26 @@ note_of samples = record { peak = foldl max_abs zero_f samples; mean = mean (fol
 -- ---- The whole call
 
 -- 22, 23, 24, 30, 2, 25 in this order
-unfoldable pub wav_outcome : (answer : WavAnswer) → Outcome
-wav_outcome (wav-of.Taken t) = delivered (t.channels ∷ t.rate ∷ t.depth ∷ t.count ∷ [])
-wav_outcome wav-of.NotWave = refused 22 0
-wav_outcome wav-of.NoData = refused 23 0
-wav_outcome wav-of.BadDepth = refused 24 0
-wav_outcome wav-of.TooMany = refused 30 0
-wav_outcome wav-of.ShortBuffer = refused 2 0
-wav_outcome wav-of.NotFinite = refused 25 0
+unfoldable pub wav_outcome : (answer : Result Take WavRefusal) → Outcome
+wav_outcome (Ok t) = delivered (t.channels ∷ t.rate ∷ t.depth ∷ t.count ∷ [])
+wav_outcome (Err NotWave) = refused 22 0
+wav_outcome (Err NoData) = refused 23 0
+wav_outcome (Err BadDepth) = refused 24 0
+wav_outcome (Err TooMany) = refused 30 0
+wav_outcome (Err ShortBuffer) = refused 2 0
+wav_outcome (Err NotFinite) = refused 25 0
 
 -- the note of a take, none beside a refusal
-unfoldable pub wav_note : (answer : WavAnswer) → List Float
-wav_note (wav-of.Taken t) = t.note.peak ∷ t.note.mean ∷ []
-wav_note wav-of.NotWave = []
-wav_note wav-of.NoData = []
-wav_note wav-of.BadDepth = []
-wav_note wav-of.TooMany = []
-wav_note wav-of.ShortBuffer = []
-wav_note wav-of.NotFinite = []
+unfoldable pub wav_note : (answer : Result Take WavRefusal) → List Float
+wav_note (Ok t) = t.note.peak ∷ t.note.mean ∷ []
+wav_note (Err e) = []
 
 pub record WavLeft : Type 0 where
   pub outcome : Outcome
   pub note : List Float
   pub samples : List Float
 
-abbrev pub wav_left : (answer : WavAnswer) (samples : List Float) → WavLeft
+abbrev pub wav_left : (answer : Result Take WavRefusal) (samples : List Float) → WavLeft
 wav_left answer samples = record { outcome = wav_outcome answer; note = wav_note answer; samples = samples }
 
 -- a refusal changes nothing, and 0 stands beside it
@@ -174,9 +169,9 @@ data_read wav d samples =
     (cond (not (all_finite wav d.format.depth d.body (whole_samples wav d))) (wav_refused 25 samples)
     (wav_taken wav d samples)))))
 
-unfoldable pub walk_read : (wav : List ℕ) (end : WavWalk) (samples : List Float) → WavLeft
-walk_read wav (at_end.Found d) samples = data_read wav d samples
-walk_read wav at_end.Ended samples = wav_refused 23 samples
+unfoldable pub walk_read : (wav : List ℕ) (end : Option WavData) (samples : List Float) → WavLeft
+walk_read wav (Some d) samples = data_read wav d samples
+walk_read wav None samples = wav_refused 23 samples
 
 unfoldable pub read_wav : (wav : List ℕ) (samples : List Float) → WavLeft
 read_wav wav samples = cond (not (is_wave wav)) (wav_refused 22 samples) (walk_read wav (walked wav) samples)

@@ -1,23 +1,23 @@
 // What the file header is made from, and what its writer and its reader answer.
 
-// A loop's start and end in samples of the input, before the delay is added; or none.
-#[derive(Clone, Copy)]
-pub enum LoopPoints {
-    Absent,
-    Given(u64, u64),
+// A loop's start and end in samples of the input, before the delay is added.
+#[derive(Clone, Copy, Debug, PartialEq, Eq)]
+pub struct LoopPoints {
+    pub start: u64,
+    pub end: u64,
 }
 
-// A stream: samples a second, frames, samples of padding behind the last one, and the loop.
-#[derive(Clone, Copy)]
+// A stream: samples a second, frames, samples of padding behind the last one, and the loop, where there is one.
+#[derive(Clone, Copy, Debug, PartialEq, Eq)]
 pub struct Stream {
     pub rate: u64,
     pub frames: u64,
     pub padding: u64,
-    pub points: LoopPoints,
+    pub points: Option<LoopPoints>,
 }
 
 // A loop as the header has it: its first and last frame, the samples before it in the first, those behind it in the last.
-#[derive(Clone, Copy)]
+#[derive(Clone, Copy, Debug, PartialEq, Eq)]
 pub struct LoopFields {
     pub start_frame: u64,
     pub end_frame: u64,
@@ -25,23 +25,16 @@ pub struct LoopFields {
     pub padding: u64,
 }
 
-#[derive(Clone, Copy)]
-pub enum HeaderAnswer {
-    Delivered,
+// Why no header was written.
+#[derive(Clone, Copy, Debug, PartialEq, Eq)]
+pub enum HeaderRefusal {
     BadLayout,
     ShortBuffer,
     BadHeader,
 }
 
-// A loop as the header's reader hands it out: frame, delay, end frame, padding. This is not the order of the bytes.
-#[derive(Clone, Copy)]
-pub enum LoopFrames {
-    Absent,
-    Given(u64, u64, u64, u64),
-}
-
 // What a header says: the layout without its kinds, and the stream with the loop as it stands there.
-#[derive(Clone, Copy)]
+#[derive(Clone, Copy, Debug, PartialEq, Eq)]
 pub struct FileHeader {
     pub channels: usize,
     pub base: usize,
@@ -53,13 +46,12 @@ pub struct FileHeader {
     pub rate: u64,
     pub frames: u64,
     pub padding: u64,
-    pub points: LoopFrames,
+    pub points: Option<LoopFields>,
 }
 
-// What the header's reader answers: the fields, or a refusal.
-#[derive(Clone, Copy)]
-pub enum HeaderReadAnswer {
-    Read(FileHeader),
+// Why bytes are no header.
+#[derive(Clone, Copy, Debug, PartialEq, Eq)]
+pub enum HeaderReadRefusal {
     ShortBuffer,
     WrongCheck,
     WrongName,

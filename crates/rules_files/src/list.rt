@@ -1,7 +1,9 @@
-// Request A7, the list beside the bank: what its calls answer.
+// Request A7, the list beside the bank: what its calls answer, and why they refuse.
+ghost use Rattle.std.specs.Prelude.{◌≡◌};
+ghost use Rattle.rules_files.specs.List.{entry_refusal_of, summary_refusal_of};
 
 // One frame's numbers: level, boundary, pairs removed and bits written.
-#[derive(Clone, Copy)]
+#[derive(Clone, Copy, Debug, PartialEq, Eq)]
 pub struct Entry {
     pub level: u32,
     pub boundary: u32,
@@ -10,55 +12,74 @@ pub struct Entry {
 }
 
 // The highest level, the most pairs and the total of bits.
-#[derive(Clone, Copy)]
+#[derive(Clone, Copy, Debug, PartialEq, Eq)]
 pub struct Summary {
     pub level: u64,
     pub pairs: u64,
     pub bits: u64,
 }
 
-// What a look at the whole list finds: how many frames a good one has, or what is wrong with it. A bad entry is one of so many frames.
-#[derive(Clone, Copy)]
-pub enum Judgement {
-    Good(usize),
+// What a look at the whole list finds wrong with it. A bad entry is one of so many frames.
+#[derive(Clone, Copy, Debug, PartialEq, Eq)]
+pub enum ListFault {
     BadMark,
     BadLength,
     BadEntry(usize),
 }
 
-// What the list's writer answers.
-#[derive(Clone, Copy)]
-pub enum ListWritten {
-    Delivered,
+// Why no list was written.
+#[derive(Clone, Copy, Debug, PartialEq, Eq)]
+pub enum ListWriteRefusal {
     ShortBuffer,
     BadEntry,
 }
 
-// What the list's reader answers: how many frames, or a refusal.
-#[derive(Clone, Copy)]
-pub enum ListAnswer {
-    Delivered(usize),
+// Why no list was read.
+#[derive(Clone, Copy, Debug, PartialEq, Eq)]
+pub enum ListReadRefusal {
     ShortBuffer,
     BadMark,
     BadLength,
     BadEntry,
 }
 
-// What the lookup by frame number answers.
-#[derive(Clone, Copy)]
-pub enum EntryAnswer {
-    Found(Entry),
+// Why no entry was looked up.
+#[derive(Clone, Copy, Debug, PartialEq, Eq)]
+pub enum EntryRefusal {
     BadMark,
     BadLength,
     BadEntry,
     NoFrame,
 }
 
-// What the summary answers.
-#[derive(Clone, Copy)]
-pub enum SummaryAnswer {
-    Summed(Summary),
+// Why a list has no summary.
+#[derive(Clone, Copy, Debug, PartialEq, Eq)]
+pub enum SummaryRefusal {
     BadMark,
     BadLength,
     BadEntry,
+}
+
+impl From<ListFault> for EntryRefusal {
+    ghost from_gives = { λ fault refusal. refusal ≡ entry_refusal_of fault };
+
+    fn from(fault: ListFault) -> EntryRefusal {
+        match fault {
+            ListFault::BadMark => EntryRefusal::BadMark,
+            ListFault::BadLength => EntryRefusal::BadLength,
+            ListFault::BadEntry(_) => EntryRefusal::BadEntry,
+        }
+    }
+}
+
+impl From<ListFault> for SummaryRefusal {
+    ghost from_gives = { λ fault refusal. refusal ≡ summary_refusal_of fault };
+
+    fn from(fault: ListFault) -> SummaryRefusal {
+        match fault {
+            ListFault::BadMark => SummaryRefusal::BadMark,
+            ListFault::BadLength => SummaryRefusal::BadLength,
+            ListFault::BadEntry(_) => SummaryRefusal::BadEntry,
+        }
+    }
 }

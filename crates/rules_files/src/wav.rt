@@ -1,7 +1,7 @@
 // A take from its WAV file: request A13.
 
 // What a `fmt ` chunk says.
-#[derive(Clone, Copy)]
+#[derive(Clone, Copy, Debug, PartialEq, Eq)]
 pub struct WavFormat {
     pub channels: usize,
     pub rate: usize,
@@ -9,18 +9,11 @@ pub struct WavFormat {
 }
 
 // The data chunk: the format that holds there, where its body begins, and its size field.
-#[derive(Clone, Copy)]
+#[derive(Clone, Copy, Debug, PartialEq, Eq)]
 pub struct WavData {
     pub format: WavFormat,
     pub body: usize,
     pub size: usize,
-}
-
-// Where the walk over the chunks came to.
-#[derive(Clone, Copy)]
-pub enum WavWalk {
-    Found(WavData),
-    Ended,
 }
 
 // Peak and mean magnitude of a take's samples.
@@ -39,10 +32,9 @@ pub struct Take {
     pub note: LevelNote,
 }
 
-// What the WAV reader answers: the take, or a refusal.
-#[derive(Clone, Copy)]
-pub enum WavAnswer {
-    Taken(Take),
+// Why no take was read.
+#[derive(Clone, Copy, Debug, PartialEq, Eq)]
+pub enum WavRefusal {
     NotWave,
     NoData,
     BadDepth,

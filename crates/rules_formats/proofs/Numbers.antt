@@ -6,13 +6,14 @@ use mathlib.Core.Bool.{Bool, true, false, cond}
 use Prim.Native.Nat.{ℕ, ◌*◌, ◌^◌, ◌≤◌, ◌<◌}
 use native.Mathlib.Omega.{arith}
 use borrow.Author.Tests.{le-leb, lt-leb}
+use Rattle.std.specs.Prelude.{Ok, Err}
 use lib.ListN.{length, take, drop, length-append, take-append-drop}
 use lib.Seq.{take_at, drop_at, length-take-le}
 use lib.Dec.{T, leb, eqb, leb→le, nleb→lt, eqb→eq, eqb_refl}
 use Rattle.bits.specs.Bits.{bits, value}
 use Rattle.bits.specs.Place.{left_at, field_at}
 use Rattle.bits.specs.declared.Place.{Place}
-use Rattle.bits.specs.declared.Field.TheVariants.{Of, Past}
+use Rattle.bits.specs.declared.PastEnd.{PastEnd}
 use Rattle.bits.proofs.Numbers.{length-bits, value-back, value-lt, bits-value}
 use Rattle.bits.proofs.Fields.{length-left, got, past}
 use Rattle.rules.specs.Format.{ok, bad, number, Lawful}
@@ -48,9 +49,9 @@ number_fits k = record {
 
 -- what a field read at a place of bytes says of the number there
 module _ (s : List ℕ) (p n : ℕ) where
-  pub number_got : {v : ℕ} {q : Place} → field_at s p n ≡ Of v q → number n (left_at s p) ≡ ok v (left_at s q.at)
+  pub number_got : {v : ℕ} {q : Place} → field_at s p n ≡ Ok (v, q) → number n (left_at s p) ≡ ok v (left_at s q.at)
   number_got {v} {q} e = let g = got s p n e in ap (number n) g.stands ∙ (number_fits n).there v (left_at s q.at) g.small
 
-  pub number_past : {b : ℕ} → p ≤ 8 * length s → field_at s p n ≡ Past b → number n (left_at s p) ≡ bad 13 (length (left_at s p))
+  pub number_past : {b : PastEnd} → p ≤ 8 * length s → field_at s p n ≡ Err b → number n (left_at s p) ≡ bad 13 (length (left_at s p))
   unfolding number
   number_past h e = let z : leb n (length (left_at s p)) ≡ false = lt-leb n (length (left_at s p)) (omega (arith, length-left s p, (past s p n e).1)) in rw z

@@ -1,7 +1,8 @@
 -- What the code of a line asks, as facts: how far the counts are, that answers fit their places, `batch_fits` and `line_has_room`. No rule stands here.
-use Rattle.std.specs.Prelude.{ℕ, ◌+◌, ◌*◌, ◌^◌, ◌≤◌, ◌<◌, get_or}
+use Rattle.std.specs.Prelude.{ℕ, ◌+◌, ◌*◌, ◌^◌, ◌≤◌, ◌<◌, get_or, Ok}
 use Rattle.rules.specs.Layout.{frame_size, spectrum_length, factor_length, side_length}
-use Rattle.rules.specs.Refusals.{Outcome}
+use Rattle.rules.specs.Refusals.{Outcome, stage_outcome}
+use Rattle.rules.specs.declared.Delivery.{Delivery}
 use Rattle.rules.specs.declared.Layout.{Layout}
 use Rattle.rules.specs.declared.StageRoom.{StageRoom}
 use Rattle.rules_line.specs.Line.{answers_of}
@@ -12,6 +13,10 @@ pub record OnTheWay (tally : Tally) : Type 0 where
   pub frames : tally.frames ≤ 2 ^ 63 + 2 ^ 36
   pub bits : tally.bits ≤ 2 ^ 63 + 2 ^ 36
   pub pairs : tally.pairs ≤ 2 ^ 63 + 2 ^ 36
+
+-- what the single call answers that delivers d
+abbrev pub delivered_outcome : (d : Delivery) → Outcome
+delivered_outcome d = stage_outcome (Ok d)
 
 -- a delivered frame's answers fit their places
 unfoldable pub AnswersFit : (o : Outcome) → Type 0

@@ -1,7 +1,7 @@
 -- Request A5, **a whole line in one call**: what a line of frames answers and leaves in every lent buffer, for every call, refused ones too.
 -- A batch is a map of a single call: each frame in its turn is that call on its own parts, until one is refused. The work buffers are used again.
 -- The call is a step, any one; `encode_line` is the line over the stage, `encode_stereo_line` that over the stereo stage.
-use Rattle.std.specs.Prelude.{List, [], ◌∷◌, ◌++◌, Bool, cond, not, ◌&&◌, ℕ, zero, suc, ◌+◌, ◌*◌, ◌^◌, leb, ℤ, Float, length, get_or, take, drop}
+use Rattle.std.specs.Prelude.{List, [], ◌++◌, Bool, cond, not, ◌&&◌, ℕ, zero, suc, ◌+◌, ◌*◌, ◌^◌, leb, ℤ, Float, length, get_or, take, drop, Result, Ok, Err, ⊤}
 use Rattle.std.proofs.Math.Option.{Option, none, some}
 use Rattle.rules.specs.Layout.{legal_layout, frame_size, spectrum_length, factor_length, side_length, room_of, part}
 use Rattle.rules.specs.Lent.{overwrite}
@@ -10,44 +10,40 @@ use Rattle.rules.specs.Stage.{StageLent, stage_lent, stage_room_of, encode_frame
 use Rattle.rules.specs.declared.Layout.{Layout}
 use Rattle.rules.specs.declared.StageRoom.{StageRoom}
 use Rattle.rules_stereo.specs.Stereo.{stereo_outcome, StereoLeft, with_signal, lent_signal, encode_stereo_frame}
-use Rattle.rules_line.specs.declared.LineAnswer.{LineAnswer}
-use Rattle.rules_line.specs.declared.LineAnswer.TheVariants.{Delivered, BadLayout, BadBatch, ShortBuffer, Refused}
-use Rattle.rules_line.specs.declared.StereoLineAnswer.{StereoLineAnswer}
-use Rattle.rules_line.specs.declared.StereoLineAnswer.TheVariants as stereo
+use Rattle.rules.specs.declared.StageRefusal.{StageRefusal}
+use Rattle.rules_stereo.specs.declared.StereoRefusal.{StereoRefusal}
+use Rattle.rules_line.specs.declared.LineRefusal.{LineRefusal}
+use Rattle.rules_line.specs.declared.LineRefusal.TheVariants.{BadLayout, BadBatch, ShortBuffer, Frame}
 use Rattle.rules_line.specs.declared.Tally.{Tally}
 
 -- THE ANSWER
 
 -- 1, 18, 2 in this order, then the single call's; a line that is delivered answers no numbers, each frame's stand in `answers`
-unfoldable pub line_outcome : (answer : LineAnswer) → Outcome
-line_outcome Delivered = delivered []
-line_outcome BadLayout = refused 1 0
-line_outcome BadBatch = refused 18 0
-line_outcome ShortBuffer = refused 2 0
-line_outcome (Refused k answer) = stage_outcome answer
+unfoldable pub line_outcome_by : {R : Type 0} (refusal : R → Outcome) (answer : Result ⊤ (LineRefusal R)) → Outcome
+line_outcome_by refusal (Ok done) = delivered []
+line_outcome_by refusal (Err BadLayout) = refused 1 0
+line_outcome_by refusal (Err BadBatch) = refused 18 0
+line_outcome_by refusal (Err ShortBuffer) = refused 2 0
+line_outcome_by refusal (Err (Frame k r)) = refusal r
 
 -- the index of the frame that was refused
-unfoldable pub line_index : (answer : LineAnswer) → Option ℕ
-line_index Delivered = none
-line_index BadLayout = none
-line_index BadBatch = none
-line_index ShortBuffer = none
-line_index (Refused k answer) = some k
+unfoldable pub line_index : {R : Type 0} (answer : Result ⊤ (LineRefusal R)) → Option ℕ
+line_index (Ok done) = none
+line_index (Err BadLayout) = none
+line_index (Err BadBatch) = none
+line_index (Err ShortBuffer) = none
+line_index (Err (Frame k r)) = some k
+
+-- over the stage
+abbrev pub line_outcome : (answer : Result ⊤ (LineRefusal StageRefusal)) → Outcome
+line_outcome = line_outcome_by (λ r. stage_outcome (Err r))
 
 -- the same of a line from unmixed spectra, 17 among the single call's
-unfoldable pub stereo_line_outcome : (answer : StereoLineAnswer) → Outcome
-stereo_line_outcome stereo.Delivered = delivered []
-stereo_line_outcome stereo.BadLayout = refused 1 0
-stereo_line_outcome stereo.BadBatch = refused 18 0
-stereo_line_outcome stereo.ShortBuffer = refused 2 0
-stereo_line_outcome (stereo.Refused k answer) = stereo_outcome answer
+abbrev pub stereo_line_outcome : (answer : Result ⊤ (LineRefusal StereoRefusal)) → Outcome
+stereo_line_outcome = line_outcome_by (λ r. stereo_outcome (Err r))
 
-unfoldable pub stereo_line_index : (answer : StereoLineAnswer) → Option ℕ
-stereo_line_index stereo.Delivered = none
-stereo_line_index stereo.BadLayout = none
-stereo_line_index stereo.BadBatch = none
-stereo_line_index stereo.ShortBuffer = none
-stereo_line_index (stereo.Refused k answer) = some k
+abbrev pub stereo_line_index : (answer : Result ⊤ (LineRefusal StereoRefusal)) → Option ℕ
+stereo_line_index = line_index
 
 -- WHAT IS LENT AND LEFT
 
@@ -108,11 +104,13 @@ left_with outcome index tally spectra intensities scaled codes factors side fram
   tally = tally;
 }
 
-abbrev pub line_left : (answer : LineAnswer) (tally : Tally) (spectra : List Float) (intensities : List ℕ) (scaled : List Float) (codes : List ℤ)
+abbrev pub line_left : (answer : Result ⊤ (LineRefusal StageRefusal)) (tally : Tally) (spectra : List Float) (intensities : List ℕ) (scaled : List Float)
+    (codes : List ℤ)
     (factors side frames answers : List ℕ) → LineLeft
 line_left answer = left_with (line_outcome answer) (line_index answer)
 
-abbrev pub stereo_line_left : (answer : StereoLineAnswer) (tally : Tally) (spectra : List Float) (intensities : List ℕ) (scaled : List Float) (codes : List ℤ)
+abbrev pub stereo_line_left : (answer : Result ⊤ (LineRefusal StereoRefusal)) (tally : Tally) (spectra : List Float) (intensities : List ℕ)
+    (scaled : List Float) (codes : List ℤ)
     (factors side frames answers : List ℕ) → LineLeft
 stereo_line_left answer = left_with (stereo_line_outcome answer) (stereo_line_index answer)
 

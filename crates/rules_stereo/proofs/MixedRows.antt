@@ -18,8 +18,10 @@ use Rattle.rules.specs.Refusals.{refused}
 use Rattle.rules.specs.Stage.{StageLeft}
 use Rattle.rules.specs.declared.ChannelType.{ChannelType}
 use Rattle.rules.specs.declared.ChannelType.TheVariants.{Discrete, StereoPrimary, StereoSecondary}
-use Rattle.rules_stereo.specs.declared.StereoAnswer.{StereoAnswer}
-use Rattle.rules_stereo.specs.declared.StereoAnswer.TheVariants.{TooLoud}
+use Rattle.std.specs.Prelude.{Result, Err}
+use Rattle.rules.specs.declared.Delivery.{Delivery}
+use Rattle.rules_stereo.specs.declared.StereoRefusal.{StereoRefusal}
+use Rattle.rules_stereo.specs.declared.StereoRefusal.TheVariants.{TooLoud}
 use Rattle.rules.specs.declared.Mode.TheVariants.{Rust}
 use Rattle.rules.specs.declared.Layout.{Layout}
 use Rattle.rules_stereo.specs.declared.Energies.{Energies}
@@ -127,12 +129,12 @@ unfolding of_bits to_bits add mul div lt le round abs_f held_f ratio_bounds firs
 late_mixed = (refl, refl)
 
 -- 17 is the number of what is too loud
-pub loud-number : stereo_outcome TooLoud ≡ refused 17 0
+pub loud-number : stereo_outcome (Err TooLoud) ≡ refused 17 0
 unfolding stereo_outcome
 loud-number = refl
 
 -- each buffer is left under its own name
-pub left_names : (a : StereoAnswer) (spectra : List Float) (intensities : List ℕ) (scaled : List Float) (codes : List ℤ) (factors side frame : List ℕ)
+pub left_names : (a : Result Delivery StereoRefusal) (spectra : List Float) (intensities : List ℕ) (scaled : List Float) (codes : List ℤ) (factors side frame : List ℕ)
     → let x = stereo_left a spectra intensities scaled codes factors side frame in
     (x.outcome ≡ stereo_outcome a) × (x.spectra ≡ spectra) × (x.intensities ≡ intensities) × (x.scaled ≡ scaled) × (x.codes ≡ codes)
     × (x.factors ≡ factors) × (x.side ≡ side) × (x.frame ≡ frame)

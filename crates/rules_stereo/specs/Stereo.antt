@@ -1,6 +1,6 @@
 -- The stereo stage: what it answers and leaves in every lent buffer, for every call, refused ones too. One definition, so that the contract
 -- `stereo_left r .. ≡ encode_stereo_frame layout (stage_lent ..)` allows one outcome only. Behind its gate it is the stage's run on the mixed lists.
-use Rattle.std.specs.Prelude.{List, Bool, cond, ℕ, ltb, ℤ, Float, get_or, take}
+use Rattle.std.specs.Prelude.{List, Bool, cond, ℕ, ltb, ℤ, Float, get_or, take, Result, Ok, Err}
 use Rattle.std.proofs.Math.Option.{Option, none, some}
 use Rattle.std.specs.Float.{nan, binary32}
 use Rattle.std.specs.Float.Ieee.{of_bits, lt}
@@ -13,13 +13,15 @@ use Rattle.rules.specs.Stage.{StageLent, StageLeft, stage_room, gate, analysis, 
 use Rattle.rules.specs.declared.Layout.{Layout}
 use Rattle.rules.specs.declared.StageRoom.{StageRoom}
 use Rattle.rules_stereo.specs.Mixed.{Signal, signal, mixed}
-use Rattle.rules_stereo.specs.declared.StereoAnswer.{StereoAnswer}
-use Rattle.rules_stereo.specs.declared.StereoAnswer.TheVariants.{TooLoud, Of}
+use Rattle.rules.specs.declared.Delivery.{Delivery}
+use Rattle.rules_stereo.specs.declared.StereoRefusal.{StereoRefusal}
+use Rattle.rules_stereo.specs.declared.StereoRefusal.TheVariants.{TooLoud, Stage}
 
 -- 1, 2, 3, 4, 17, 5, 7 in this order
-unfoldable pub stereo_outcome : (answer : StereoAnswer) → Outcome
-stereo_outcome TooLoud = refused 17 0
-stereo_outcome (Of answer) = stage_outcome answer
+unfoldable pub stereo_outcome : (answer : Result Delivery StereoRefusal) → Outcome
+stereo_outcome (Ok d) = stage_outcome (Ok d)
+stereo_outcome (Err TooLoud) = refused 17 0
+stereo_outcome (Err (Stage refusal)) = stage_outcome (Err refusal)
 
 -- WHAT IS LEFT: the stage's five buffers, and the two that are mixed
 
@@ -34,7 +36,7 @@ pub record StereoLeft : Type 0 where
   pub frame : List ℕ
 
 -- a call's answer and buffers at its exit
-abbrev pub stereo_left : (answer : StereoAnswer) (spectra : List Float) (intensities : List ℕ) (scaled : List Float) (codes : List ℤ)
+abbrev pub stereo_left : (answer : Result Delivery StereoRefusal) (spectra : List Float) (intensities : List ℕ) (scaled : List Float) (codes : List ℤ)
     (factors side frame : List ℕ) → StereoLeft
 stereo_left answer spectra intensities scaled codes factors side frame = record {
   outcome = stereo_outcome answer;

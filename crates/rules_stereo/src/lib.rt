@@ -1,7 +1,10 @@
 // Request A2 as types and definitions: the stereo stage, from unmixed spectra on.
 #![tactic(auto)]
 
-use rules::StageAnswer;
+ghost use Rattle.std.specs.Prelude.{◌≡◌};
+ghost use Rattle.rules_stereo.specs.declared.StereoRefusal.TheVariants.{Stage};
+
+use rules::StageRefusal;
 
 // The energies of one subframe of a pair: of its left, of its right, and twice that of their sum.
 #[derive(Clone, Copy)]
@@ -18,9 +21,17 @@ pub struct Mixing {
     pub ratio: f32,
 }
 
-// What the stereo stage answers: a magnitude above 65,536, or what the stage answers.
-#[derive(Clone, Copy)]
-pub enum StereoAnswer {
+// Why the stereo stage refuses: a magnitude above 65,536, or as the stage.
+#[derive(Clone, Copy, Debug, PartialEq, Eq)]
+pub enum StereoRefusal {
     TooLoud,
-    Of(StageAnswer),
+    Stage(StageRefusal),
+}
+
+impl From<StageRefusal> for StereoRefusal {
+    ghost from_gives = { λ refusal result. result ≡ Stage refusal };
+
+    fn from(refusal: StageRefusal) -> StereoRefusal {
+        StereoRefusal::Stage(refusal)
+    }
 }

@@ -34,12 +34,15 @@ use Rattle.rules.specs.declared.ChannelType.TheVariants.{Discrete, StereoPrimary
 use Rattle.rules.specs.declared.Mode.TheVariants.{Rust}
 use Rattle.rules.specs.declared.Layout.{Layout}
 use Rattle.rules.proofs.Rows.{paired}
-use Rattle.rules.specs.declared.StageAnswer.{StageAnswer}
-use Rattle.rules.specs.declared.StageAnswer.TheVariants as stage
-use Rattle.rules.specs.declared.WriteAnswer.{WriteAnswer}
-use Rattle.rules.specs.declared.WriteAnswer.TheVariants as write
-use Rattle.rules.specs.declared.ReadAnswer.{ReadAnswer}
-use Rattle.rules.specs.declared.ReadAnswer.TheVariants as read
+use Rattle.std.specs.Prelude.{Result, Ok, Err}
+use Rattle.rules.specs.declared.Delivery.{Delivery}
+use Rattle.rules.specs.declared.RecordDelivery.{RecordDelivery}
+use Rattle.rules.specs.declared.StageRefusal.{StageRefusal}
+use Rattle.rules.specs.declared.StageRefusal.TheVariants as stage
+use Rattle.rules.specs.declared.WriteRefusal.{WriteRefusal}
+use Rattle.rules.specs.declared.WriteRefusal.TheVariants as write
+use Rattle.rules.specs.declared.ReadRefusal.{ReadRefusal}
+use Rattle.rules.specs.declared.ReadRefusal.TheVariants as read
 
 -- ---- the tables: each entry times its place, from 1. The sums are of source document 000's own text
 
@@ -214,7 +217,7 @@ pair_row = (refl, refl)
 -- ---- each buffer of a call is lent and left under its own name
 
 module _ (spectra : List Float) (intensities : List ℕ) (scaled : List Float) (codes : List ℤ) (factors side frame : List ℕ) (level boundary : ℕ)
-    (a : StageAnswer) (w : WriteAnswer) (r : ReadAnswer) where
+    (a : Result Delivery StageRefusal) (w : Result RecordDelivery WriteRefusal) (r : Result RecordDelivery ReadRefusal) where
   pub stage_names :
       let t = stage_lent spectra intensities scaled codes factors side frame in
       let x = stage_left a scaled codes factors side frame in
@@ -240,14 +243,16 @@ module _ (spectra : List Float) (intensities : List ℕ) (scaled : List Float) (
 -- ---- the number of each answer, and the number beside it
 
 pub answer-numbers :
-    (map stage_outcome (stage.Delivered 1 2 3 4 ∷ stage.BadLayout ∷ stage.ShortBuffer ∷ stage.BadIntensity 9 ∷ stage.BadSpectrum 9 ∷ stage.NoLevel 9
-    ∷ stage.TooLong 9 ∷ [])
+    (map stage_outcome (Ok (record { level = 1; boundary = 2; pairs = 3; bits = 4 }) ∷ Err stage.BadLayout ∷ Err stage.ShortBuffer
+    ∷ Err (stage.BadIntensity 9) ∷ Err (stage.BadSpectrum 9)
+    ∷ Err (stage.NoLevel 9) ∷ Err (stage.TooLong 9) ∷ [])
     ≡ delivered (1 ∷ 2 ∷ 3 ∷ 4 ∷ []) ∷ refused 1 0 ∷ refused 2 0 ∷ refused 3 9 ∷ refused 4 9 ∷ refused 5 9 ∷ refused 7 9 ∷ [])
-    × (map writer_outcome (write.Delivered 1 2 3 ∷ write.BadLayout ∷ write.ShortBuffer ∷ write.NotLegal ∷ write.TooLong 9 ∷ [])
+    × (map writer_outcome (Ok (record { level = 1; boundary = 2; bits = 3 }) ∷ Err write.BadLayout ∷ Err write.ShortBuffer ∷ Err write.NotLegal
+    ∷ Err (write.TooLong 9) ∷ [])
     ≡ delivered (1 ∷ 2 ∷ 3 ∷ []) ∷ refused 1 0 ∷ refused 2 0 ∷ refused 15 0 ∷ refused 7 9 ∷ [])
-    × (map reader_outcome (read.Delivered 1 2 3 ∷ read.BadLayout ∷ read.ShortBuffer ∷ read.WrongCheck ∷ read.WrongSync ∷ read.BadWidth 9 ∷ read.BadFactor 9
-    ∷ read.PastEnd 9
-    ∷ read.FillNotZero 9 ∷ [])
+    × (map reader_outcome (Ok (record { level = 1; boundary = 2; bits = 3 }) ∷ Err read.BadLayout ∷ Err read.ShortBuffer ∷ Err read.WrongCheck
+    ∷ Err read.WrongSync
+    ∷ Err (read.BadWidth 9) ∷ Err (read.BadFactor 9) ∷ Err (read.PastEnd 9) ∷ Err (read.FillNotZero 9) ∷ [])
     ≡ delivered (1 ∷ 2 ∷ 3 ∷ []) ∷ refused 1 0 ∷ refused 2 0 ∷ refused 8 0 ∷ refused 9 0 ∷ refused 11 9 ∷ refused 12 9 ∷ refused 13 9 ∷ refused 14 9 ∷ [])
 unfolding stage_outcome writer_outcome reader_outcome
 answer-numbers = (refl, refl, refl)

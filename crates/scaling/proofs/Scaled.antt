@@ -8,7 +8,7 @@ use borrow.Author.Tests.{lt-ltb, le-ltb}
 use lib.Dec.{T, ltb, ltb→lt, nltb→le}
 use lib.Ieee.{Float, nan}
 use lib.ListN.{length, get_or, take, drop, replicate, length-replicate, replicate-append-replicate}
-use lib.Seq.{get_or-take, get_or-drop, drop_at, length-take-le}
+use lib.Seq.{take_at, get_or-take, get_or-drop, drop_at, length-take-le}
 use Rattle.buffers.specs.Walk.{build}
 use Rattle.buffers.proofs.Build.{build-at, build-of, length-build}
 use Rattle.buffers.proofs.Most.{build-most}
@@ -31,6 +31,19 @@ rest-same d n k h =
     let e : n + (k - n) ≡ k = omega arith in
     ap (drop n) (ap (λ (i : ℕ). replicate i d) (sym e) ∙ sym (replicate-append-replicate n (k - n) d))
     ∙ drop_at (replicate n d) (replicate (k - n) d) n (length-replicate n d)
+
+-- a column whose first n entries are stored, and lent on
+module _ (f : ℕ → Float) (n : ℕ) (entries all : List Float) (h : n ≤ length all) (e : entries ≡ build f (length (take n all))) where
+  lent-back : take n (entries ++ drop n all) ≡ build f n
+  lent-back =
+      let stored : entries ≡ build f n = e ∙ ap (build f) (length-take-le n all h) in
+      take_at entries (drop n all) n (ap length stored ∙ length-build f n) ∙ stored
+
+  pub entries-count : length (take n (entries ++ drop n all)) ≡ n
+  entries-count = ap length lent-back ∙ length-build f n
+
+  pub entries_are : (b : ℕ) → b < length (take n (entries ++ drop n all)) → get_or (take n (entries ++ drop n all)) b nan ≡ f b
+  entries_are b l = ap (λ (xs : List Float). get_or xs b nan) lent-back ∙ build-at f n b nan (omega (arith, entries-count))
 
 module _ (fs used : List ℕ) (coded : ℕ) (h : coded ≤ 128) where
   -- the factors below the coded count, stored over zeros

@@ -7,11 +7,10 @@ ghost use Rattle.std.specs.Float.Ieee.{neg};
 ghost use Rattle.buffers.specs.Walk.{build};
 ghost use Rattle.floats.specs.Single.{held_f};
 ghost use Rattle.rules.specs.Layout.{LegalLayout, spectrum_length, factor_length};
-ghost use Rattle.rules.specs.Tables.{scaling_table};
 ghost use Rattle.rules.specs.Scaling.{clip, scale_of, scaled_value, channel_scaled, all_scaled};
-ghost use Rattle.factors.specs.Scaling.{IsScaling};
 ghost use Rattle.scaling.specs.Bands.{coded_factor, stored_band, entry_at, Scaled};
 
+use factors::scaling_entry;
 use floats::{larger, smaller};
 use rules::Layout;
 
@@ -66,98 +65,62 @@ fn coded_factors(factors: &[u8], coded: usize) -> [u8; 128]
     ensures { result ≡ build (coded_factor factors.now coded) 128 }
 {
     let mut used = [0u8; 128];
-    let mut b = 0;
-    while b < coded {
-        used[b] = factors[b];
-        b += 1;
-    }
+    used[..coded].copy_from_slice(&factors[..coded]);
     used
 }
 
-fn entry_of(table: &[f32; 64], factor: u8) -> f32
-    requires scaling { IsScaling table.now }
-    requires factor_bound { factor < 64 }
-    ensures { result ≡ get_or scaling_table factor nan }
-{
-    table[factor as usize]
-}
-
-// The table's entries of the first n factors, as a column.
-fn fill_entries(table: &[f32; 64], used: &[u8], n: usize, entries: &mut [f32])
-    requires scaling { IsScaling table.now }
+// The table's entries of the factors, as a column.
+fn fill_entries(used: &[u8], entries: &mut [f32])
     requires by_index { (i : ℕ) → get_or used.now i 0 < 64 }
-    requires n_in_bounds { (n ≤ length used.now) × (n ≤ length entries.old) }
-    ensures { entries.new ≡ build (entry_at used.now) n ++ drop n entries.old }
+    requires used_len { length entries.old ≤ length used.now }
+    ensures { entries.new ≡ build (entry_at used.now) (length entries.old) }
 {
-    let mut b = 0;
-    while b < n {
-        entries[b] = entry_of(table, used[b]);
-        b += 1;
+    for (b, entry) in entries.iter_mut().enumerate() {
+        *entry = scaling_entry(used[b] as usize);
     }
 }
 
-// The first n bands. The loop goes over bands, so that four of them share an instruction, the division too.
-fn scale_bands(spectra: &[f32], used: &[u8], entries: &[f32], n: usize, scaled: &mut [f32])
-    requires spectra_len { (length spectra.now ≡ 1024) × (length scaled.old ≡ 1024) × (n ≤ 128) }
-    requires n_in_bounds { (n ≤ length used.now) × (n ≤ length entries.now) }
-    requires by_index { (b : ℕ) → b < n → get_or entries.now b nan ≡ entry_at used.now b }
-    ensures { Scaled spectra.now used.now n scaled.new }
+// The first bands, as many as there are entries. The loop goes over bands, so that four of them share an instruction, the division too.
+fn scale_bands(spectra: &[f32], used: &[u8], entries: &[f32], scaled: &mut [f32])
+    requires spectra_len { (length spectra.now ≡ 1024) × (length scaled.old ≡ 1024) × (length entries.now ≤ 128) }
+    requires used_len { length entries.now ≤ length used.now }
+    requires by_index { (b : ℕ) → b < length entries.now → get_or entries.now b nan ≡ entry_at used.now b }
+    ensures { Scaled spectra.now used.now (length entries.now) scaled.new }
 {
-    let mut b = 0;
-    while b < n {
-        scale_band(spectra, b, used[b], 1.0 / entries[b], scaled, b * 8);
-        b += 1;
+    for (b, &entry) in entries.iter().enumerate() {
+        scale_band(spectra, b, used[b], 1.0 / entry, scaled, b * 8);
     }
 }
 
 // A channel's 1,024 scaled values, by band and subframe. The bands go by eights: those past the coded count are 0.0 either way.
-fn scale_channel(
-    table: &[f32; 64],
-    spectra: &[f32],
-    factors: &[u8],
-    coded: usize,
-    scaled: &mut [f32],
-)
-    requires scaling { IsScaling table.now }
+fn scale_channel(spectra: &[f32], factors: &[u8], coded: usize, scaled: &mut [f32])
     requires by_index { (i : ℕ) → get_or factors.now i 0 < 64 }
     requires spectra_len { (length spectra.now ≡ 1024) × (length factors.now ≡ 128) × (length scaled.old ≡ 1024) × (coded ≤ 128) }
     ensures { scaled.new ≡ channel_scaled spectra.now factors.now coded }
 {
     let used = coded_factors(factors, coded);
     let mut entries = [0.0f32; 128];
-    let n = (coded + 7) / 8 * 8;
-    fill_entries(table, &used, n, &mut entries);
-    scale_bands(spectra, &used, &entries, n, scaled);
-    buffers::clear_f32(&mut scaled[n * 8..]);
+    let n = coded.div_ceil(8) * 8;
+    fill_entries(&used, &mut entries[..n]);
+    scale_bands(spectra, &used, &entries[..n], scaled);
+    buffers::clear(&mut scaled[n * 8..]);
 }
 
-pub fn scale_spectra(
-    layout: Layout,
-    table: &[f32; 64],
-    spectra: &[f32],
-    factors: &[u8],
-    scaled: &mut [f32],
-)
+pub fn scale_spectra(layout: Layout, spectra: &[f32], factors: &[u8], scaled: &mut [f32])
     requires legal_layout { LegalLayout layout }
-    requires scaling { IsScaling table.now }
     requires by_index { (i : ℕ) → get_or factors.now i 0 < 64 }
     requires spectra_len { (length spectra.now ≡ spectrum_length layout) × (length factors.now ≡ factor_length layout)
         × (length scaled.old ≡ spectrum_length layout) }
     ensures { scaled.new ≡ all_scaled layout spectra.now factors.now }
 {
-    let channels = layout.channels;
-    let mut c = 0;
-    while c < channels {
-        let coded = layouts::coded_count(layout, c);
+    for c in 0..layout.channels {
         let a = c * 1024;
         let f = c * 128;
         scale_channel(
-            table,
             &spectra[a..a + 1024],
             &factors[f..f + 128],
-            coded,
+            layouts::coded_count(layout, c),
             &mut scaled[a..a + 1024],
         );
-        c += 1;
     }
 }

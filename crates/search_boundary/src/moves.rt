@@ -1,13 +1,13 @@
 // Document 01, **Estimate**, from one boundary to a higher one: only the bands that it passes change their noise, so that the others are not summed again.
 ghost use Rattle.std.specs.Prelude.{◌≡◌, ◌+◌, ◌*◌, ◌≤◌, ◌<◌, length};
 ghost use Rattle.buffers.specs.Walk.{AtMost};
-ghost use Rattle.rules.specs.Layout.{LegalLayout, frame_size, spectrum_length, factor_length};
+ghost use Rattle.rules.specs.Layout.{frame_size};
 ghost use Rattle.rules.specs.Estimate.{channel_bits, used_bits};
 ghost use Rattle.resolutions.specs.Stretched.{IsStretched};
-ghost use Rattle.band_counts.specs.Counts.{ChannelCounted, Counted};
+ghost use Rattle.band_counts.specs.Counts.{ChannelCounted};
+ghost use Rattle.estimate.specs.Probe.{ProbeFits};
 
-use buffers::lesser;
-use estimate::band_bits;
+use estimate::{Probe, band_bits};
 use layouts::coded_count;
 use rules::Layout;
 
@@ -36,53 +36,36 @@ fn channel_change(
     ensures { (channel_bits layout scaled.now factors.now coded level to + result.fall
         ≡ channel_bits layout scaled.now factors.now coded level from + result.rise) × (result.rise ≤ 12288) × (result.fall ≤ 12288) }
 {
-    let end = lesser(to, coded);
     let finer = level - 1;
     let mut rise: usize = 0;
     let mut fall: usize = 0;
-    let mut b = from;
-    while b < end {
+    for b in from..to.min(coded) {
         let factor = factors[b];
         rise += band_bits(layout, curve, scaled, counts, b, factor, finer);
         fall += band_bits(layout, curve, scaled, counts, b, factor, level);
-        b += 1;
     }
     Change { rise, fall }
 }
 
 // The bits at a boundary from those at a lower one.
-pub fn move_boundary(
-    layout: Layout,
-    curve: &[u8; 688],
-    scaled: &[f32],
-    counts: &[i32],
-    factors: &[u8],
-    level: usize,
-    used: usize,
-    from: usize,
-    to: usize,
-) -> usize
-    requires legal_layout { LegalLayout layout }
-    requires stretched { IsStretched layout curve.now × Counted layout scaled.now counts.now × AtMost 63 factors.now }
-    requires scaled_len { (length scaled.now ≡ spectrum_length layout) × (length factors.now ≡ factor_length layout) }
+pub fn move_boundary(probe: Probe, level: usize, used: usize, from: usize, to: usize) -> usize
+    requires probe_fits { ProbeFits probe }
     requires level_nonzero { (0 < level) × (level ≤ 254) × (from ≤ to) × (to ≤ 128) }
-    requires used_value { (used ≡ used_bits layout scaled.now factors.now level from) × (used ≤ 8 * frame_size layout) }
-    ensures { result ≡ used_bits layout scaled.now factors.now level to }
+    requires used_value { (used ≡ used_bits probe.layout probe.scaled.now probe.factors.now level from) × (used ≤ 8 * frame_size probe.layout) }
+    ensures { result ≡ used_bits probe.entry.layout probe.entry.scaled.now probe.entry.factors.now level to }
 {
-    let channels = layout.channels;
     let mut rise = used;
     let mut fall: usize = 0;
-    let mut c = 0;
-    while c < channels {
-        let coded = coded_count(layout, c);
+    for c in 0..probe.layout.channels {
+        let coded = coded_count(probe.layout, c);
         let a = c * 1024;
         let f = c * 128;
         let change = channel_change(
-            layout,
-            curve,
-            &scaled[a..a + 1024],
-            &counts[a..a + 1024],
-            &factors[f..f + 128],
+            probe.layout,
+            probe.curve,
+            &probe.scaled[a..a + 1024],
+            &probe.counts[a..a + 1024],
+            &probe.factors[f..f + 128],
             coded,
             level,
             from,
@@ -90,7 +73,6 @@ pub fn move_boundary(
         );
         rise += change.rise;
         fall += change.fall;
-        c += 1;
     }
     rise - fall
 }

@@ -1,4 +1,5 @@
 -- How the stage ends, on buffers of the stated lengths. Assumes nothing.
+use Rattle.std.specs.Prelude.{Err}
 use mathlib.Core.Path.{◌≡◌, refl, sym, ap, ◌∙◌}
 use mathlib.Core.List.{List, [], ◌∷◌}
 use mathlib.Core.Bool.{Bool, true, false, cond}
@@ -14,7 +15,7 @@ use Rattle.rules.specs.Frame.{field_end, frame_of}
 use Rattle.rules.specs.Refusals.{Outcome, delivered, refused, stage_outcome}
 use Rattle.rules.specs.Stage.{StageLeft, stage_left, Analysis, boundary_for, analysis_from, stage_record, delivery, after_packing, after_level}
 use Rattle.rules.specs.declared.Layout.{Layout}
-use Rattle.rules.specs.declared.StageAnswer.{StageAnswer}
+use Rattle.rules.specs.declared.StageRefusal.TheVariants.{NoLevel}
 use Rattle.stage.specs.Delivery.{Delivers, found_as, wiped_by, wiped}
 
 -- ---- from the level on
@@ -54,10 +55,10 @@ module _ (l : Layout) (sc : List Float) (si : List ℕ) (f : LevelFound) (level 
   is_found = rw (p, q, r)
 
   -- refusal 5
-  pub level-none : (a : StageAnswer) (co : List ℤ) (fr : List ℕ) → ltb 254 level ≡ true → stage_outcome a ≡ refused 5 pairs
-      → wiped l (stage_left a sc co fa si fr) ≡ after_level l (analysis_from l sc si f)
-  unfolding wiped wiped_by after_level analysis_from
-  level-none a co fr h e = rw (e, ← is_found, h)
+  pub level-none : (co : List ℤ) (fr : List ℕ) → ltb 254 level ≡ true
+      → wiped l (stage_left (Err (NoLevel pairs)) sc co fa si fr) ≡ after_level l (analysis_from l sc si f)
+  unfolding wiped wiped_by after_level analysis_from stage_outcome
+  level-none co fr h = rw (← is_found, h)
 
   pub settled_packed : (x : StageLeft) → ltb 254 level ≡ false → x ≡ after_packing l (analysis_from l sc si (found_as level pairs fa)) → x
       ≡ after_level l (analysis_from l sc si f)

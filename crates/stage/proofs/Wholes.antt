@@ -1,4 +1,5 @@
 -- The stage on buffers that are longer than the stated lengths. Assumes nothing.
+use Rattle.std.specs.Prelude.{Result}
 use mathlib.Core.Path.{◌≡◌, ap}
 use mathlib.Core.List.{List, ◌++◌}
 use Prim.Native.Nat.{ℕ}
@@ -8,10 +9,11 @@ use lib.ListN.{length, drop}
 use Rattle.rules.specs.Layout.{frame_size, spectrum_length, factor_length, side_length}
 use Rattle.rules.specs.Stage.{stage_lent, stage_left, stage_overwrite, analysis, after_level}
 use Rattle.rules.specs.declared.Layout.{Layout}
-use Rattle.rules.specs.declared.StageAnswer.{StageAnswer}
+use Rattle.rules.specs.declared.Delivery.{Delivery}
+use Rattle.rules.specs.declared.StageRefusal.{StageRefusal}
 
 -- the parts are back in their wholes
-pub opened : (l : Layout) (r : StageAnswer) (xs : List Float) (is : List ℕ) (ys : List Float) (js : List ℕ)
+pub opened : (l : Layout) (r : Result Delivery StageRefusal) (xs : List Float) (is : List ℕ) (ys : List Float) (js : List ℕ)
     (sc₀ : List Float) (co₀ : List ℤ) (fa₀ si₀ fr₀ : List ℕ) (sc : List Float) (co : List ℤ) (fa si fr : List ℕ)
     → length sc ≡ spectrum_length l → length co ≡ spectrum_length l → length fa ≡ factor_length l → length si ≡ side_length l → length fr ≡ frame_size l
     → stage_left r sc co fa si fr ≡ after_level l (analysis l ys js)

@@ -10,8 +10,8 @@ ghost use Rattle.std.specs.Prelude.{◌≡◌};
 ghost use Rattle.rules.specs.Stage.{stage_lent, stage_left, encode_frame};
 
 use crate::parts::encode_parts;
-use rules::{Layout, Room, StageAnswer, StageRoom};
-use stage_gate::{Gate, first_refusal};
+use rules::{Delivery, Layout, Room, StageRefusal, StageRoom};
+use stage_gate::first_refusal;
 
 // The frame stage. It takes any arguments: what cannot be done is refused, and the answer says why.
 pub fn encode_frame(
@@ -23,7 +23,7 @@ pub fn encode_frame(
     factors: &mut [u8],
     side: &mut [u8],
     frame: &mut [u8],
-) -> StageAnswer
+) -> Result<Delivery, StageRefusal>
     ensures { stage_left result scaled.new codes.new factors.new side.new frame.new
         ≡ encode_frame layout (stage_lent spectra.now intensities.now scaled.old codes.old factors.old
         side.old frame.old) }
@@ -40,20 +40,15 @@ pub fn encode_frame(
         scaled: scaled.len(),
         stored,
     };
-    match first_refusal(layout, room, spectra, intensities) {
-        Gate::BadLayout => StageAnswer::BadLayout,
-        Gate::ShortBuffer => StageAnswer::ShortBuffer,
-        Gate::BadIntensity(i) => StageAnswer::BadIntensity(i),
-        Gate::BadSpectrum(i) => StageAnswer::BadSpectrum(i),
-        Gate::Open => encode_parts(
-            layout,
-            spectra,
-            intensities,
-            scaled,
-            codes,
-            factors,
-            side,
-            frame,
-        ),
-    }
+    first_refusal(layout, room, spectra, intensities)?;
+    encode_parts(
+        layout,
+        spectra,
+        intensities,
+        scaled,
+        codes,
+        factors,
+        side,
+        frame,
+    )
 }

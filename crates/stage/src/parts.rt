@@ -6,7 +6,7 @@ ghost use Rattle.factors.specs.Finite.{AllFinite};
 ghost use Rattle.stage_gate.specs.Gate.{StageHasRoom};
 
 use crate::run::run_stage;
-use rules::{Layout, StageAnswer};
+use rules::{Delivery, Layout, StageRefusal};
 
 // The parts of the stated lengths are lent, and the rest stays untouched.
 pub fn encode_parts(
@@ -18,7 +18,7 @@ pub fn encode_parts(
     factors: &mut [u8],
     side: &mut [u8],
     frame: &mut [u8],
-) -> StageAnswer
+) -> Result<Delivery, StageRefusal>
     requires legal_layout { LegalLayout layout }
     requires stage_has_room { StageHasRoom layout (stage_room_of (length spectra.now) (length intensities.now) (length scaled.old)
         (room_of (length factors.old) (length side.old) (length codes.old) (length frame.old))) }

@@ -10,17 +10,17 @@ ghost use Rattle.rules.specs.Hfr.{all_side};
 ghost use Rattle.rules.specs.Stage.{analysis, stage_left, after_level};
 ghost use Rattle.rules.specs.declared.Layout.{Layout};
 ghost use Rattle.factors.specs.Finite.{AllFinite};
-ghost use Rattle.stage.specs.Delivery.{ExactBuffers, wiped};
+ghost use Rattle.stage.specs.Delivery.{ExactBuffers};
 ghost use Rattle.stage.specs.Lengths.{StageLengths};
 
 use crate::run::delivery::level_to_frame;
-use buffers::{clear_f32, clear_i32, clear_u8};
-use factors::{calculate_scale_factors, scaling_table};
+use buffers::clear;
+use factors::calculate_scale_factors;
 use hfr::fill_side;
-use rules::{Layout, StageAnswer};
+use rules::{Delivery, Layout, StageRefusal};
 use scaling::scale_spectra;
 
-// Factors, scaled values and side values. The table is taken once and lent.
+// Factors, scaled values and side values.
 fn prepare(
     layout: Layout,
     spectra: &[f32],
@@ -37,10 +37,9 @@ fn prepare(
     ensures sided { side.new ≡ all_side layout spectra.now
         (all_scaled layout spectra.now (all_factors layout spectra.now)) intensities.now }
 {
-    let table = scaling_table();
-    calculate_scale_factors(layout, &table, spectra, factors);
-    scale_spectra(layout, &table, spectra, factors, scaled);
-    fill_side(layout, &table, spectra, scaled, intensities, side);
+    calculate_scale_factors(layout, spectra, factors);
+    scale_spectra(layout, spectra, factors, scaled);
+    fill_side(layout, spectra, scaled, intensities, side);
 }
 
 // After a late refusal every written buffer is zero.
@@ -57,31 +56,11 @@ fn clear_all(
     ensures side_after { side.new ≡ replicate (length side.old) 0 }
     ensures frame_after { frame.new ≡ replicate (length frame.old) 0 }
 {
-    clear_f32(scaled);
-    clear_i32(codes);
-    clear_u8(factors);
-    clear_u8(side);
-    clear_u8(frame);
-}
-
-// Clears where the answer is a refusal.
-fn clear_refused(
-    answer: StageAnswer,
-    scaled: &mut [f32],
-    codes: &mut [i32],
-    factors: &mut [u8],
-    side: &mut [u8],
-    frame: &mut [u8],
-)
-    ensures { (l : Layout) → ExactBuffers l (length scaled.old) (length codes.old) (length factors.old)
-        (length side.old) (length frame.old)
-        → stage_left answer scaled.new codes.new factors.new side.new frame.new
-        ≡ wiped l (stage_left answer scaled.old codes.old factors.old side.old frame.old) }
-{
-    let StageAnswer::Delivered(_, _, _, _) = answer else {
-        clear_all(scaled, codes, factors, side, frame);
-        return;
-    };
+    clear(scaled);
+    clear(codes);
+    clear(factors);
+    clear(side);
+    clear(frame);
 }
 
 pub fn run_stage(
@@ -93,7 +72,7 @@ pub fn run_stage(
     factors: &mut [u8],
     side: &mut [u8],
     frame: &mut [u8],
-) -> StageAnswer
+) -> Result<Delivery, StageRefusal>
     requires legal_layout { LegalLayout layout }
     requires stage_lengths { StageLengths layout (length spectra.now) (length intensities.now) (length scaled.old) (length codes.old)
         (length factors.old) (length side.old) (length frame.old) }
@@ -103,6 +82,8 @@ pub fn run_stage(
 {
     prepare(layout, spectra, intensities, scaled, factors, side);
     let answer = level_to_frame(layout, scaled, codes, factors, side, frame);
-    clear_refused(answer, scaled, codes, factors, side, frame);
+    if answer.is_err() {
+        clear_all(scaled, codes, factors, side, frame);
+    }
     answer
 }

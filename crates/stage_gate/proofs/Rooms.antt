@@ -1,6 +1,7 @@
 -- The gate: its test of the lengths and the facts say the same, and the stage is what its gate lets pass. Assumes nothing.
+use Rattle.std.specs.Prelude.{Result, Ok, Err, IsErr, IsErrAnd, ⊤}
 use mathlib.Core.Path.{◌≡◌, refl, sym, ap, ◌∙◌}
-use mathlib.Core.List.{List, [], ◌∷◌}
+use mathlib.Core.List.{List}
 use mathlib.Core.Bool.{Bool, true, false, cond, not}
 use mathlib.Core.Option.{Option, none, some}
 use Prim.Native.Nat.{ℕ, ◌≤◌}
@@ -9,19 +10,15 @@ use borrow.Author.Tests.{le-leb, leb-true}
 use lib.Dec.{leb}
 use lib.Ieee.{Float}
 use lib.ListN.{take}
-use types.Run.{OneOf, miss}
-use denote.Enum.Declared.{tag_of}
 use Rattle.buffers.proofs.Tests.{and_fst, and_snd, not_true_false}
 use Rattle.rules.specs.Layout.{legal_layout, LegalLayout, spectrum_length, side_length, has_room}
-use Rattle.rules.specs.Refusals.{Outcome, refused}
+use Rattle.rules.specs.Refusals.{Outcome}
 use Rattle.rules.specs.Stage.{StageLent, StageLeft, stage_room, stage_has_room, gate, analysis, after_level, behind_gate, encode_frame}
 use Rattle.rules.specs.declared.Layout.{Layout}
 use Rattle.rules.specs.declared.StageRoom.{StageRoom}
+use Rattle.rules.specs.declared.StageRefusal.{StageRefusal}
 use Rattle.rules.proofs.Layouts.{legal_sizes, room_facts}
 use Rattle.stage_gate.specs.Gate.{StageHasRoom, gate_outcome, judged_spectra, BeforeSpectra}
-use Rattle.stage_gate.specs.declared.Gate.{Gate}
-use Rattle.stage_gate.specs.declared.Gate.TheVariants.{Open, BadLayout, ShortBuffer, BadIntensity, BadSpectrum}
-use Rattle.stage_gate.specs.contracts.Gate as G
 
 pub long_true : (l : Layout) (r : StageRoom) → spectrum_length l ≤ r.spectra → side_length l ≤ r.intensities → spectrum_length l ≤ r.scaled → stage_has_room l r
     ≡ has_room l r.stored
@@ -56,15 +53,15 @@ pub gate_open : (l : Layout) (r : StageRoom) (xs : List Float) (is : List ℕ) �
 unfolding gate
 gate_open l r xs is e = let b = open_by (legal_layout l) (stage_has_room l r) _ _ _ e in (legal_sizes l b.0, long_facts l r b.1)
 
+-- what `?` hands on is the error that it met
+pub same_error : {A E : Type 0} (r : Result A E) (e : E) → IsErr r → IsErrAnd r (λ x. x ≡ e) → r ≡ Err e
+same_error (Ok x) e h k = absurd (cc h)
+same_error (Err x) e h k = ap Err k
+
 -- a refusal of 1 to 3 is the gate's
-pub before_stays : (l : Layout) (xs : List Float) (g : Gate) → OneOf (1 ∷ 2 ∷ 3 ∷ 4 ∷ []) (tag_of G.the_type g)
-    → gate_outcome g ≡ judged_spectra (gate_outcome g) l xs
+pub before_stays : (l : Layout) (xs : List Float) (e : StageRefusal) → gate_outcome (Err e) ≡ judged_spectra (gate_outcome (Err e)) l xs
 unfolding gate_outcome judged_spectra
-before_stays l xs Open h = absurd (miss (1 ∷ 2 ∷ 3 ∷ 4 ∷ []) 0 tt h)
-before_stays l xs BadLayout h = refl
-before_stays l xs ShortBuffer h = refl
-before_stays l xs (BadIntensity i) h = refl
-before_stays l xs (BadSpectrum i) h = refl
+before_stays l xs e = refl
 
 -- and behind none of 1 to 3 comes 4
 pub before-none : (l : Layout) (r : StageRoom) (xs : List Float) (is : List ℕ) (o : Option Outcome) → BeforeSpectra l r is o → o ≡ none
@@ -72,7 +69,7 @@ pub before-none : (l : Layout) (r : StageRoom) (xs : List Float) (is : List ℕ)
 before-none l r xs is o b e = ap (λ g. judged_spectra g l xs) (sym e) ∙ b.rest xs
 
 -- an answer that is what its gate lets pass
-pub gate_lets : (l : Layout) (t : StageLent) (g : Gate) (x : StageLeft) → gate_outcome g ≡ gate l (stage_room t) t.spectra t.intensities
+pub gate_lets : (l : Layout) (t : StageLent) (g : Result ⊤ StageRefusal) (x : StageLeft) → gate_outcome g ≡ gate l (stage_room t) t.spectra t.intensities
     → x ≡ behind_gate (gate_outcome g) t (after_level l (analysis l (take (spectrum_length l) t.spectra) (take (side_length l) t.intensities))) → x
     ≡ encode_frame l t
 unfolding encode_frame

@@ -1,25 +1,15 @@
 // Document 01, **Refusal numbers** 1 to 4: what is refused before anything is written.
 #![tactic(auto)]
 
-ghost use Rattle.std.specs.Prelude.{◌≡◌, ◌≤◌, ltb, length};
+ghost use Rattle.std.specs.Prelude.{◌≡◌, ◌&&◌, ◌/◌, ◌≤◌, ◌<◌, ltb, length};
 ghost use Rattle.buffers.specs.Walk.{first};
-ghost use Rattle.rules.specs.Layout.{LegalLayout};
+ghost use Rattle.rules.specs.Layout.{LegalLayout, secondary_at};
 ghost use Rattle.rules.specs.Stage.{stage_has_room, bad_intensity, bad_spectrum, gate};
-ghost use Rattle.stage_gate.specs.Gate.{BeforeSpectra, gate_outcome};
+ghost use Rattle.stage_gate.specs.Gate.{BeforeSpectra, first_if_any, gate_outcome};
 
 use floats::finite;
 use layouts::{has_room, is_secondary, legal};
-use rules::{Layout, StageRoom};
-
-// Whether a call may go on, or its first refusal.
-#[derive(Clone, Copy)]
-pub enum Gate {
-    Open,
-    BadLayout,
-    ShortBuffer,
-    BadIntensity(usize),
-    BadSpectrum(usize),
-}
+use rules::{Layout, StageRefusal, StageRoom};
 
 // A longer buffer is fine.
 fn enough(layout: Layout, room: StageRoom) -> bool
@@ -28,96 +18,78 @@ fn enough(layout: Layout, room: StageRoom) -> bool
 {
     let n = layout.channels * 1024;
     let k = layout.channels * 8;
-    if room.spectra < n {
-        return false;
-    }
-    if room.intensities < k {
-        return false;
-    }
-    if room.scaled < n {
-        return false;
-    }
-    has_room(layout, room.stored)
+    n <= room.spectra && k <= room.intensities && n <= room.scaled && has_room(layout, room.stored)
 }
 
-// n if there is none.
-fn first_bad_intensity(layout: Layout, intensities: &[u8], n: usize) -> usize
-    requires { (n ≤ 128) × (n ≤ length intensities.now) }
-    ensures { result ≡ first (bad_intensity layout intensities.now) n }
+// A secondary's above 15.
+fn is_bad_intensity(layout: Layout, i: usize, intensity: u8) -> bool
+    requires { i < 128 }
+    ensures { result ≡ ltb 15 intensity && secondary_at layout (i / 8) }
 {
-    let mut i = 0;
-    while i < n {
-        if 15 < intensities[i] {
-            if is_secondary(layout, i / 8) {
-                return i;
-            }
-        }
-        i += 1;
-    }
-    i
+    15 < intensity && is_secondary(layout, i / 8)
 }
 
-// Whether there is one below n. It goes on behind the first, so that the values are compiled to run side by side.
-fn has_bad_spectrum(spectra: &[f32], n: usize) -> bool
-    requires { n ≤ length spectra.now }
-    ensures { result ≡ ltb (first (bad_spectrum spectra.now) n) n }
+fn first_bad_intensity(layout: Layout, intensities: &[u8]) -> Option<usize>
+    requires { length intensities.now ≤ 128 }
+    ensures { result ≡ first_if_any (bad_intensity layout intensities.now) (length intensities.now) }
 {
-    let mut found = false;
-    let mut i = 0;
-    while i < n {
-        found = found | !finite(spectra[i]);
-        i += 1;
-    }
-    found
+    intensities
+        .iter()
+        .enumerate()
+        .position(|(i, &x)| is_bad_intensity(layout, i, x))
 }
 
-// Which; n if there is none.
-pub fn first_bad_spectrum(spectra: &[f32], n: usize) -> usize
-    requires { n ≤ length spectra.now }
-    ensures { result ≡ first (bad_spectrum spectra.now) n }
+// It goes on behind the first, so that the values are compiled to run side by side.
+fn has_bad_spectrum(spectra: &[f32]) -> bool
+    ensures { result ≡ ltb (first (bad_spectrum spectra.now) (length spectra.now)) (length spectra.now) }
 {
-    let mut i = 0;
-    while i < n {
-        if finite(spectra[i]) {
-            i += 1;
-        } else {
-            return i;
-        }
+    spectra.iter().fold(false, |found, &x| found | !finite(x))
+}
+
+// Which is looked for only where there is one.
+pub fn first_bad_spectrum(spectra: &[f32]) -> Option<usize>
+    ensures { result ≡ first_if_any (bad_spectrum spectra.now) (length spectra.now) }
+{
+    if !has_bad_spectrum(spectra) {
+        return None;
     }
-    i
+    spectra.iter().position(|&x| !finite(x))
 }
 
 // 1 to 3, which look at no spectrum.
-pub fn refusal_before_spectra(layout: Layout, room: StageRoom, intensities: &[u8]) -> Gate
+pub fn refusal_before_spectra(
+    layout: Layout,
+    room: StageRoom,
+    intensities: &[u8],
+) -> Result<(), StageRefusal>
     requires { room.intensities ≡ length intensities.now }
     ensures { BeforeSpectra layout room intensities.now (gate_outcome result) }
 {
-    if legal(layout) {
-        if enough(layout, room) {
-            let k = layout.channels * 8;
-            let i = first_bad_intensity(layout, intensities, k);
-            if i < k {
-                return Gate::BadIntensity(i);
-            }
-            return Gate::Open;
-        }
-        return Gate::ShortBuffer;
+    if !legal(layout) {
+        return Err(StageRefusal::BadLayout);
     }
-    Gate::BadLayout
+    if !enough(layout, room) {
+        return Err(StageRefusal::ShortBuffer);
+    }
+    match first_bad_intensity(layout, &intensities[..layout.channels * 8]) {
+        Some(i) => Err(StageRefusal::BadIntensity(i)),
+        None => Ok(()),
+    }
 }
 
 // The first refusal in document 01's order. The lengths come by value, so that only two slices travel.
-pub fn first_refusal(layout: Layout, room: StageRoom, spectra: &[f32], intensities: &[u8]) -> Gate
+pub fn first_refusal(
+    layout: Layout,
+    room: StageRoom,
+    spectra: &[f32],
+    intensities: &[u8],
+) -> Result<(), StageRefusal>
     requires { (room.spectra ≡ length spectra.now) × (room.intensities ≡ length intensities.now) }
     ensures { gate_outcome result ≡ gate layout room spectra.now intensities.now }
 {
-    let early = refusal_before_spectra(layout, room, intensities);
-    let Gate::Open = early else {
-        return early;
-    };
-    let n = layout.channels * 1024;
-    if has_bad_spectrum(spectra, n) {
-        return Gate::BadSpectrum(first_bad_spectrum(spectra, n));
+    refusal_before_spectra(layout, room, intensities)?;
+    if let Some(i) = first_bad_spectrum(&spectra[..layout.channels * 1024]) {
+        return Err(StageRefusal::BadSpectrum(i));
     }
-    early
+    Ok(())
 }

@@ -1,5 +1,6 @@
 -- What is mixed, back in longer buffers, and the stage's run on it. Assumes nothing.
-use mathlib.Core.Path.{◌≡◌, ap, ap₂, ◌∙◌}
+use Rattle.std.specs.Prelude.{Result, Ok, Err}
+use mathlib.Core.Path.{◌≡◌, sym, ap, ap₂, ◌∙◌}
 use mathlib.Core.List.{List, ◌++◌}
 use Prim.Native.Nat.{ℕ}
 use lib.IntN.{ℤ}
@@ -9,9 +10,12 @@ use lib.Seq.{take_at}
 use Rattle.rules.specs.Layout.{spectrum_length, side_length}
 use Rattle.rules.specs.Stage.{StageLent, stage_lent, stage_left, stage_overwrite, analysis, after_level}
 use Rattle.rules.specs.declared.Layout.{Layout}
-use Rattle.rules.specs.declared.StageAnswer.{StageAnswer}
+use Rattle.rules.specs.declared.Delivery.{Delivery}
+use Rattle.rules.specs.declared.StageRefusal.{StageRefusal}
+use Rattle.rules_stereo.specs.declared.StereoRefusal.{StereoRefusal}
+use Rattle.rules_stereo.specs.declared.StereoRefusal.TheVariants.{Stage}
 use Rattle.rules_stereo.specs.Mixed.{Signal, signal, mixed}
-use Rattle.rules_stereo.specs.Stereo.{with_signal, lent_signal, mixed_front, signal_overwrite, stereo_run}
+use Rattle.rules_stereo.specs.Stereo.{stereo_outcome, StereoLeft, stereo_left, with_signal, lent_signal, mixed_front, signal_overwrite, stereo_run}
 
 -- the parts are back in their wholes, and in front
 module _ (l : Layout) (xs : List Float) (is : List ℕ) (ys : List Float) (js : List ℕ) (p : length ys ≡ spectrum_length l) (q : length js ≡ side_length l)
@@ -26,7 +30,7 @@ module _ (l : Layout) (xs : List Float) (is : List ℕ) (ys : List Float) (js : 
   parts_front = ap₂ signal (take_at ys _ _ p) (take_at js _ _ q) ∙ e
 
 -- what the stage's run leaves of the mixed lists is the stereo stage's
-pub mixed_run : (l : Layout) (r : StageAnswer) (t : StageLent) (xs : List Float) (is : List ℕ) (sc : List Float) (co : List ℤ) (fa si fr : List ℕ)
+pub mixed_run : (l : Layout) (r : Result Delivery StageRefusal) (t : StageLent) (xs : List Float) (is : List ℕ) (sc : List Float) (co : List ℤ) (fa si fr : List ℕ)
     → signal xs is ≡ signal_overwrite (mixed_front l (lent_signal t)) (lent_signal t)
     → signal (take (spectrum_length l) xs) (take (side_length l) is) ≡ mixed_front l (lent_signal t)
     → stage_left r sc co fa si fr ≡ stage_overwrite (stage_lent xs is t.scaled t.codes t.factors t.side t.frame)
@@ -35,3 +39,15 @@ pub mixed_run : (l : Layout) (r : StageAnswer) (t : StageLent) (xs : List Float)
 unfolding stereo_run
 mixed_run l r t xs is sc co fa si fr e f g = ap₂ with_signal e
     (g ∙ ap (λ (s : Signal). stage_overwrite t (after_level l (analysis l s.spectra s.intensities))) f)
+
+-- the stage's answer, handed on
+module _ (r : Result Delivery StageRefusal) (xs : List Float) (is : List ℕ) (sc : List Float) (co : List ℤ) (fa si fr : List ℕ) (x : StereoLeft)
+    (e : with_signal (signal xs is) (stage_left r sc co fa si fr) ≡ x) where
+  pub handed_success : (d : Delivery) → r ≡ Ok d → stereo_left (Ok d) xs is sc co fa si fr ≡ x
+  unfolding stereo_outcome
+  handed_success d p = ap (λ a. with_signal (signal xs is) (stage_left a sc co fa si fr)) (sym p) ∙ e
+
+  pub handed_refusal : (n : StageRefusal) (a : Result Delivery StereoRefusal) → r ≡ Err n → a ≡ Err (Stage n) → stereo_left a xs is sc co fa si fr ≡ x
+  unfolding stereo_outcome
+  handed_refusal n a p q =
+      ap (λ b. stereo_left b xs is sc co fa si fr) q ∙ ap (λ b. with_signal (signal xs is) (stage_left b sc co fa si fr)) (sym p) ∙ e

@@ -9,10 +9,10 @@ ghost use Rattle.rules_stereo.specs.Stereo.{stereo_left, with_signal, mixed_fron
 ghost use Rattle.factors.specs.Finite.{AllFinite};
 ghost use Rattle.stage_gate.specs.Gate.{StageHasRoom};
 
-use rules::{Layout, Room, StageAnswer, StageRoom};
-use rules_stereo::StereoAnswer;
+use rules::{Delivery, Layout, Room, StageRefusal, StageRoom};
+use rules_stereo::StereoRefusal;
 use stage::parts::encode_parts;
-use stereo_gate::{StereoGate, first_stereo_refusal};
+use stereo_gate::first_stereo_refusal;
 use stereo_mixing::encode_intensity_stereo;
 
 // The parts of the stated lengths are mixed, and the rest stays untouched.
@@ -40,7 +40,7 @@ fn encode_mixed(
     factors: &mut [u8],
     side: &mut [u8],
     frame: &mut [u8],
-) -> StageAnswer
+) -> Result<Delivery, StageRefusal>
     requires legal_layout { LegalLayout layout }
     requires stage_has_room { StageHasRoom layout (stage_room_of (length spectra.old) (length intensities.old) (length scaled.old)
         (room_of (length factors.old) (length side.old) (length codes.old) (length frame.old))) }
@@ -73,7 +73,7 @@ pub fn encode_stereo_frame(
     factors: &mut [u8],
     side: &mut [u8],
     frame: &mut [u8],
-) -> StereoAnswer
+) -> Result<Delivery, StereoRefusal>
     ensures { stereo_left result spectra.new intensities.new scaled.new codes.new factors.new
         side.new frame.new
         ≡ encode_stereo_frame layout (stage_lent spectra.old intensities.old scaled.old codes.old
@@ -91,20 +91,15 @@ pub fn encode_stereo_frame(
         scaled: scaled.len(),
         stored,
     };
-    match first_stereo_refusal(layout, room, spectra, intensities) {
-        StereoGate::Refused(answer) => answer,
-        StereoGate::Open => {
-            let a = encode_mixed(
-                layout,
-                spectra,
-                intensities,
-                scaled,
-                codes,
-                factors,
-                side,
-                frame,
-            );
-            StereoAnswer::Of(a)
-        }
-    }
+    first_stereo_refusal(layout, room, spectra, intensities)?;
+    Ok(encode_mixed(
+        layout,
+        spectra,
+        intensities,
+        scaled,
+        codes,
+        factors,
+        side,
+        frame,
+    )?)
 }

@@ -13,14 +13,16 @@ use Rattle.rules.specs.Frame.{field_end}
 use Rattle.rules.specs.Refusals.{Outcome, refused, stage_outcome}
 use Rattle.rules.specs.Stage.{StageLent, StageLeft, cleared, stage_kept, stage_overwrite, Analysis, analysis, stage_record, delivery, after_packing, after_level}
 use Rattle.rules.specs.declared.Layout.{Layout}
-use Rattle.rules.specs.declared.StageAnswer.{StageAnswer}
-use Rattle.rules.specs.declared.StageAnswer.TheVariants as stage-of
+use Rattle.std.specs.Prelude.{Result, Ok, Err}
+use Rattle.rules.specs.declared.Delivery.{Delivery}
+use Rattle.rules.specs.declared.StageRefusal.{StageRefusal}
+use Rattle.rules.specs.declared.StageRefusal.TheVariants as stage-of
 use Rattle.rules.proofs.Answers.{Numbered, numbered, unnumbered, never, stage_numbers, stage_answers}
 use Rattle.rules_demands.proofs.Outcomes.{stage_numbers_differ}
 use Rattle.rules_demands.proofs.StageAnswers.{StageBounded, beside_bounded, stage_bounds}
 use Rattle.rules_stereo.specs.Stereo.{stereo_outcome, StereoLeft, with_signal, lent_signal, mixed_front, stereo_run, encode_stereo_frame}
-use Rattle.rules_stereo.specs.declared.StereoAnswer.{StereoAnswer}
-use Rattle.rules_stereo.specs.declared.StereoAnswer.TheVariants.{TooLoud, Of}
+use Rattle.rules_stereo.specs.declared.StereoRefusal.{StereoRefusal}
+use Rattle.rules_stereo.specs.declared.StereoRefusal.TheVariants.{TooLoud, Stage}
 use Rattle.stereo_demands.proofs.StereoIsStage.{mixed_lent, run_is_stage, stereo_case}
 
 -- ---- WHAT A REFUSAL LEAVES
@@ -72,16 +74,16 @@ module _ (l : Layout) (t : StageLent) where
 abbrev pub stereo_numbers : List ℕ
 stereo_numbers = 1 ∷ 2 ∷ 3 ∷ 4 ∷ 17 ∷ 5 ∷ 7 ∷ []
 
-pub stereo-answers : (a : StereoAnswer) → Numbered stereo_numbers (stereo_outcome a)
+pub stereo-answers : (a : Result Delivery StereoRefusal) → Numbered stereo_numbers (stereo_outcome a)
 unfolding stereo_outcome stage_outcome
-stereo-answers TooLoud = numbered stereo_numbers 17 0 tt
-stereo-answers (Of (stage-of.Delivered level boundary pairs bits)) = unnumbered stereo_numbers _
-stereo-answers (Of stage-of.BadLayout) = numbered stereo_numbers 1 0 tt
-stereo-answers (Of stage-of.ShortBuffer) = numbered stereo_numbers 2 0 tt
-stereo-answers (Of (stage-of.BadIntensity i)) = numbered stereo_numbers 3 i tt
-stereo-answers (Of (stage-of.BadSpectrum i)) = numbered stereo_numbers 4 i tt
-stereo-answers (Of (stage-of.NoLevel pairs)) = numbered stereo_numbers 5 pairs tt
-stereo-answers (Of (stage-of.TooLong bits)) = numbered stereo_numbers 7 bits tt
+stereo-answers (Ok d) = unnumbered stereo_numbers _
+stereo-answers (Err TooLoud) = numbered stereo_numbers 17 0 tt
+stereo-answers (Err (Stage stage-of.BadLayout)) = numbered stereo_numbers 1 0 tt
+stereo-answers (Err (Stage stage-of.ShortBuffer)) = numbered stereo_numbers 2 0 tt
+stereo-answers (Err (Stage (stage-of.BadIntensity i))) = numbered stereo_numbers 3 i tt
+stereo-answers (Err (Stage (stage-of.BadSpectrum i))) = numbered stereo_numbers 4 i tt
+stereo-answers (Err (Stage (stage-of.NoLevel pairs))) = numbered stereo_numbers 5 pairs tt
+stereo-answers (Err (Stage (stage-of.TooLong bits))) = numbered stereo_numbers 7 bits tt
 
 -- the stage never answers 17
 pub not_stage : {A : Type 0} (o : Outcome) (k : ℕ) → Numbered stage_numbers o → o ≡ refused 17 k → A
@@ -96,14 +98,20 @@ stereo_bounds l t =
     (λ h. subst (λ (x : StereoLeft). StageBounded x.outcome) (sym (run_is_stage l t h)) (stage_bounds l (mixed_lent l t)))
 
 -- ---- ONE OUTCOME: different answers have different numbers, and what is left is one
-pub stereo_numbers_differ : (a b : StereoAnswer) → stereo_outcome a ≡ stereo_outcome b → a ≡ b
+pub stereo_numbers_differ : (a b : Result Delivery StereoRefusal) → stereo_outcome a ≡ stereo_outcome b → a ≡ b
 unfolding stereo_outcome
-stereo_numbers_differ TooLoud TooLoud e = refl
-stereo_numbers_differ TooLoud (Of b) e = not_stage (stage_outcome b) 0 (stage_answers b) (sym e)
-stereo_numbers_differ (Of a) TooLoud e = not_stage (stage_outcome a) 0 (stage_answers a) e
-stereo_numbers_differ (Of a) (Of b) e = ap Of (stage_numbers_differ a b e)
+stereo_numbers_differ (Ok a) (Ok b) e = let z : a ≡ b = cc (stage_numbers_differ (Ok a) (Ok b) e) in ap Ok z
+stereo_numbers_differ (Ok a) (Err TooLoud) e = not_stage (stage_outcome (Ok a)) 0 (stage_answers (Ok a)) e
+stereo_numbers_differ (Ok a) (Err (Stage b)) e = let z : ◌≡◌ {A = ℕ} 0 1 = cc (stage_numbers_differ (Ok a) (Err b) e) in absurd (omega arith)
+stereo_numbers_differ (Err TooLoud) (Ok b) e = not_stage (stage_outcome (Ok b)) 0 (stage_answers (Ok b)) (sym e)
+stereo_numbers_differ (Err TooLoud) (Err TooLoud) e = refl
+stereo_numbers_differ (Err TooLoud) (Err (Stage b)) e = not_stage (stage_outcome (Err b)) 0 (stage_answers (Err b)) (sym e)
+stereo_numbers_differ (Err (Stage a)) (Ok b) e = let z : ◌≡◌ {A = ℕ} 0 1 = cc (stage_numbers_differ (Err a) (Ok b) e) in absurd (omega arith)
+stereo_numbers_differ (Err (Stage a)) (Err TooLoud) e = not_stage (stage_outcome (Err a)) 0 (stage_answers (Err a)) e
+stereo_numbers_differ (Err (Stage a)) (Err (Stage b)) e = let z : a ≡ b = cc (stage_numbers_differ (Err a) (Err b) e) in ap (λ r. Err (Stage r)) z
 
-pub stereo_once : (l : Layout) (t : StageLent) (x y : StereoLeft) (a b : StereoAnswer) → x ≡ encode_stereo_frame l t → y ≡ encode_stereo_frame l t →
+pub stereo_once : (l : Layout) (t : StageLent) (x y : StereoLeft) (a b : Result Delivery StereoRefusal) → x ≡ encode_stereo_frame l t
+    → y ≡ encode_stereo_frame l t →
     stereo_outcome a ≡ x.outcome → stereo_outcome b ≡ y.outcome → (x ≡ y) × (a ≡ b)
 stereo_once l t x y a b p q e f =
     let z : x ≡ y = p ∙ sym q in

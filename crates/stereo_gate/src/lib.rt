@@ -2,29 +2,21 @@
 #![tactic(auto)]
 
 ghost use Rattle.std.specs.Prelude.{◌≡◌, not, ◌||◌, ◌≤◌, ltb, length};
-ghost use Rattle.std.proofs.Math.Option.{none, some};
+ghost use Rattle.std.proofs.Math.Option.{none};
 ghost use Rattle.std.specs.Float.{binary32};
 ghost use Rattle.std.specs.Float.Ieee.{of_bits, lt};
 ghost use Rattle.std.specs.Float.Ieee.Scale.{finite};
 ghost use Rattle.buffers.specs.Walk.{first};
 ghost use Rattle.floats.specs.Single.{abs_f};
 ghost use Rattle.rules.specs.Layout.{LegalLayout, spectrum_length};
-ghost use Rattle.rules.specs.Refusals.{stage_outcome};
 ghost use Rattle.rules.specs.Stage.{bad_spectrum};
 ghost use Rattle.rules_stereo.specs.Stereo.{too_loud, judged_loud, stereo_gate};
 ghost use Rattle.stage_gate.specs.Gate.{judged_spectra};
 ghost use Rattle.stereo_gate.specs.StereoGates.{stereo_gate_outcome};
 
-use rules::{Layout, StageAnswer, StageRoom};
-use rules_stereo::StereoAnswer;
-use stage_gate::{Gate, first_bad_spectrum, refusal_before_spectra};
-
-// Whether a call may go on, or what it answers.
-#[derive(Clone, Copy)]
-pub enum StereoGate {
-    Open,
-    Refused(StereoAnswer),
-}
+use rules::{Layout, StageRefusal, StageRoom};
+use rules_stereo::StereoRefusal;
+use stage_gate::{first_bad_spectrum, refusal_before_spectra};
 
 // A NaN, an infinity, or a magnitude above 65,536. It is compiled to one comparison.
 fn is_outside(x: f32) -> bool
@@ -33,42 +25,33 @@ fn is_outside(x: f32) -> bool
     !((-65536.0 <= x) & (x <= 65536.0))
 }
 
-// Whether there is a bad one or a loud one below n. It goes on behind the first, so that the values are compiled to run side by side.
-fn has_outside(spectra: &[f32], n: usize) -> bool
-    requires { n ≤ length spectra.now }
-    ensures { result ≡ ltb (first (bad_spectrum spectra.now) n) n || ltb (first (too_loud spectra.now) n) n }
+// Whether there is a bad one or a loud one. It goes on behind the first, so that the values are compiled to run side by side.
+fn has_outside(spectra: &[f32]) -> bool
+    ensures { result ≡ ltb (first (bad_spectrum spectra.now) (length spectra.now)) (length spectra.now)
+        || ltb (first (too_loud spectra.now) (length spectra.now)) (length spectra.now) }
 {
     let mut found = false;
-    let mut i = 0;
-    while i < n {
-        found = found | is_outside(spectra[i]);
-        i += 1;
+    for &x in spectra {
+        found |= is_outside(x);
     }
     found
 }
 
-fn refused_by_stage(answer: StageAnswer) -> StereoGate
-    ensures { stereo_gate_outcome result ≡ some (stage_outcome answer) }
-{
-    StereoGate::Refused(StereoAnswer::Of(answer))
-}
-
 // 4 and 17 behind 1 to 3: one pass where neither comes.
-fn judge_spectra(layout: Layout, spectra: &[f32]) -> StereoGate
+fn judge_spectra(layout: Layout, spectra: &[f32]) -> Result<(), StereoRefusal>
     requires legal_layout { LegalLayout layout }
     requires layout_in_bounds { spectrum_length layout ≤ length spectra.now }
     ensures { stereo_gate_outcome result
         ≡ judged_loud (judged_spectra none layout spectra.now) layout spectra.now }
 {
-    let n = layout.channels * 1024;
-    if has_outside(spectra, n) {
-        let i = first_bad_spectrum(spectra, n);
-        if i < n {
-            return refused_by_stage(StageAnswer::BadSpectrum(i));
-        }
-        return StereoGate::Refused(StereoAnswer::TooLoud);
+    let judged = &spectra[..layout.channels * 1024];
+    if !has_outside(judged) {
+        return Ok(());
     }
-    StereoGate::Open
+    match first_bad_spectrum(judged) {
+        Some(i) => Err(StereoRefusal::Stage(StageRefusal::BadSpectrum(i))),
+        None => Err(StereoRefusal::TooLoud),
+    }
 }
 
 // The first refusal in request A2's order.
@@ -77,15 +60,10 @@ pub fn first_stereo_refusal(
     room: StageRoom,
     spectra: &[f32],
     intensities: &[u8],
-) -> StereoGate
+) -> Result<(), StereoRefusal>
     requires { (room.spectra ≡ length spectra.now) × (room.intensities ≡ length intensities.now) }
     ensures { stereo_gate_outcome result ≡ stereo_gate layout room spectra.now intensities.now }
 {
-    match refusal_before_spectra(layout, room, intensities) {
-        Gate::BadLayout => refused_by_stage(StageAnswer::BadLayout),
-        Gate::ShortBuffer => refused_by_stage(StageAnswer::ShortBuffer),
-        Gate::BadIntensity(i) => refused_by_stage(StageAnswer::BadIntensity(i)),
-        Gate::BadSpectrum(i) => refused_by_stage(StageAnswer::BadSpectrum(i)),
-        Gate::Open => judge_spectra(layout, spectra),
-    }
+    refusal_before_spectra(layout, room, intensities)?;
+    judge_spectra(layout, spectra)
 }

@@ -5,6 +5,7 @@ use mathlib.Core.Bool.{Bool, true, false, ◌&&◌}
 use Prim.Native.Nat.{ℕ, ◌+◌, ◌-◌, ◌*◌, ◌≤◌, ◌<◌}
 use native.Mathlib.Numerals.{add-one}
 use borrow.Author.Tests.{le-ltb, lt-ltb, eq-eqb, ne_eqb}
+use denote.Enum.Bare.{sameb}
 use lib.Dec.{T, ltb, ltb→lt}
 use lib.Ieee.{Float}
 use lib.ListN.{take, drop}
@@ -13,9 +14,18 @@ use Rattle.buffers.proofs.Build.{back-width}
 use Rattle.rules_stereo.specs.Mixed.{Signal, signal, subframes_mixed, put_back, pair_at, pair_mixed, is_primary, paired_at, channel_mixed, channels_mixed, mixed}
 use Rattle.rules.specs.Layout.{kind_at}
 use Rattle.rules.specs.declared.ChannelType.{ChannelType}
+use Rattle.rules.specs.declared.ChannelType.TheVariants.{Discrete, StereoPrimary, StereoSecondary}
+use Rattle.rules.specs.contracts.ChannelType as Kind
 use Rattle.rules.specs.declared.Layout.{Layout}
 
 -- ---- which channels are mixed
+
+-- the test of the kind
+pub same_primary : (k : ChannelType) → sameb Kind.the_type k StereoPrimary ≡ is_primary k
+same_primary Discrete = refl
+same_primary StereoPrimary = refl
+same_primary StereoSecondary = refl
+
 module _ (l : Layout) (c : ℕ) where
   nothing : (b : Bool) → false ≡ b && false
   nothing true = refl

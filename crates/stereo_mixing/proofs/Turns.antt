@@ -1,8 +1,9 @@
 -- A turn of each loop of a pair, as a step of the definition that it follows. Assumes nothing.
 use mathlib.Core.Path.{◌≡◌, ap, ap₂, ◌∙◌}
 use mathlib.Core.List.{List}
-use Prim.Native.Nat.{ℕ, ◌+◌, ◌-◌, ◌*◌}
+use Prim.Native.Nat.{ℕ, suc, ◌+◌, ◌-◌, ◌*◌, ◌≤◌}
 use native.Mathlib.Numerals.{add-one}
+use native.Mathlib.Omega.{arith}
 use lib.Ieee.{Float, binary32, mul}
 use lib.ListN.{set}
 use Rattle.floats.specs.Single.{zero_f}
@@ -13,11 +14,13 @@ use Rattle.rules_stereo.specs.declared.Mixing.{Mixing}
 use Rattle.rules.specs.declared.Layout.{Layout}
 
 -- one band more
-pub bands_more : (ratio : Float) (at b : ℕ) (xs ys : List Float) → ys ≡ bands_mixed ratio at b xs
-    → set (set ys (at + b) (mul binary32 (both_values ys (at + b)) ratio)) (1024 + (at + b)) zero_f ≡ bands_mixed ratio at (b + 1) xs
+pub bands_more : (ratio : Float) (at i : ℕ) (xs ys : List Float) → at ≤ i → ys ≡ bands_mixed ratio at (i - at) xs
+    → set (set ys i (mul binary32 (both_values ys i) ratio)) (1024 + i) zero_f ≡ bands_mixed ratio at (i + 1 - at) xs
 unfolding bands_mixed band_mixed
-bands_more ratio at b xs ys e =
-    rw (add-one b) (ap (λ (zs : List Float). set (set zs (at + b) (mul binary32 (both_values zs (at + b)) ratio)) (1024 + (at + b)) zero_f) e)
+bands_more ratio at i xs ys h e =
+    let z : i + 1 - at ≡ suc (i - at) = omega arith in
+    let b : at + (i - at) ≡ i = omega arith in
+    rw (z, b) (ap (λ (zs : List Float). set (set zs i (mul binary32 (both_values zs i) ratio)) (1024 + i) zero_f) e)
 
 -- one subframe more
 module _ (l : Layout) (s n : ℕ) (xs ys : List Float) (is : List ℕ) (p : Signal) (e : Energies) (q : Mixing) where

@@ -18,17 +18,7 @@ fn paired(layout: Layout, c: usize) -> bool
     requires { c < 16 }
     ensures { result ≡ paired_at layout c }
 {
-    let next = c + 1;
-    if layout.channels <= next {
-        return false;
-    }
-    let entry = layout.kinds[c];
-    let kind = entry.kind;
-    match kind {
-        ChannelType::StereoSecondary => false,
-        ChannelType::StereoPrimary => true,
-        ChannelType::Discrete => false,
-    }
+    c + 1 < layout.channels && layout.kinds[c].kind == ChannelType::StereoPrimary
 }
 
 // The pair is lent as one part, since two parts of a slice cannot be lent at once.
@@ -60,10 +50,7 @@ pub fn encode_intensity_stereo(layout: Layout, spectra: &mut [f32], intensities:
     if layout.stereo == 0 {
         return;
     }
-    let channels = layout.channels;
-    let mut c = 0;
-    while c < channels {
+    for c in 0..layout.channels {
         mix_channel(layout, c, spectra, intensities);
-        c += 1;
     }
 }

@@ -11,13 +11,10 @@ pub fn mix_stereo_bands(pair: &mut [f32], at: usize, count: usize, ratio: f32)
     requires { (at + count ≤ 1024) × (length pair.old ≡ 2048) }
     ensures { pair.new ≡ bands_mixed ratio at count pair.old }
 {
-    let mut b: usize = 0;
-    while b < count {
-        let i = at + b;
+    for i in at..at + count {
         let both = pair[i] + pair[1024 + i];
         pair[i] = both * ratio;
         pair[1024 + i] = 0.0;
-        b += 1;
     }
 }
 
@@ -29,13 +26,11 @@ pub fn mix_pair(layout: Layout, pair: &mut [f32], intensities: &mut [u8])
         ≡ subframes_mixed layout 8 (signal pair.old intensities.old) }
 {
     let count = layout.total - layout.base;
-    let mut s: usize = 0;
-    while s < 8 {
+    for (s, intensity) in intensities.iter_mut().enumerate() {
         let at = s * 128 + layout.base;
         let e = stereo_energy(pair, at, count);
         let q = quantize_intensity(e);
-        intensities[s] = q.value;
+        *intensity = q.value;
         mix_stereo_bands(pair, at, count, q.ratio);
-        s += 1;
     }
 }

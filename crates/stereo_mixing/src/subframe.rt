@@ -2,6 +2,7 @@
 ghost use Rattle.std.specs.Prelude.{◌≡◌, ◌+◌, ◌≤◌, length};
 ghost use Rattle.rules_stereo.specs.Mixed.{energies, mixing_of, bound_of};
 ghost use Rattle.stereo_mixing.specs.Bounds.{IsBounds};
+ghost use Rattle.stereo_mixing.specs.Bands.{energies_between};
 
 use floats::hold;
 use floats::magnitudes::add_magnitude;
@@ -9,23 +10,18 @@ use rules_stereo::{Energies, Mixing};
 
 mod entries;
 
-// The energies of `count` bands of a pair from `at` on, of its 2,048 values, the left's first.
-pub fn stereo_energy(pair: &[f32], at: usize, count: usize) -> Energies
-    requires { (at + count ≤ 1024) × (length pair.now ≡ 2048) }
-    ensures { result ≡ energies pair.now at count }
+// The energies of bands of the left, and of as many of the right.
+fn energies_of(lefts: &[f32], rights: &[f32]) -> Energies
+    requires { length lefts.now ≡ length rights.now }
+    ensures { result ≡ energies_between lefts.now rights.now }
 {
     let mut left: f32 = 0.0;
     let mut right: f32 = 0.0;
     let mut total: f32 = 0.0;
-    let mut b: usize = 0;
-    while b < count {
-        let i = at + b;
-        let x = pair[i];
-        let y = pair[1024 + i];
+    for (&x, &y) in lefts.iter().zip(rights) {
         left = add_magnitude(left, x);
         right = add_magnitude(right, y);
         total = add_magnitude(total, x + y);
-        b += 1;
     }
     Energies {
         left,
@@ -34,26 +30,32 @@ pub fn stereo_energy(pair: &[f32], at: usize, count: usize) -> Energies
     }
 }
 
+// The energies of `count` bands of a pair from `at` on, of its 2,048 values, the left's first.
+pub fn stereo_energy(pair: &[f32], at: usize, count: usize) -> Energies
+    requires { (at + count ≤ 1024) × (length pair.now ≡ 2048) }
+    ensures { result ≡ energies pair.now at count }
+{
+    let (lefts, rights) = pair.split_at(1024);
+    energies_of(&lefts[at..at + count], &rights[at..at + count])
+}
+
 fn ratio_bounds() -> [f32; 14]
     ensures { IsBounds result }
 {
     entries::RATIO_BOUNDS
 }
 
+// What no bound ends the search at.
+const LAST_INTENSITY: u8 = 13;
+
 // 1, and one more while it is below 13 and its bound is at least what is stored.
 fn bound(stored: f32) -> u8
     ensures { result ≡ bound_of stored }
 {
     let bounds = ratio_bounds();
-    let mut value: u8 = 1;
-    while value < 13 {
-        if bounds[value as usize] >= stored {
-            value += 1;
-        } else {
-            return value;
-        }
-    }
-    value
+    (1..LAST_INTENSITY)
+        .find(|&value| !(bounds[value as usize] >= stored))
+        .unwrap_or(LAST_INTENSITY)
 }
 
 // The intensity and the ratio of a subframe, by its energies.

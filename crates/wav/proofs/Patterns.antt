@@ -1,14 +1,14 @@
 -- A pattern's integer, and a sample by its depth. Assumes nothing.
-use mathlib.Core.Path.{◌≡◌, refl, sym, ap, ◌∙◌}
+use mathlib.Core.Path.{◌≡◌, refl, ap, ◌∙◌}
 use mathlib.Core.List.{List}
 use mathlib.Core.Logic.{⊎_elim}
 use mathlib.Core.Bool.{Bool, true, false, not, cond}
-use Prim.Native.Nat.{ℕ, zero, suc, ◌+◌, ◌-◌, ◌^◌, ◌≤◌, ◌<◌}
+use Prim.Native.Nat.{ℕ, zero, suc, ◌+◌, ◌-◌, ◌≤◌, ◌<◌}
 use native.Mathlib.Omega.{arith}
 use borrow.Author.Tests.{lt-ltb, le-ltb, ltb-true, ltb-false}
 use lib.Dec.{T, ltb, le→leb, lt→ltb}
-use lib.IntN.{ℤ, pos, negsuc, neg_ℤ, nat_abs}
-use lib.Ieee.{Float, fin, binary32, div, of_int, of_bits, in_float, nan_bits}
+use lib.IntN.{ℤ, pos, neg_ℤ, nat_abs}
+use lib.Ieee.{fin, binary32, div, of_int, of_bits, in_float, nan_bits}
 use lib.Ieee.Scale.{finite}
 use Rattle.rules_files.specs.Wav.{low_at, is_depth, sample_width, signed_sample, sample_of}
 use Rattle.rules_files.proofs.Samples.{depth_cases, sample_exact, finite_pattern}

@@ -1,19 +1,17 @@
 -- Counting, judging and storing, as the loops do it. Assumes nothing.
-use mathlib.Core.Path.{◌≡◌, refl, sym, ap, ◌∙◌}
+use mathlib.Core.Path.{◌≡◌, refl, sym}
 use mathlib.Core.List.{List}
-use mathlib.Core.Bool.{Bool, true, false}
-use Prim.Native.Nat.{ℕ, zero, suc, ◌+◌, ◌-◌, ◌*◌, ◌/◌, ◌≤◌, ◌<◌, min}
-use native.Mathlib.Nat.{mul-le-mul_right, add-mul, one-mul}
+use mathlib.Core.Bool.{true, false}
+use Prim.Native.Nat.{ℕ, ◌+◌, ◌-◌, ◌*◌, ◌/◌, ◌≤◌, ◌<◌, min}
+use native.Mathlib.Nat.{mul-le-mul_right, add-mul}
 use native.Mathlib.Omega.{arith}
 use lib.ListN.{length}
-use lib.Ieee.{Float, binary32, of_bits}
+use lib.Ieee.{binary32, of_bits}
 use lib.Ieee.Scale.{finite}
-use Rattle.buffers.specs.Walk.{build, every}
 use Rattle.buffers.proofs.Every.{every-none, every_more, every-all, every-at, every_fails}
 use Rattle.rules_files.specs.Wav.{low_at, sample_width, whole_samples, sample_of, sample_at, all_finite}
 use Rattle.rules_files.specs.declared.wav.WavData.{WavData}
 use Rattle.rules_files.proofs.Samples.{whole-within, whole-finite}
-use Rattle.wav.specs.Inside.{SamplesInside}
 
 pub counted : (wav : List ℕ) (d : WavData) → d.body ≤ length wav → (present : ℕ) → present ≡ min d.size (length wav - d.body)
     → (present / sample_width d.format.depth ≡ whole_samples wav d)

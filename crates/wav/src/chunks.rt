@@ -4,7 +4,7 @@ ghost use Rattle.rules_files.specs.Wav.{is_wave, default_format, format_after, w
 ghost use Rattle.rules_files.specs.WavFits.{FormatFits, WalkFits};
 
 use numbers::low::get_low;
-use rules_files::wav::{WavData, WavFormat, WavWalk};
+use rules_files::wav::{WavData, WavFormat};
 
 // The names as numbers, low byte first.
 const RIFF: u32 = 0x4646_4952;
@@ -18,13 +18,7 @@ const DATA: u32 = 0x6174_6164;
 pub fn is_wave(wav: &[u8]) -> bool
     ensures { result ≡ is_wave wav.now }
 {
-    if wav.len() < 44 {
-        return false;
-    }
-    if get_low(wav, 0, 4) != RIFF {
-        return false;
-    }
-    get_low(wav, 8, 4) == WAVE
+    wav.len() >= 44 && get_low(wav, 0, 4) == RIFF && get_low(wav, 8, 4) == WAVE
 }
 
 fn default_format() -> WavFormat
@@ -37,30 +31,23 @@ fn default_format() -> WavFormat
     }
 }
 
-// The format after a chunk that lies whole in the file.
-fn format_after(wav: &[u8], name: u32, size: usize, body: usize, format: WavFormat) -> WavFormat
-    requires size_in_bounds { body + size ≤ length wav.now }
-    requires format_fits { FormatFits format }
-    ensures { (result ≡ format_after wav.now name size body format) × FormatFits result }
+// The format after a chunk with these bytes behind its head.
+fn format_after(name: u32, chunk: &[u8], format: WavFormat) -> WavFormat
+    requires { FormatFits format }
+    ensures { (result ≡ format_after chunk.now name (length chunk.now) 0 format) × FormatFits result }
 {
-    if name != FMT {
+    if name != FMT || chunk.len() < 16 {
         return format;
     }
-    if size < 16 {
-        return format;
-    }
-    let channels = get_low(wav, body + 2, 2);
-    let rate = get_low(wav, body + 4, 4);
-    let depth = get_low(wav, body + 14, 2);
     WavFormat {
-        channels: channels as usize,
-        rate: rate as usize,
-        depth: depth as usize,
+        channels: get_low(chunk, 2, 2) as usize,
+        rate: get_low(chunk, 4, 4) as usize,
+        depth: get_low(chunk, 14, 2) as usize,
     }
 }
 
 // Sizes are compared by subtraction: a sum could pass what a file's length bounds.
-pub fn find_data(wav: &[u8]) -> WavWalk
+pub fn find_data(wav: &[u8]) -> Option<WavData>
     ensures { (result ≡ walked wav.now) × WalkFits wav.now result }
 {
     let mut format = default_format();
@@ -70,13 +57,13 @@ pub fn find_data(wav: &[u8]) -> WavWalk
         let size = get_low(wav, pos + 4, 4) as usize;
         let body = pos + 8;
         if name == DATA {
-            return WavWalk::Found(WavData { format, body, size });
+            return Some(WavData { format, body, size });
         }
         if wav.len() - body < size {
-            return WavWalk::Ended;
+            return None;
         }
-        format = format_after(wav, name, size, body, format);
+        format = format_after(name, &wav[body..body + size], format);
         pos = body + size + size % 2;
     }
-    WavWalk::Ended
+    None
 }

@@ -12,10 +12,10 @@ ghost use Rattle.rules_files.specs.WavFits.{DataFits, TakeFits};
 
 use crate::chunks::{find_data, is_wave};
 use crate::samples::{all_finite, is_depth, take_samples, whole_samples};
-use rules_files::wav::{Take, WavAnswer, WavData, WavWalk};
+use rules_files::wav::{Take, WavData, WavRefusal};
 
 // The take from a data chunk that was found. Every pattern is judged before the first sample is stored.
-fn read_data(wav: &[u8], found: WavData, samples: &mut [f32]) -> WavAnswer
+fn read_data(wav: &[u8], found: WavData, samples: &mut [f32]) -> Result<Take, WavRefusal>
     requires { DataFits wav.now found }
     ensures { (wav_left result samples.new ≡ data_read wav.now found samples.old) × TakeFits result }
 {
@@ -23,23 +23,23 @@ fn read_data(wav: &[u8], found: WavData, samples: &mut [f32]) -> WavAnswer
     let depth = format.depth;
     let body = found.body;
     if found.size == 0 {
-        return WavAnswer::NoData;
+        return Err(WavRefusal::NoData);
     }
     if !is_depth(depth) {
-        return WavAnswer::BadDepth;
+        return Err(WavRefusal::BadDepth);
     }
     let count = whole_samples(wav, found);
     if 0x100_0000 < count {
-        return WavAnswer::TooMany;
+        return Err(WavRefusal::TooMany);
     }
     if samples.len() < count {
-        return WavAnswer::ShortBuffer;
+        return Err(WavRefusal::ShortBuffer);
     }
     if !all_finite(wav, depth, body, count) {
-        return WavAnswer::NotFinite;
+        return Err(WavRefusal::NotFinite);
     }
     let note = take_samples(wav, depth, body, &mut samples[..count]);
-    WavAnswer::Taken(Take {
+    Ok(Take {
         channels: format.channels,
         rate: format.rate,
         depth,
@@ -49,14 +49,12 @@ fn read_data(wav: &[u8], found: WavData, samples: &mut [f32]) -> WavAnswer
 }
 
 // A take from its WAV file: the samples into the lent buffer, and what they are.
-pub fn read_wav(wav: &[u8], samples: &mut [f32]) -> WavAnswer
+pub fn read_wav(wav: &[u8], samples: &mut [f32]) -> Result<Take, WavRefusal>
     ensures { (wav_left result samples.new ≡ read_wav wav.now samples.old) × TakeFits result }
 {
     if !is_wave(wav) {
-        return WavAnswer::NotWave;
+        return Err(WavRefusal::NotWave);
     }
-    let WavWalk::Found(found) = find_data(wav) else {
-        return WavAnswer::NoData;
-    };
+    let found = find_data(wav).ok_or(WavRefusal::NoData)?;
     read_data(wav, found, samples)
 }

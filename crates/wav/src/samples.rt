@@ -9,20 +9,13 @@ ghost use Rattle.wav.specs.Inside.{SamplesInside};
 
 use crate::samples::loudness::Loudness;
 use crate::samples::values::{is_finite_pattern, sample};
-use buffers::lesser;
 use numbers::low::get_low;
 use rules_files::wav::{LevelNote, WavData};
 
 pub fn is_depth(depth: usize) -> bool
     ensures { result ≡ is_depth depth }
 {
-    if depth == 16 {
-        return true;
-    }
-    if depth == 24 {
-        return true;
-    }
-    depth == 32
+    matches!(depth, 16 | 24 | 32)
 }
 
 // How many samples lie whole in the file.
@@ -30,7 +23,7 @@ pub fn whole_samples(wav: &[u8], found: WavData) -> usize
     requires { (is_depth found.format.depth ≡ true) × (found.body ≤ length wav.now) }
     ensures { (result ≡ whole_samples wav.now found) × (found.body + result * sample_width found.format.depth ≤ length wav.now) }
 {
-    let present = lesser(found.size, wav.len() - found.body);
+    let present = found.size.min(wav.len() - found.body);
     present / (found.format.depth / 8)
 }
 
@@ -39,17 +32,7 @@ pub fn all_finite(wav: &[u8], depth: usize, body: usize, count: usize) -> bool
     requires { SamplesInside wav.now depth body count }
     ensures { result ≡ all_finite wav.now depth body count }
 {
-    if depth != 32 {
-        return true;
-    }
-    let mut k = 0;
-    while k < count {
-        if !is_finite_pattern(get_low(wav, body + k * 4, 4)) {
-            return false;
-        }
-        k += 1;
-    }
-    true
+    depth != 32 || (0..count).all(|k| is_finite_pattern(get_low(wav, body + k * 4, 4)))
 }
 
 // Stores as many samples as the buffer has, and notes their level.
@@ -61,12 +44,9 @@ pub fn take_samples(wav: &[u8], depth: usize, body: usize, samples: &mut [f32]) 
 {
     let width = depth / 8;
     let mut loudness = Loudness::none();
-    let mut k = 0;
-    while k < samples.len() {
-        let x = sample(wav, body + k * width, depth);
-        samples[k] = x;
-        loudness = loudness.with(x);
-        k += 1;
+    for (k, out) in samples.iter_mut().enumerate() {
+        *out = sample(wav, body + k * width, depth);
+        loudness = loudness.with(*out);
     }
     loudness.note()
 }

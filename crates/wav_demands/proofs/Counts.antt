@@ -9,12 +9,11 @@ use borrow.Author.Tests.{not-false}
 use lib.Dec.{eqb, ltb}
 use lib.Ieee.{Float}
 use lib.ListN.{length}
+use Rattle.std.specs.Prelude.{Option, Some, None}
 use Rattle.buffers.proofs.Tests.{cond_both}
 use Rattle.rules.specs.Refusals.{delivered}
 use Rattle.rules_files.specs.Wav.{is_wave, is_depth, sample_width, whole_samples, all_finite, walked, WavLeft, wav_refused, wav_taken, data_read, walk_read, read_wav}
 use Rattle.rules_files.specs.declared.wav.WavData.{WavData}
-use Rattle.rules_files.specs.declared.wav.WavWalk.{WavWalk}
-use Rattle.rules_files.specs.declared.wav.WavWalk.TheVariants as at_end
 use Rattle.rules_files.proofs.Samples.{width-within}
 
 -- Half as many places as the file has bytes always suffice.
@@ -46,10 +45,10 @@ data_bounds wav d samples =
     (λ _. cond_both (Bounds wav) (not (all_finite wav d.format.depth d.body (whole_samples wav d))) (λ _. none wav samples 25)
     (λ _. taken wav d samples (not-false _ h))))))
 
-walk_bounds : (wav : List ℕ) (w : WavWalk) (samples : List Float) → Bounds wav (walk_read wav w samples)
+walk_bounds : (wav : List ℕ) (w : Option WavData) (samples : List Float) → Bounds wav (walk_read wav w samples)
 unfolding walk_read
-walk_bounds wav (at_end.Found d) samples = data_bounds wav d samples
-walk_bounds wav at_end.Ended samples = none wav samples 23
+walk_bounds wav (Some d) samples = data_bounds wav d samples
+walk_bounds wav None samples = none wav samples 23
 
 pub taken_bound : (wav : List ℕ) (samples : List Float) (channels rate depth count : ℕ)
     → (read_wav wav samples).outcome ≡ delivered (channels ∷ rate ∷ depth ∷ count ∷ []) → 2 * count ≤ length wav

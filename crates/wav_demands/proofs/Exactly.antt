@@ -9,6 +9,7 @@ use borrow.Author.Tests.{not-true, not-false, leb-true, ltb-true, ltb-false, eqb
 use lib.Dec.{leb, eqb, ltb}
 use lib.Ieee.{Float}
 use lib.ListN.{length}
+use Rattle.std.specs.Prelude.{Option, Some, None}
 use Rattle.buffers.proofs.Tests.{and_fst, and_snd, and-true, cond_both}
 use Rattle.numbers.specs.Numbers.{of_low}
 use Rattle.rules.specs.Refusals.{Outcome, refused}
@@ -18,8 +19,6 @@ use Rattle.rules_files.specs.Wav.{is_depth, whole_samples, all_finite}
 use Rattle.rules_files.specs.Wav.{WavLeft, wav_refused, wav_taken, data_read, walk_read, read_wav}
 use Rattle.rules_files.specs.declared.wav.WavFormat.{WavFormat}
 use Rattle.rules_files.specs.declared.wav.WavData.{WavData}
-use Rattle.rules_files.specs.declared.wav.WavWalk.{WavWalk}
-use Rattle.rules_files.specs.declared.wav.WavWalk.TheVariants as at_end
 use Rattle.rules_files.proofs.Chunks.{format_next, walk_start, walk-next, walk_end, walk_cut}
 use Rattle.wav_demands.proofs.Formats.{Reached, at_first, passed}
 use Rattle.wav_demands.proofs.Orders.{data_case}
@@ -56,16 +55,16 @@ pub record WalkEnds (wav : List ℕ) : Type 0 where
       ⊎ ((place + 8 ≤ length wav) × (chunk_name wav place ≡ data_name → ⊥) × (length wav - (place + 8) < chunk_size wav place))
 
 module _ (wav : List ℕ) where
-  abbrev next : (n pos : ℕ) (f : WavFormat) → WavWalk
+  abbrev next : (n pos : ℕ) (f : WavFormat) → Option WavData
   next n pos f = walk_chunks wav n (next_chunk wav pos) (format_after wav (chunk_name wav pos) (chunk_size wav pos) (pos + 8) f)
 
-  abbrev turn : (n pos : ℕ) (f : WavFormat) (a b c : Bool) → WavWalk
+  abbrev turn : (n pos : ℕ) (f : WavFormat) (a b c : Bool) → Option WavData
   turn n pos f a b c =
-      cond a at_end.Ended
-      (cond b (at_end.Found (record { format = f; body = pos + 8; size = chunk_size wav pos }))
-      (cond c at_end.Ended (next n pos f)))
+      cond a None
+      (cond b (Some (record { format = f; body = pos + 8; size = chunk_size wav pos }))
+      (cond c None (next n pos f)))
 
-  ends : (n pos : ℕ) (f : WavFormat) → length wav ≤ n + pos → Reached wav pos → walk_chunks wav n pos f ≡ at_end.Ended → WalkEnds wav
+  ends : (n pos : ℕ) (f : WavFormat) → length wav ≤ n + pos → Reached wav pos → walk_chunks wav n pos f ≡ None → WalkEnds wav
   unfolding walk_chunks
   ends zero pos f h r e = record { place = pos; reached = r; stops = inl (omega arith) }
   ends (suc n) pos f h r e =
@@ -76,8 +75,8 @@ module _ (wav : List ℕ) where
     where
       go : (a b c : Bool) → (a ≡ true → length wav < pos + 8) → (a ≡ false → pos + 8 ≤ length wav) → (b ≡ false → chunk_name wav pos ≡ data_name → ⊥)
           → (c ≡ true → length wav - (pos + 8) < chunk_size wav pos) → (c ≡ false → chunk_size wav pos ≤ length wav - (pos + 8))
-          → (length wav ≤ n + next_chunk wav pos → Reached wav (next_chunk wav pos) → next n pos f ≡ at_end.Ended → WalkEnds wav)
-          → turn n pos f a b c ≡ at_end.Ended → WalkEnds wav
+          → (length wav ≤ n + next_chunk wav pos → Reached wav (next_chunk wav pos) → next n pos f ≡ None → WalkEnds wav)
+          → turn n pos f a b c ≡ None → WalkEnds wav
       go true b c short long other past whole further e = record { place = pos; reached = r; stops = inl (short refl) }
       go false true c short long other past whole further e = let z : ◌≡◌ {A = ℕ} 0 1 = cc in absurd (omega arith)
       go false false true short long other past whole further e = record { place = pos; reached = r; stops = inr (long refl, other refl, past refl) }
@@ -90,11 +89,11 @@ module _ (wav : List ℕ) where
 
   stopped : (pos : ℕ) → Reached wav pos
       → (length wav < pos + 8) ⊎ ((pos + 8 ≤ length wav) × (chunk_name wav pos ≡ data_name → ⊥) × (length wav - (pos + 8) < chunk_size wav pos))
-      → walked wav ≡ at_end.Ended
+      → walked wav ≡ None
   stopped pos r (inl h) = let x = goes_on pos r in x.1 ∙ walk_end wav pos x.0 h
   stopped pos r (inr (h, other, k)) = let x = goes_on pos r in x.1 ∙ walk_cut wav pos x.0 h other k
 
-  pub walk_ends_exactly : (walked wav ≡ at_end.Ended) ↔ WalkEnds wav
+  pub walk_ends_exactly : (walked wav ≡ None) ↔ WalkEnds wav
   walk_ends_exactly = (ends (length wav) 12 default_format (omega arith) at_first, (λ w. stopped w.place w.reached w.stops))
 
 -- ---- the whole call
@@ -105,18 +104,18 @@ other {A} {a} {b} {n} {k} e d = let z : a ≡ n = cc e in absurd (eqb-false a n 
 -- a WAV file whose walk stops at data; and at data that is not empty
 pub record DataFound (wav : List ℕ) (d : WavData) : Type 0 where
   pub file : IsWave wav
-  pub found : walked wav ≡ at_end.Found d
+  pub found : walked wav ≡ Some d
 
 pub record SomeData (wav : List ℕ) (d : WavData) : Type 0 where
   pub at : DataFound wav d
   pub some : d.size ≡ 0 → ⊥
 
 module _ (wav : List ℕ) (samples : List Float) where
-  walk_case : (P : WavLeft → Type 0) (w : WavWalk) → (w ≡ at_end.Ended → P (wav_refused 23 samples))
-      → ((d : WavData) → w ≡ at_end.Found d → P (data_read wav d samples)) → P (walk_read wav w samples)
+  walk_case : (P : WavLeft → Type 0) (w : Option WavData) → (w ≡ None → P (wav_refused 23 samples))
+      → ((d : WavData) → w ≡ Some d → P (data_read wav d samples)) → P (walk_read wav w samples)
   unfolding walk_read
-  walk_case P at_end.Ended ended found = ended refl
-  walk_case P (at_end.Found d) ended found = found d refl
+  walk_case P None ended found = ended refl
+  walk_case P (Some d) ended found = found d refl
 
   -- what each end has, every end has
   pub wav_case : (P : WavLeft → Type 0) → ((IsWave wav → ⊥) → P (wav_refused 22 samples)) → (IsWave wav → WalkEnds wav → P (wav_refused 23 samples))
@@ -158,7 +157,7 @@ module _ (wav : List ℕ) (samples : List Float) where
 
   -- 23 exactly where it is one and the walk ends, or data is empty
   pub twenty_three_exactly : ((read_wav wav samples).outcome ≡ refused 23 0)
-      ↔ (IsWave wav × (WalkEnds wav ⊎ ((d : WavData) × (walked wav ≡ at_end.Found d) × (d.size ≡ 0))))
+      ↔ (IsWave wav × (WalkEnds wav ⊎ ((d : WavData) × (walked wav ≡ Some d) × (d.size ≡ 0))))
   unfolding data_read wav_taken
   twenty_three_exactly = (
     wav_case Claim (λ _ e. other e refl) (λ w x _. (w, inl x))
@@ -168,9 +167,9 @@ module _ (wav : List ℕ) (samples : List Float) where
   )
     where
       Claim : WavLeft → Type 0
-      Claim x = x.outcome ≡ refused 23 0 → IsWave wav × (WalkEnds wav ⊎ ((d : WavData) × (walked wav ≡ at_end.Found d) × (d.size ≡ 0)))
+      Claim x = x.outcome ≡ refused 23 0 → IsWave wav × (WalkEnds wav ⊎ ((d : WavData) × (walked wav ≡ Some d) × (d.size ≡ 0)))
 
-      back : IsWave wav → WalkEnds wav ⊎ ((d : WavData) × (walked wav ≡ at_end.Found d) × (d.size ≡ 0)) → (read_wav wav samples).outcome ≡ refused 23 0
+      back : IsWave wav → WalkEnds wav ⊎ ((d : WavData) × (walked wav ≡ Some d) × (d.size ≡ 0)) → (read_wav wav samples).outcome ≡ refused 23 0
       back w (inl x) = ap (λ (x : WavLeft). x.outcome) (to_end w x)
       back w (inr (d, e, none)) = ap (λ (x : WavLeft). x.outcome) (to_data d (record { file = w; found = e })) ∙ rw (eq-eqb _ _ none)
 

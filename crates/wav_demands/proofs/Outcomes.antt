@@ -7,15 +7,15 @@ use native.Mathlib.Omega.{arith}
 use lib.Dec.{eqb, ltb}
 use lib.Ieee.{Float, nan}
 use lib.ListN.{length, get_or}
+use Rattle.std.specs.Prelude.{Option, Some, None, Result, Ok, Err}
 use Rattle.buffers.proofs.Tests.{cond_both}
 use Rattle.rules.specs.Refusals.{Outcome, delivered, refused}
 use Rattle.rules_files.specs.Wav.{is_wave, is_depth, whole_samples, all_finite, walked, wav_outcome, wav_note, WavLeft, wav_left, wav_refused, wav_taken, data_read}
 use Rattle.rules_files.specs.Wav.{walk_read, read_wav}
 use Rattle.rules_files.specs.declared.wav.WavData.{WavData}
-use Rattle.rules_files.specs.declared.wav.WavWalk.{WavWalk}
-use Rattle.rules_files.specs.declared.wav.WavWalk.TheVariants as at_end
-use Rattle.rules_files.specs.declared.wav.WavAnswer.{WavAnswer}
-use Rattle.rules_files.specs.declared.wav.WavAnswer.TheVariants as wav-of
+use Rattle.rules_files.specs.declared.wav.Take.{Take}
+use Rattle.rules_files.specs.declared.wav.WavRefusal.{WavRefusal}
+use Rattle.rules_files.specs.declared.wav.WavRefusal.TheVariants as why
 
 -- what a refusal leaves
 abbrev Leaves : (samples : List Float) (x : WavLeft) → Type 0
@@ -38,10 +38,10 @@ data_leaves wav d samples =
     (λ _. cond_both (Leaves samples) (not (all_finite wav d.format.depth d.body (whole_samples wav d))) (λ _. leaves samples 25)
     (λ _. takes wav d samples)))))
 
-walk-leaves : (wav : List ℕ) (w : WavWalk) (samples : List Float) → Leaves samples (walk_read wav w samples)
+walk-leaves : (wav : List ℕ) (w : Option WavData) (samples : List Float) → Leaves samples (walk_read wav w samples)
 unfolding walk_read
-walk-leaves wav (at_end.Found d) samples = data_leaves wav d samples
-walk-leaves wav at_end.Ended samples = leaves samples 23
+walk-leaves wav (Some d) samples = data_leaves wav d samples
+walk-leaves wav None samples = leaves samples 23
 
 -- Every refusal has 0 beside it and leaves the samples; it has no note.
 pub wav_refused_lem : (wav : List ℕ) (samples : List Float) (number beside : ℕ) → (read_wav wav samples).outcome ≡ refused number beside
@@ -51,30 +51,30 @@ wav_refused_lem wav samples = cond_both (Leaves samples) (not (is_wave wav)) (λ
 
 -- ---- an answer is known by its number and its note
 
-answer_of : Outcome → List Float → WavAnswer
+answer_of : Outcome → List Float → Result Take WavRefusal
 answer_of (delivered ns) xs =
-    wav-of.Taken (record {
+    Ok (record {
       channels = get_or ns 0 0;
       rate = get_or ns 1 0;
       depth = get_or ns 2 0;
       count = get_or ns 3 0;
       note = record { peak = get_or xs 0 nan; mean = get_or xs 1 nan };
     })
-answer_of (refused n k) xs = get_or (wav-of.ShortBuffer ∷ []) (n - 2)
-    (get_or (wav-of.NotWave ∷ wav-of.NoData ∷ wav-of.BadDepth ∷ wav-of.NotFinite ∷ []) (n - 22) wav-of.TooMany)
+answer_of (refused n k) xs = Err (get_or (why.ShortBuffer ∷ []) (n - 2)
+    (get_or (why.NotWave ∷ why.NoData ∷ why.BadDepth ∷ why.NotFinite ∷ []) (n - 22) why.TooMany))
 
-answer-said : (a : WavAnswer) → answer_of (wav_outcome a) (wav_note a) ≡ a
+answer-said : (a : Result Take WavRefusal) → answer_of (wav_outcome a) (wav_note a) ≡ a
 unfolding wav_outcome wav_note answer_of
-answer-said (wav-of.Taken t) = refl
-answer-said wav-of.NotWave = refl
-answer-said wav-of.NoData = refl
-answer-said wav-of.BadDepth = refl
-answer-said wav-of.TooMany = refl
-answer-said wav-of.ShortBuffer = refl
-answer-said wav-of.NotFinite = refl
+answer-said (Ok t) = refl
+answer-said (Err why.NotWave) = refl
+answer-said (Err why.NoData) = refl
+answer-said (Err why.BadDepth) = refl
+answer-said (Err why.TooMany) = refl
+answer-said (Err why.ShortBuffer) = refl
+answer-said (Err why.NotFinite) = refl
 
 -- Two answers, with what they leave, that the contract allows are the same.
-pub wav_once : (wav : List ℕ) (before : List Float) (a b : WavAnswer) (xs ys : List Float)
+pub wav_once : (wav : List ℕ) (before : List Float) (a b : Result Take WavRefusal) (xs ys : List Float)
     → wav_left a xs ≡ read_wav wav before → wav_left b ys ≡ read_wav wav before → (a ≡ b) × (xs ≡ ys)
 wav_once wav before a b xs ys p q =
     let z : wav_left a xs ≡ wav_left b ys = p ∙ sym q in (

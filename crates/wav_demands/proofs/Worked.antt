@@ -8,6 +8,7 @@ use borrow.Author.Tests.{lt-ltb, le-ltb, ne_eqb}
 use lib.IntN.{pos, negsuc}
 use lib.Ieee.{Float, binary32, lt, add, div, of_int, of_bits, to_bits}
 use lib.ListN.{length, replicate}
+use Rattle.std.specs.Prelude.{Ok, Err}
 use Rattle.buffers.specs.Walk.{build, every}
 use Rattle.floats.specs.Single.{zero_f, abs_f, max_f, mean_f, mean, no_average, with_one}
 use Rattle.numbers.specs.Numbers.{of_low}
@@ -15,7 +16,7 @@ use Rattle.rules.specs.Refusals.{Outcome, delivered, refused}
 use Rattle.rules_files.specs.declared.wav.LevelNote.{LevelNote}
 use Rattle.rules_files.specs.declared.wav.Take.{Take}
 use Rattle.rules_files.specs.declared.wav.WavData.{WavData}
-use Rattle.rules_files.specs.declared.wav.WavAnswer.TheVariants as wav-of
+use Rattle.rules_files.specs.declared.wav.WavRefusal.TheVariants as why
 use Rattle.rules_files.specs.Wav.{wav_outcome, wav_note, wav_left, wav_refused}
 use Rattle.rules_files.specs.Wav.{is_wave, default_format, gives_format, format_in, format_after, walk_chunks, is_depth, whole_samples, over_power, signed_sample}
 use Rattle.rules_files.specs.Wav.{sample_of, sample_at, all_finite, note_of, wav_taken, data_read, walk_read, read_wav}
@@ -203,12 +204,12 @@ abbrev take : (note : LevelNote) → Take
 take note = record { channels = 1; rate = 2; depth = 3; count = 4; note = note }
 
 pub wav_numbers :
-    map wav_outcome (wav-of.NotWave ∷ wav-of.NoData ∷ wav-of.BadDepth ∷ wav-of.TooMany ∷ wav-of.ShortBuffer ∷ wav-of.NotFinite ∷ [])
+    map wav_outcome (Err why.NotWave ∷ Err why.NoData ∷ Err why.BadDepth ∷ Err why.TooMany ∷ Err why.ShortBuffer ∷ Err why.NotFinite ∷ [])
     ≡ refused 22 0 ∷ refused 23 0 ∷ refused 24 0 ∷ refused 30 0 ∷ refused 2 0 ∷ refused 25 0 ∷ []
 unfolding wav_outcome
 wav_numbers = refl
 
-pub take_names : (note : LevelNote) (samples : List Float) → let x = wav_left (wav-of.Taken (take note)) samples in
+pub take_names : (note : LevelNote) (samples : List Float) → let x = wav_left (Ok (take note)) samples in
     (x.outcome ≡ delivered (1 ∷ 2 ∷ 3 ∷ 4 ∷ [])) × (x.note ≡ note.peak ∷ note.mean ∷ []) × (x.samples ≡ samples)
 unfolding wav_outcome wav_note
 take_names note samples = (refl, refl, refl)

@@ -1,19 +1,21 @@
 -- What the walk over the factors keeps, and what is chosen at its end. Assumes nothing.
-use mathlib.Core.Path.{◌≡◌, refl, sym, ◌∙◌}
+use mathlib.Core.Path.{◌≡◌, refl, sym, subst, ◌∙◌}
 use mathlib.Core.List.{List}
 use mathlib.Core.Bool.{true, false, ◌&&◌, and-true, and_assoc}
-use Prim.Native.Nat.{ℕ, ◌+◌, ◌*◌, ◌≤◌, ◌<◌}
+use Prim.Native.Nat.{ℕ, zero, suc, ◌+◌, ◌*◌, ◌≤◌, ◌<◌}
 use native.Mathlib.Omega.{arith}
 use borrow.Author.Tests.{ltb-true, ltb-false}
 use lib.Dec.{ltb}
-use lib.ListN.{length, take, get_or}
+use native.Mathlib.Numerals.{add-one}
+use lib.ListN.{length, take, get_or, replicate}
+use Rattle.std.proofs.lemmas.List.{get_or-replicate}
+use Rattle.buffers.proofs.Build.{build-at}
 use lib.Seq.{slice}
 use Rattle.buffers.proofs.Tests.{cond_both, cond_bound}
 use Rattle.rules.specs.Width.{near, delta_cost, all_zero, width, width_cost}
 use Rattle.widths.specs.declared.Width.{Width}
-use Rattle.widths.specs.declared.Lengths.{Lengths}
 use Rattle.widths.specs.declared.Walk.{Walk}
-use Rattle.widths.specs.Walks.{EachWidth, Short, later_bits, first_walk, walk_on, or_less, chosen_of}
+use Rattle.widths.specs.Walks.{Short, later_bits, first_walk, walk_on, or_less, chosen_of}
 use Rattle.widths.proofs.Costs.{cost_past, cost-start, cost-next, cost_end, zero-next, zero_end, Best, best_none, best_less, best_same, best_all}
 use Rattle.widths.proofs.Costs.{best_zero}
 
@@ -22,17 +24,13 @@ abbrev pub Length : (fs : List ℕ) (n j d m : ℕ) → Type 0
 Length fs n j d m = (m ≤ 9 + 11 * j) × (delta_cost (take n fs) d ≡ m + cost_past d fs n j)
 
 pub record Walked (fs : List ℕ) (n j : ℕ) (w : Walk) : Type 0 where
-  pub lengths : EachWidth (Length fs n j) w.lengths
+  pub lengths : (i : ℕ) → i < 5 → Length fs n j (i + 1) (get_or w.lengths i 0)
   pub previous : w.previous ≡ get_or fs j 0
   pub zero : all_zero (take n fs) ≡ (w.is_zero && all_zero (slice (j + 1) n fs))
 
--- what follows at any width follows of all five
-each_map : {P Q : ℕ → ℕ → Type 0} {l : Lengths} → ((d m : ℕ) → P d m → Q d m) → EachWidth P l → EachWidth Q l
-each_map f k = record { one = f _ _ k.one; two = f _ _ k.two; three = f _ _ k.three; four = f _ _ k.four; five = f _ _ k.five }
-
 -- one factor more makes no length too long
 pub walked-short : (fs : List ℕ) (n j : ℕ) (w : Walk) → j ≤ 126 → Walked fs n j w → Short w.lengths
-walked-short fs n j w h k = each_map (λ d m l. omega (arith, l.0)) k.lengths
+walked-short fs n j w h k = λ i l. omega (arith, (k.lengths i l).0)
 
 -- a later band takes at most d + 6
 later-le : (d p f : ℕ) → later_bits d p f ≤ d + 6
@@ -46,28 +44,21 @@ best_or_less fs k m w h b e = cond_both (λ (v : Width). Best fs (k + 1) v.bits 
     (λ t. best_less fs k _ _ m h b e (ltb-true _ _ t))
     (λ t. best_same fs k _ _ m h b e (ltb-false _ _ t))
 
-best_chosen : (fs : List ℕ) (n : ℕ) (l : Lengths) → n ≤ length fs → EachWidth (λ (d m : ℕ). m ≡ delta_cost (take n fs) d) l
-    → Best (take n fs) 5 (chosen_of l n).bits (chosen_of l n).cost
-best_chosen fs n l fits e =
-    best_or_less _ 4 _ _ (omega arith)
-    (best_or_less _ 3 _ _ (omega arith)
-    (best_or_less _ 2 _ _ (omega arith)
-    (best_or_less _ 1 _ _ (omega arith) (best_or_less _ 0 _ _ (omega arith) (best_none fs n fits) e.one) e.two)
-    e.three)
-    e.four)
-    e.five
+best_chosen : (fs : List ℕ) (n : ℕ) (ls : List ℕ) → n ≤ length fs → ((i : ℕ) → i < 5 → get_or ls i 0 ≡ delta_cost (take n fs) (i + 1))
+    → (k : ℕ) → k ≤ 5 → Best (take n fs) k (chosen_of ls n k).bits (chosen_of ls n k).cost
+unfolding chosen_of
+best_chosen fs n ls fits e zero h = best_none fs n fits
+best_chosen fs n ls fits e (suc k) h =
+    let next = or_less (k + 1) (get_or ls k 0) (chosen_of ls n k) in
+    subst (λ (d : ℕ). Best (take n fs) d next.bits next.cost) (add-one k)
+    (best_or_less (take n fs) k _ _ (omega arith) (best_chosen fs n ls fits e k (omega arith)) (e k (omega arith)))
 
 module _ (fs : List ℕ) (n : ℕ) (fits : n ≤ length fs) where
   pub walked-first : 0 < n → Walked fs n 0 (first_walk (get_or fs 0 0))
-  walked-first h =
-      record {
-        lengths = record { one = first 1; two = first 2; three = first 3; four = first 4; five = first 5 };
-        previous = refl;
-        zero = zero-next fs n 0 fits h;
-      }
+  walked-first h = record { lengths = first; previous = refl; zero = zero-next fs n 0 fits h }
     where
-      first : (d : ℕ) → Length fs n 0 d 9
-      first d = (omega arith, cost-start d fs n)
+      first : (i : ℕ) → i < 5 → Length fs n 0 (i + 1) (get_or (replicate 5 9) i 0)
+      first i h = rw (get_or-replicate {A = ℕ} 5 i 9 0 h) (omega arith, cost-start (i + 1) fs n)
 
   -- one factor more, at any width
   length-next : (j d m p : ℕ) → d ≤ 5 → j + 1 < n → p ≡ get_or fs j 0 → Length fs n j d m → Length fs n (j + 1) d (m + later_bits d p (get_or fs (j + 1) 0))
@@ -77,33 +68,27 @@ module _ (fs : List ℕ) (n : ℕ) (fits : n ≤ length fs) where
   pub walked_next : (j : ℕ) (w : Walk) → j + 1 < n → Walked fs n j w → Walked fs n (j + 1) (walk_on w (get_or fs (j + 1) 0))
   walked_next j w h k =
       record {
-        lengths = record {
-          one = next 1 (omega arith) k.lengths.one;
-          two = next 2 (omega arith) k.lengths.two;
-          three = next 3 (omega arith) k.lengths.three;
-          four = next 4 (omega arith) k.lengths.four;
-          five = next 5 (omega arith) k.lengths.five;
-        };
+        lengths = next;
         previous = refl;
         zero = k.zero ∙ rw (zero-next fs n (j + 1) fits h) (sym (and_assoc w.is_zero _ _));
       }
     where
-      next : (d : ℕ) {m : ℕ} → d ≤ 5 → Length fs n j d m → Length fs n (j + 1) d (m + later_bits d w.previous (get_or fs (j + 1) 0))
-      next d {m} small l = length-next j d m w.previous small h k.previous l
+      next : (i : ℕ) → i < 5 → Length fs n (j + 1) (i + 1) (get_or (walk_on w (get_or fs (j + 1) 0)).lengths i 0)
+      next i l = rw (build-at {A = ℕ} _ 5 i 0 l) (length-next j (i + 1) _ w.previous (omega arith) h k.previous (k.lengths i l))
 
   -- at the end each length is its width's cost
   walked_end : (j : ℕ) (w : Walk) → n ≤ j + 1 → Walked fs n j w
-      → EachWidth (λ (d m : ℕ). m ≡ delta_cost (take n fs) d) w.lengths × (all_zero (take n fs) ≡ w.is_zero)
+      → ((i : ℕ) → i < 5 → get_or w.lengths i 0 ≡ delta_cost (take n fs) (i + 1)) × (all_zero (take n fs) ≡ w.is_zero)
   walked_end j w h k = (
-    each_map (λ d m l. omega (arith, l.1, cost_end d fs n j fits h)) k.lengths,
+    λ i l. omega (arith, (k.lengths i l).1, cost_end (i + 1) fs n j fits h),
     k.zero ∙ rw (zero_end fs n (j + 1) fits h) (and-true w.is_zero),
   )
 
   pub walked-silent : (j : ℕ) (w : Walk) → n ≤ j + 1 → Walked fs n j w → w.is_zero ≡ true → (0 ≡ width (take n fs)) × (3 ≡ width_cost (take n fs))
   walked-silent j w h k e = best_zero _ ((walked_end j w h k).1 ∙ e)
 
-  pub walked_chosen : (j : ℕ) (w : Walk) → n ≤ j + 1 → Walked fs n j w → w.is_zero ≡ false → (v : Width) → v ≡ chosen_of w.lengths n
+  pub walked_chosen : (j : ℕ) (w : Walk) → n ≤ j + 1 → Walked fs n j w → w.is_zero ≡ false → (v : Width) → v ≡ chosen_of w.lengths n 5
       → (v.bits ≡ width (take n fs)) × (v.cost ≡ width_cost (take n fs))
   walked_chosen j w h k e v is =
       let end = walked_end j w h k in
-      rw is (best_all (take n fs) _ _ (end.1 ∙ e) (best_chosen fs n w.lengths fits end.0))
+      rw is (best_all (take n fs) _ _ (end.1 ∙ e) (best_chosen fs n w.lengths fits end.0 5 (omega arith)))

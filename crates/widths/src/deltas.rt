@@ -20,22 +20,14 @@ pub fn is_near(d: usize, previous: u8, factor: u8) -> bool
     requires { (1 ≤ d) × (d ≤ 5) }
     ensures { result ≡ near d previous factor }
 {
-    let z = delta(previous, factor);
-    let m = reach(d) as i32;
-    if z < -m {
-        return false;
-    }
-    z <= m
+    delta(previous, factor).unsigned_abs() <= reach(d) as u32
 }
 
 // |delta|, any two bytes apart.
 pub fn distance(previous: u8, factor: u8) -> u8
     ensures { result ≡ nat_abs (delta_of previous factor) }
 {
-    if previous < factor {
-        return factor - previous;
-    }
-    previous - factor
+    previous.abs_diff(factor)
 }
 
 // What a later band takes: its delta, or an escape and the factor's 6 bits.
@@ -43,8 +35,9 @@ pub fn bits_at(d: u16, distance: u8) -> u16
     requires { (1 ≤ d) × (d ≤ 5) }
     ensures { (result ≡ cond (leb distance (reach_of d)) d (d + 6)) × (result ≤ 11) }
 {
-    if distance as usize <= reach(d as usize) {
-        return d;
+    if usize::from(distance) <= reach(usize::from(d)) {
+        d
+    } else {
+        d + 6
     }
-    d + 6
 }

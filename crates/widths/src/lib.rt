@@ -16,21 +16,11 @@ pub struct Width {
     pub cost: usize,
 }
 
-// The lengths of widths 1 to 5 for the factors walked so far. None passes 1,406; narrow, so that
-// eight factors are priced side by side.
-#[derive(Clone, Copy)]
-struct Lengths {
-    one: u16,
-    two: u16,
-    three: u16,
-    four: u16,
-    five: u16,
-}
-
-// With them the last factor, and whether all so far are 0.
+// The lengths of widths 1 to 5 for the factors walked so far, the last factor, and whether all so far are 0. No length passes 1,406; narrow, so that eight
+// factors are priced side by side.
 #[derive(Clone, Copy)]
 struct Walk {
-    lengths: Lengths,
+    lengths: [u16; 5],
     previous: u8,
     is_zero: bool,
 }
@@ -41,45 +31,41 @@ impl Width {
         requires { (self.bits ≤ 6) × (bits ≤ 6) }
         ensures { (result ≡ or_less bits length self) × (result.bits ≤ 6) × (result.cost ≤ self.cost) }
     {
-        let cost = length as usize;
+        let cost = usize::from(length);
         if cost < self.cost {
-            return Width { bits, cost };
+            Width { bits, cost }
+        } else {
+            self
         }
-        self
     }
 }
 
-impl Lengths {
-    // With one factor more.
-    fn with(self, previous: u8, factor: u8) -> Lengths
-        requires { Short self }
-        ensures { result ≡ longer self previous factor }
-    {
-        let z = distance(previous, factor);
-        Lengths {
-            one: self.one + bits_at(1, z),
-            two: self.two + bits_at(2, z),
-            three: self.three + bits_at(3, z),
-            four: self.four + bits_at(4, z),
-            five: self.five + bits_at(5, z),
-        }
+// The lengths with one factor more.
+fn longer(lengths: [u16; 5], previous: u8, factor: u8) -> [u16; 5]
+    requires { Short lengths }
+    ensures { result ≡ longer lengths previous factor }
+{
+    let z = distance(previous, factor);
+    let mut more = [0; 5];
+    for (i, length) in more.iter_mut().enumerate() {
+        *length = lengths[i] + bits_at(i as u16 + 1, z);
     }
+    more
+}
 
-    // 6, unless a width of 1 to 5 costs strictly less: then the first of least cost.
-    fn chosen(self, n: usize) -> Width
-        requires { n ≤ 128 }
-        ensures { (result ≡ chosen_of self n) × (result.bits ≤ 6) × (result.cost ≤ 3 + 6 * n) }
-    {
-        let six = Width {
-            bits: 6,
-            cost: 3 + 6 * n,
-        };
-        six.or_less(1, self.one)
-            .or_less(2, self.two)
-            .or_less(3, self.three)
-            .or_less(4, self.four)
-            .or_less(5, self.five)
+// 6, unless a width of 1 to 5 costs strictly less: then the first of least cost.
+fn chosen(lengths: [u16; 5], n: usize) -> Width
+    requires { n ≤ 128 }
+    ensures { (result ≡ chosen_of lengths n 5) × (result.bits ≤ 6) × (result.cost ≤ 3 + 6 * n) }
+{
+    let mut best = Width {
+        bits: 6,
+        cost: 3 + 6 * n,
+    };
+    for (i, &length) in lengths.iter().enumerate() {
+        best = best.or_less(i + 1, length);
     }
+    best
 }
 
 impl Walk {
@@ -87,15 +73,8 @@ impl Walk {
     fn of_first(first: u8) -> Walk
         ensures { result ≡ first_walk first }
     {
-        let lengths = Lengths {
-            one: 9,
-            two: 9,
-            three: 9,
-            four: 9,
-            five: 9,
-        };
         Walk {
-            lengths,
+            lengths: [9; 5],
             previous: first,
             is_zero: first == 0,
         }
@@ -106,10 +85,8 @@ impl Walk {
         requires { Short self.lengths }
         ensures { result ≡ walk_on self factor }
     {
-        let lengths = self.lengths;
-        let longer = lengths.with(self.previous, factor);
         Walk {
-            lengths: longer,
+            lengths: longer(self.lengths, self.previous, factor),
             previous: factor,
             is_zero: self.is_zero & (factor == 0),
         }
@@ -123,18 +100,16 @@ pub fn calculate_optimal_delta_length(factors: &[u8], n: usize) -> Width
     ensures { (result.bits ≡ width (take n factors.now)) × (result.cost ≡ width_cost (take n factors.now)) × (result.bits ≤ 6)
         × (result.cost ≤ 3 + 6 * n) }
 {
+    let zero = Width { bits: 0, cost: 3 };
     if n == 0 {
-        return Width { bits: 0, cost: 3 };
+        return zero;
     }
     let mut walk = Walk::of_first(factors[0]);
-    let mut i = 1;
-    while i < n {
-        walk = walk.with(factors[i]);
-        i += 1;
+    for &factor in &factors[1..n] {
+        walk = walk.with(factor);
     }
     if walk.is_zero {
-        return Width { bits: 0, cost: 3 };
+        return zero;
     }
-    let lengths = walk.lengths;
-    lengths.chosen(n)
+    chosen(walk.lengths, n)
 }

@@ -2,9 +2,11 @@
 use mathlib.Core.Path.{◌≡◌, refl, sym, ap, ◌∙◌}
 use mathlib.Core.List.{List, [], ◌∷◌, ◌++◌, append-nil}
 use mathlib.Core.Bool.{Bool, true, false, cond, not}
-use Prim.Native.Nat.{ℕ, ◌*◌, ◌≤◌}
+use Prim.Native.Nat.{ℕ, ◌*◌, ◌≤◌, ◌<◌}
 use native.Mathlib.Omega.{arith}
+use borrow.Author.Tests.{lt-ltb, le-ltb}
 use lib.Dec.{ltb}
+use Rattle.std.specs.Prelude.{Result, Ok, Err}
 use lib.IntN.{ℤ}
 use lib.ListN.{length, take, drop, replicate, length-replicate, take-append-drop, drop_of_length-le}
 use lib.Seq.{length-take-le}
@@ -16,20 +18,21 @@ use Rattle.rules.specs.Refusals.{Outcome, delivered, refused, writer_outcome}
 use Rattle.rules.specs.Lent.{overwrite, no_frame}
 use Rattle.rules.specs.Writer.{WriterLeft, writer_lent, writer_left, lent_record, record_written, write_record}
 use Rattle.rules.specs.declared.Layout.{Layout}
-use Rattle.rules.specs.declared.WriteAnswer.{WriteAnswer}
-use Rattle.rules.specs.declared.WriteAnswer.TheVariants.{BadLayout, ShortBuffer}
+use Rattle.rules.specs.declared.RecordDelivery.{RecordDelivery}
+use Rattle.rules.specs.declared.WriteRefusal.{WriteRefusal}
+use Rattle.rules.specs.declared.WriteRefusal.TheVariants.{BadLayout, ShortBuffer, NotLegal, TooLong}
 use Rattle.rules_demands.proofs.Stores.{record_front, legal-front}
 use Rattle.rules_demands.proofs.Demand3.{frame-length}
 
 -- ---- the gate
 
 module _ (l : Layout) (level boundary : ℕ) (F S : List ℕ) (C : List ℤ) (frame : List ℕ) where
-  pub gate-layout : legal_layout l ≡ false → writer_left BadLayout frame ≡ write_record l (writer_lent level boundary F S C frame)
+  pub gate-layout : legal_layout l ≡ false → writer_left (Err BadLayout) frame ≡ write_record l (writer_lent level boundary F S C frame)
   unfolding write_record writer_outcome
   gate-layout e = rw e
 
   module _ (e : legal_layout l ≡ true) where
-    pub gate-short : has_room l (room_of (length F) (length S) (length C) (length frame)) ≡ false → writer_left ShortBuffer frame
+    pub gate-short : has_room l (room_of (length F) (length S) (length C) (length frame)) ≡ false → writer_left (Err ShortBuffer) frame
         ≡ write_record l (writer_lent level boundary F S C frame)
     unfolding write_record writer_outcome
     gate-short h = rw (e, h)
@@ -54,10 +57,9 @@ module _ (l : Layout) (level boundary : ℕ) (F S : List ℕ) (C : List ℤ) (fr
   abbrev left : (outcome : Outcome) (bytes : List ℕ) → WriterLeft
   left outcome bytes = record { outcome = outcome; frame = bytes }
 
-  pub run_illegal : (o : Outcome) → o ≡ refused 15 0 → legal_record l level boundary F S C ≡ false
-      → left o frame ≡ record_written l (writer_lent level boundary F S C frame)
-  unfolding record_written
-  run_illegal o f e = rw (f, e)
+  pub run_illegal : legal_record l level boundary F S C ≡ false → writer_left (Err NotLegal) frame ≡ record_written l (writer_lent level boundary F S C frame)
+  unfolding record_written writer_outcome
+  run_illegal e = rw e
 
   -- what the packer answers and stores
   module _ (z : LegalLayout l) (n : length frame ≡ frame_size l) (e : legal_record l level boundary F S C ≡ true)
@@ -74,9 +76,14 @@ module _ (l : Layout) (level boundary : ℕ) (F S : List ℕ) (C : List ℤ) (fr
         let is : bytes ≡ overwrite (frame_of l rec) frame = stored ∙ rw h (sym (laid_exact (frame_of l rec) frame (omega (arith, frame-length l z rec)))) in
         rw (f, e, ← bits, h, is)
 
-    pub run_ends : (o : Outcome) → o ≡ cond (ltb (field_end l) count) (refused 7 count) (delivered (level ∷ boundary ∷ count ∷ []))
-        → left o bytes ≡ record_written l (writer_lent level boundary F S C frame)
-    run_ends o f = run_by (ltb (field_end l) count) refl o f
+    pub run_long : field_end l < count → writer_left (Err (TooLong count)) bytes ≡ record_written l (writer_lent level boundary F S C frame)
+    unfolding writer_outcome
+    run_long h = run_by true (lt-ltb (field_end l) count h) (refused 7 count) refl
+
+    pub run_done : count ≤ field_end l
+        → writer_left (Ok (record { level = level; boundary = boundary; bits = count })) bytes ≡ record_written l (writer_lent level boundary F S C frame)
+    unfolding writer_outcome
+    run_done h = run_by false (le-ltb (field_end l) count h) (delivered (level ∷ boundary ∷ count ∷ [])) refl
 
 -- ---- the cut: a longer frame's rest stays, and nothing past the stated lengths is looked at
 
@@ -115,7 +122,7 @@ module _ (l : Layout) (z : LegalLayout l) (level boundary : ℕ) (F S : List ℕ
       (laid_front (frame_of l (rec_of l level boundary F S C)) frame (frame_size l) (frame-length l z (rec_of l level boundary F S C)) h))
 
   -- as `cut` answers it
-  pub parts_left : (answer : WriteAnswer) (left : List ℕ) →
+  pub parts_left : (answer : Result RecordDelivery WriteRefusal) (left : List ℕ) →
       writer_left answer left ≡ record_written l (writer_lent level boundary (take (factor_length l) F) (take (side_length l) S) (take (spectrum_length l) C)
       (take (frame_size l) frame)) →
       writer_left answer (left ++ drop (frame_size l) frame) ≡ record_written l (writer_lent level boundary F S C frame)

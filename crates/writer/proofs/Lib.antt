@@ -2,3 +2,4 @@
 pub mod Ranges
 -- the whole
 pub mod Answers
+pub mod Chunks

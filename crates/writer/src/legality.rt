@@ -9,16 +9,22 @@ use layouts::{coded_count, is_secondary, side_count};
 use resolutions::calculate_frame_resolutions;
 use rules::Layout;
 
+// The c-th part of a buffer in parts of n: a channel's, or a subframe's.
+fn part_of<T>(xs: &[T], n: usize, c: usize) -> &[T]
+    requires { (c < 16) × (n ≤ 1024) × (c * n + n ≤ length xs.now) }
+    ensures { (result.now ≡ part n xs.now c) × (length result.now ≡ n) }
+{
+    let from = c * n;
+    &xs[from..from + n]
+}
+
 // One subframe of a channel: its codes lie in the ranges of their bands' resolutions.
 fn legal_subframe(resolutions: &[u8], codes: &[i32]) -> bool
     requires { (length resolutions.now ≡ 128) × (length codes.now ≡ 128) }
     ensures { result ≡ legal_subframe resolutions.now codes.now }
 {
-    let mut b = 0;
-    while b < 128 {
-        if legal_code(codes[b], resolutions[b]) {
-            b += 1;
-        } else {
+    for b in 0..128 {
+        if !legal_code(codes[b], resolutions[b]) {
             return false;
         }
     }
@@ -30,12 +36,9 @@ fn legal_codes(resolutions: &[u8], codes: &[i32]) -> bool
     requires { (length resolutions.now ≡ 128) × (length codes.now ≡ 1024) }
     ensures { result ≡ legal_codes resolutions.now codes.now }
 {
-    let mut s = 0;
-    while s < 8 {
-        let at = s * 128;
-        if legal_subframe(resolutions, &codes[at..at + 128]) {
-            s += 1;
-        } else {
+    let (subframes, _) = codes.as_chunks::<128>();
+    for subframe in subframes {
+        if !legal_subframe(resolutions, subframe) {
             return false;
         }
     }
@@ -67,33 +70,11 @@ fn legal_channel(
     ensures { result ≡ legal_channel layout channel factors.now side.now codes.now resolutions.now }
 {
     let coded = coded_count(layout, channel);
-    if !legal_row(factors, coded, 64) {
-        return false;
-    }
     let sides = side_count(layout, channel);
     let limit = side_limit(layout, channel);
-    if !legal_row(side, sides, limit) {
-        return false;
-    }
-    legal_codes(resolutions, codes)
-}
-
-// Channel c's part of a buffer with n bytes a channel.
-fn bytes_of(xs: &[u8], n: usize, c: usize) -> &[u8]
-    requires { (c < 16) × (n ≤ 1024) × (c * n + n ≤ length xs.now) }
-    ensures { (result.now ≡ part n xs.now c) × (length result.now ≡ n) }
-{
-    let a = c * n;
-    &xs[a..a + n]
-}
-
-// Channel c's part of a buffer with n codes a channel.
-fn codes_of(xs: &[i32], n: usize, c: usize) -> &[i32]
-    requires { (c < 16) × (n ≤ 1024) × (c * n + n ≤ length xs.now) }
-    ensures { (result.now ≡ part n xs.now c) × (length result.now ≡ n) }
-{
-    let a = c * n;
-    &xs[a..a + n]
+    legal_row(factors, coded, 64)
+        && legal_row(side, sides, limit)
+        && legal_codes(resolutions, codes)
 }
 
 fn legal_channels(
@@ -108,19 +89,12 @@ fn legal_channels(
         × (length codes.now ≡ layout.channels * 1024) × (length resolutions.now ≡ layout.channels * 128) }
     ensures { result ≡ legal_channels layout factors.now side.now codes.now resolutions.now }
 {
-    let channels = layout.channels;
-    let mut c = 0;
-    while c < channels {
-        if legal_channel(
-            layout,
-            c,
-            bytes_of(factors, 128, c),
-            bytes_of(side, 8, c),
-            codes_of(codes, 1024, c),
-            bytes_of(resolutions, 128, c),
-        ) {
-            c += 1;
-        } else {
+    for c in 0..layout.channels {
+        let row = part_of(factors, 128, c);
+        let sides = part_of(side, 8, c);
+        let rows = part_of(codes, 1024, c);
+        let ranges = part_of(resolutions, 128, c);
+        if !legal_channel(layout, c, row, sides, rows, ranges) {
             return false;
         }
     }

@@ -5,21 +5,18 @@
 pub mod values;
 // Is the record legal?
 pub mod legality;
-// How the call ends: refusals 15 and 7, or what is delivered.
-pub mod ending;
 
 ghost use Rattle.std.specs.Prelude.{◌≡◌, ◌*◌, length};
 ghost use Rattle.rules.specs.Layout.{LegalLayout, frame_size, room_of, HasRoom};
 ghost use Rattle.rules.specs.Writer.{writer_lent, writer_left, record_written, write_record};
 
-use crate::ending::{answered, not_legal};
 use crate::legality::is_legal;
 use layouts::{has_room, legal};
 use packing::pack_frame;
 use resolutions::RESOLUTION_ROOM;
-use rules::{Layout, Room, WriteAnswer};
+use rules::{Layout, RecordDelivery, Room, WriteRefusal};
 
-// On buffers of the stated lengths.
+// On buffers of the stated lengths. A record that is not legal is refusal 15; fields that pass the payload's end are refusal 7.
 fn write_exact(
     layout: Layout,
     level: usize,
@@ -29,7 +26,7 @@ fn write_exact(
     codes: &[i32],
     resolutions: &mut [u8],
     frame: &mut [u8],
-) -> WriteAnswer
+) -> Result<RecordDelivery, WriteRefusal>
     requires legal_layout { LegalLayout layout }
     requires factors_len { (length factors.now ≡ layout.channels * 128) × (length side.now ≡ layout.channels * 8)
         × (length codes.now ≡ layout.channels * 1024) × (length resolutions.old ≡ layout.channels * 128)
@@ -37,20 +34,28 @@ fn write_exact(
     ensures { writer_left result frame.new ≡ record_written layout
         (writer_lent level boundary factors.now side.now codes.now frame.old) }
 {
-    if is_legal(layout, level, boundary, factors, side, codes, resolutions) {
-        let bits = pack_frame(
-            layout,
-            level,
-            boundary,
-            factors,
-            side,
-            codes,
-            resolutions,
-            frame,
-        );
-        return answered(8 * (layout.frame_size - 2), level, boundary, bits);
+    if !is_legal(layout, level, boundary, factors, side, codes, resolutions) {
+        return Err(WriteRefusal::NotLegal);
     }
-    not_legal()
+    let bits = pack_frame(
+        layout,
+        level,
+        boundary,
+        factors,
+        side,
+        codes,
+        resolutions,
+        frame,
+    );
+    let end = 8 * (layout.frame_size - 2);
+    if end < bits {
+        return Err(WriteRefusal::TooLong(bits));
+    }
+    Ok(RecordDelivery {
+        level,
+        boundary,
+        bits,
+    })
 }
 
 // Lends the parts of the stated lengths, and room for the resolutions of up to 16 channels.
@@ -62,7 +67,7 @@ fn write_parts(
     side: &[u8],
     codes: &[i32],
     frame: &mut [u8],
-) -> WriteAnswer
+) -> Result<RecordDelivery, WriteRefusal>
     requires legal_layout { LegalLayout layout }
     requires has_room { HasRoom layout (room_of (length factors.now) (length side.now) (length codes.now) (length frame.old)) }
     ensures { writer_left result frame.new ≡ record_written layout
@@ -94,7 +99,7 @@ pub fn write_record(
     side: &[u8],
     codes: &[i32],
     frame: &mut [u8],
-) -> WriteAnswer
+) -> Result<RecordDelivery, WriteRefusal>
     ensures { writer_left result frame.new ≡ write_record layout
         (writer_lent level boundary factors.now side.now codes.now frame.old) }
 {
@@ -105,10 +110,10 @@ pub fn write_record(
         frame: frame.len(),
     };
     if !legal(layout) {
-        return WriteAnswer::BadLayout;
+        return Err(WriteRefusal::BadLayout);
     }
     if !has_room(layout, room) {
-        return WriteAnswer::ShortBuffer;
+        return Err(WriteRefusal::ShortBuffer);
     }
     write_parts(layout, level, boundary, factors, side, codes, frame)
 }

@@ -1,11 +1,7 @@
 -- `band_counts::zone_counts` meets its contract. The invariant: the first k entries are stored. Assumes nothing.
-use Prim.Native.Nat.{◌≤◌, ◌-◌}
 use Rattle.buffers.proofs.Build.{Filled}
 use Rattle.band_counts.specs.Counts.{entry_of}
 use Rattle.band_counts.proofs.zone_counts.Given as goal
 
 abbrev pub invariant-loop-k : goal.invariant-loop-k
-invariant-loop-k l = (l.k ≤ 8) × Filled (entry_of l.mode l.e) l.initial.counts l.k l.counts
-
-abbrev pub decreases-loop-k : goal.decreases-loop-k
-decreases-loop-k l = 8 - l.k
+invariant-loop-k l = Filled (entry_of l.mode l.e) l.initial.counts l.k l.counts

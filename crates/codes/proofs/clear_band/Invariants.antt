@@ -1,13 +1,9 @@
 -- `codes::clear_band` meets its contract. The invariant: the zeros of the first s subframes are laid. Assumes nothing.
 use mathlib.Core.Path.{◌≡◌}
-use Prim.Native.Nat.{◌≤◌, ◌-◌}
 use lib.IntN.{pos}
 use lib.ListN.{length}
 use Rattle.codes.specs.Bands.{band_laid}
 use Rattle.codes.proofs.clear_band.Given as goal
 
 abbrev pub invariant-loop-s : goal.invariant-loop-s
-invariant-loop-s l = (l.s ≤ 8) × (length l.codes ≡ length l.initial.codes) × (l.codes ≡ band_laid (λ i. pos 0) l.band l.s l.initial.codes)
-
-abbrev pub decreases-loop-s : goal.decreases-loop-s
-decreases-loop-s l = 8 - l.s
+invariant-loop-s l = (length l.codes ≡ length l.initial.codes) × (l.codes ≡ band_laid (λ i. pos 0) l.band l.s l.initial.codes)

@@ -7,21 +7,19 @@ use Rattle.codes.proofs.Bands.{bands-none, bands_more}
 use Rattle.codes.proofs.clear_from.Goals as goal
 
 pub loop-b-init : goal.loop-b-init
-loop-b-init c = (search rules, search rules, refl, bands-none _ _ _ _ (omega arith))
+loop-b-init c = (refl, bands-none _ _ _ _ (omega arith))
 
 pub loop-b-preserved : goal.loop-b-preserved
 loop-b-preserved c =
     let l = c.loop-b in
     let a = c.args in (
-      search rules,
-      search rules,
-      c.clear_band.auto.codes ∙ l.invariant.2,
-      bands_more (λ i s. pos 0) a.start a.codes.now (l.b - a.start) _ l.b (omega (arith, l.invariant.0)) (omega (arith, l.invariant.0)) l.codes _
-          l.invariant.3 c.clear_band.ensures,
+      c.clear_band.auto.codes ∙ l.invariant.0,
+      bands_more (λ i s. pos 0) a.start a.codes.now (l.b - a.start) _ l.b (omega arith) (omega arith) l.codes _
+          l.invariant.1 c.clear_band.ensures,
     )
 
 pub shape_of-codes : goal.shape_of-codes
-shape_of-codes c = c.loop-b.invariant.2
+shape_of-codes c = c.loop-b.invariant.0
 
 pub returns : goal.returns
-returns c = let q : c.loop-b.b ≡ 128 = search rules in rw q at c.loop-b.invariant.3
+returns c = let q : c.loop-b.b ≡ 128 = search rules in rw q at c.loop-b.invariant.1

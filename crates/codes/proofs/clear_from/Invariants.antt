@@ -1,6 +1,6 @@
 -- `codes::clear_from` meets its contract. The invariant: the bands from start to b are laid. Assumes nothing.
 use mathlib.Core.Path.{◌≡◌}
-use Prim.Native.Nat.{◌≤◌, ◌-◌}
+use Prim.Native.Nat.{◌-◌}
 use lib.IntN.{pos}
 use lib.ListN.{length}
 use Rattle.codes.specs.Bands.{bands_laid}
@@ -8,7 +8,4 @@ use Rattle.codes.proofs.clear_from.Given as goal
 
 abbrev pub invariant-loop-b : goal.invariant-loop-b
 invariant-loop-b l =
-    (l.start ≤ l.b) × (l.b ≤ 128) × (length l.codes ≡ length l.initial.codes) × (l.codes ≡ bands_laid (λ i s. pos 0) l.start (l.b - l.start) l.initial.codes)
-
-abbrev pub decreases-loop-b : goal.decreases-loop-b
-decreases-loop-b l = 128 - l.b
+    (length l.codes ≡ length l.initial.codes) × (l.codes ≡ bands_laid (λ i s. pos 0) l.start (l.b - l.start) l.initial.codes)

@@ -1,4 +1,4 @@
-use mathlib.Core.Path.{refl, sym, subst, ◌∙◌}
+use mathlib.Core.Path.{sym, subst, ◌∙◌}
 use mathlib.Core.List.{List}
 use Prim.Native.Nat.{ℕ, ◌+◌, ◌-◌, ◌*◌}
 use native.Mathlib.Omega.{arith}
@@ -9,7 +9,7 @@ use borrow.Author.Rules.{rules}
 use Rattle.buffers.proofs.Build.{back-width}
 use Rattle.buffers.proofs.Most.{part-most}
 use Rattle.rules.specs.Code.{all_codes}
-use Rattle.rules.proofs.LentRows.{next_le, nearer, next_fits, next-ends, lent-long}
+use Rattle.rules.proofs.LentRows.{next-ends, lent-long}
 use Rattle.buffers.proofs.Blocks.{blocked_none, blocked_more, blocked_exact}
 use Rattle.within.specs.Within.{Within, AllWithin}
 use Rattle.codes.proofs.Bands.{codes_at, codes-size}
@@ -25,7 +25,7 @@ part-within n k xs w i h =
     subst Within (sym e) (w (n + i) (omega arith))
 
 pub loop-c-init : goal.loop-c-init
-loop-c-init c = (search rules, blocked_none _ 1024 _)
+loop-c-init c = blocked_none _ 1024 _
 
 pub channel_codes-requires : goal.channel_codes-requires
 channel_codes-requires c =
@@ -38,32 +38,23 @@ channel_codes-requires c =
       resolutions_len = (
         lent-long 128 _ _ _ h c.requires.resolutions_len.0,
         lent-long 1024 _ _ _ h c.requires.resolutions_len.1,
-        lent-long 1024 _ _ _ h (c.loop-c.invariant.1.0 ∙ c.requires.resolutions_len.2),
+        lent-long 1024 _ _ _ h (c.loop-c.invariant.0 ∙ c.requires.resolutions_len.2),
       );
     }
-
-pub overflow_add-c : goal.overflow_add-c
-overflow_add-c c =
-    next_fits _ _ c.loop-c-test.true 16 refl c.requires.legal_layout.few
-
-pub loop-c-smaller : goal.loop-c-smaller
-loop-c-smaller c = nearer _ _ c.loop-c-test.true
 
 pub loop-c-preserved : goal.loop-c-preserved
 loop-c-preserved c =
     let a = c.args in
-    let h = c.loop-c-test.true in (
-      next_le _ _ h,
-      blocked_more (codes_at a.layout.mode a.resolutions.now a.scaled.now) 1024 a.layout.channels a.codes.now (λ i h. codes-size _ _ _)
-          c.loop-c.c c.loop-c.codes h c.loop-c.invariant.1 c.channel_codes.new.codes (next-ends 1024 _ _ _ h c.requires.resolutions_len.2)
-          (c.channel_codes.ensures ∙ rw (back-width (c.loop-c.c * 1024) 1024, back-width (c.loop-c.c * 128) 128)),
-    )
+    let h = c.loop-c-test.true in
+    blocked_more (codes_at a.layout.mode a.resolutions.now a.scaled.now) 1024 a.layout.channels a.codes.now (λ i h. codes-size _ _ _)
+    c.loop-c.c c.loop-c.codes h c.loop-c.invariant c.channel_codes.new.codes (next-ends 1024 _ _ _ h c.requires.resolutions_len.2)
+    (c.channel_codes.ensures ∙ rw (back-width (c.loop-c.c * 1024) 1024, back-width (c.loop-c.c * 128) 128))
 
 pub shape_of-codes : goal.shape_of-codes
-shape_of-codes c = c.loop-c.invariant.1.0
+shape_of-codes c = c.loop-c.invariant.0
 
 pub returns : goal.returns
 unfolding all_codes
 returns c =
     let a = c.args in
-    blocked_exact _ 1024 a.codes.now c.loop-c.c a.layout.channels _ (search rules) (search rules) (search rules) c.loop-c.invariant.1
+    blocked_exact _ 1024 a.codes.now c.loop-c.c a.layout.channels _ (search rules) (search rules) (search rules) c.loop-c.invariant

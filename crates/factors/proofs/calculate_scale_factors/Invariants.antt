@@ -1,6 +1,6 @@
 -- `factors::calculate_scale_factors` meets its contract. The invariant: the first c channels are done. Assumes nothing.
 use mathlib.Core.List.{List}
-use Prim.Native.Nat.{ℕ, ◌≤◌, ◌-◌}
+use Prim.Native.Nat.{ℕ}
 use lib.Ieee.{Float}
 use Rattle.buffers.proofs.Blocks.{Blocked}
 use Rattle.rules.specs.Layout.{coded_count_at, part}
@@ -12,7 +12,4 @@ abbrev pub factors_at : Layout → List Float → ℕ → List ℕ
 factors_at l xs c = channel_factors (part 1024 xs c) (coded_count_at l c)
 
 abbrev pub invariant-loop-c : goal.invariant-loop-c
-invariant-loop-c l = (l.c ≤ l.channels) × Blocked (factors_at l.layout l.spectra) 128 l.initial.factors l.c l.factors
-
-abbrev pub decreases-loop-c : goal.decreases-loop-c
-decreases-loop-c l = l.channels - l.c
+invariant-loop-c l = Blocked (factors_at l.layout l.spectra) 128 l.initial.factors l.c l.factors

@@ -1,6 +1,5 @@
 -- `factors::find_scale_factor` meets its contract, by the laws of the guess. Assumes nothing.
 use mathlib.Core.Path.{◌≡◌, sym, ap, ◌∙◌, subst}
-use mathlib.Core.List.{List}
 use Prim.Native.Nat.{ℕ, ◌+◌, ◌≤◌}
 use native.Mathlib.Omega.{arith}
 use borrow.Author.Rules.{rules}
@@ -11,7 +10,6 @@ use lib.Ieee.Positive.{above}
 use Rattle.floats.specs.Single.{max_f}
 use Rattle.rules.specs.Factor.{factor_of}
 use Rattle.rules.specs.Tables.{scaling_table}
-use Rattle.factors.specs.Guess.{guess_of}
 use Rattle.factors.proofs.OrderLaws.{above-number}
 use Rattle.factors.proofs.GuessLaws.{raised-above, raised-fits, raised-bits, raised_factor, one_more, as_guessed}
 use Rattle.factors.proofs.find_scale_factor.Lts as lts
@@ -21,7 +19,7 @@ use Rattle.factors.proofs.find_scale_factor.Goals as goal
 
 -- what owning an `f32` tells: the format holds it
 held : (c : lts.Start tie.the-claims reads.Pre reads.Post) → T (fits binary32 c.args.value)
-held c = subst T (sym c.well_formed.1.0.1) tt
+held c = subst T (sym c.well_formed.0.1) tt
 
 -- what `larger` gives
 raised : (c : lts.After-larger tie.the-claims reads.Pre reads.Post) → c.larger-v.result ≡ max_f (of_bits binary32 0x342A8D25) c.args.value
@@ -36,10 +34,6 @@ high c = subst (λ (v : Float). T (above v)) (sym (raised c)) (raised-above c.ar
 same-factor : (c : lts.After-larger tie.the-claims reads.Pre reads.Post) → factor_of c.larger-v.result ≡ factor_of c.args.value
 same-factor c = ap factor_of (raised c) ∙ raised_factor c.args.value
 
--- the entry that is compared, in the table's own words
-entry-is : (t : List Float) (g h : ℕ) (v : Float) → t ≡ scaling_table → g ≡ h → le (get_or scaling_table h nan) v ≡ le (get_or t g nan) v
-entry-is t g h v e f = ap (λ (n : ℕ). le (get_or scaling_table n nan) v) (sym f) ∙ ap (λ (s : List Float). le (get_or s g nan) v) (sym e)
-
 pub float_from_bits-larger : goal.float_from_bits-larger
 unfolding nan_bits
 float_from_bits-larger c = search rules
@@ -50,16 +44,16 @@ float_to_bits-v c = above-number c.larger-v.result (high c)
 pub guess-g-requires : goal.guess-g-requires
 guess-g-requires c = subst (λ (v : Float). 0x34153066 ≤ to_bits binary32 v) (sym (raised c)) (raised-bits c.args.value (held c.before))
 
-pub returns-then-table-g : goal.returns-then-table-g
-returns-then-table-g c =
+pub returns-then-scaling_entry-v : goal.returns-then-scaling_entry-v
+returns-then-scaling_entry-v c =
     let v = c.larger-v.result in
-    let t = entry-is _ c.guess-g.result (guess_of (to_bits binary32 v)) v c.requires.table c.guess-g.ensures.0 in
-    let e = one_more v (fine c.before.before.before) (high c.before.before.before) (t ∙ c.if-table-g.true) in
+    let t = ap (λ (g : ℕ). le (get_or scaling_table g nan) v) (sym c.guess-g.ensures.0) ∙ ap (λ (x : Float). le x v) (sym c.scaling_entry.ensures) in
+    let e = one_more v (fine c.before.before.before) (high c.before.before.before) (t ∙ c.if-scaling_entry-v.true) in
     (ap (λ (g : ℕ). g + 1) c.guess-g.ensures.0 ∙ sym e ∙ same-factor c.before.before.before, omega arith)
 
-pub returns-else-table-g : goal.returns-else-table-g
-returns-else-table-g c =
+pub returns-else-scaling_entry-v : goal.returns-else-scaling_entry-v
+returns-else-scaling_entry-v c =
     let v = c.larger-v.result in
-    let t = entry-is _ c.guess-g.result (guess_of (to_bits binary32 v)) v c.requires.table c.guess-g.ensures.0 in
-    let e = as_guessed v (fine c.before.before.before) (high c.before.before.before) (t ∙ c.if-table-g.false) in
+    let t = ap (λ (g : ℕ). le (get_or scaling_table g nan) v) (sym c.guess-g.ensures.0) ∙ ap (λ (x : Float). le x v) (sym c.scaling_entry.ensures) in
+    let e = as_guessed v (fine c.before.before.before) (high c.before.before.before) (t ∙ c.if-scaling_entry-v.false) in
     (c.guess-g.ensures.0 ∙ sym e ∙ same-factor c.before.before.before, omega arith)

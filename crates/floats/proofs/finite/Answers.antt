@@ -1,9 +1,8 @@
 -- `floats::finite` meets its contract: between the two infinities lie the finite values. Assumes nothing.
 use mathlib.Core.Path.{◌≡◌, refl}
 use mathlib.Core.Bool.{true, false, ◌&&◌}
-use lib.Ieee.{Float, nan, inf, fin, nan_bits, of_bits, lt}
+use lib.Ieee.{Float, nan, inf, fin, of_bits, lt}
 use lib.Ieee.Scale.{finite as is_finite}
-use borrow.Author.Rules.{rules}
 use Rattle.floats.proofs.finite.Goals as goal
 
 between : (x : Float) → lt (inf true) x && lt x (inf false) ≡ is_finite x
@@ -12,14 +11,6 @@ between nan = refl
 between (inf true) = refl
 between (inf false) = refl
 between (fin s m e) = refl
-
-pub float_from_bits-result : goal.float_from_bits-result
-unfolding nan_bits
-float_from_bits-result c = search rules
-
-pub float_from_bits-result-2 : goal.float_from_bits-result-2
-unfolding nan_bits
-float_from_bits-result-2 c = search rules
 
 pub returns : goal.returns
 unfolding of_bits

@@ -1,24 +1,20 @@
 -- `hca_answers::store_read` meets its contract. Assumes nothing.
+use native.Mathlib.Omega.{arith}
 use Rattle.rules.specs.Refusals.{reader_outcome}
 use Rattle.hca_answers.proofs.Places.{small_by, stored_by}
-use Rattle.hca_answers.proofs.Fitting.{of_three}
 use Rattle.hca_answers.proofs.Refusing.{read_refuses, refusal-fits, refusal-stored}
-use borrow.Enum.Refused.{opened}
 use Rattle.hca_answers.proofs.store_read.Goals as goal
 
-pub refuse-requires : goal.refuse-requires
-refuse-requires c = refusal-fits _ _ (read_refuses _ (opened c.in_default.in_default-own.keys2)) c.read_refusal-r.ensures
-    c.requires
-
-pub returns-in_default : goal.returns-in_default
-returns-in_default c =
-    refusal-stored _ _ (read_refuses _ (opened c.in_default.in_default-own.keys2)) c.read_refusal-r.ensures
-    c.refuse.ensures
-
-pub deliver_three-requires : goal.deliver_three-requires
+pub deliver-requires : goal.deliver-requires
 unfolding reader_outcome
-deliver_three-requires c = of_three _ _ _ (small_by reader_outcome c.in-Delivered.is c.requires)
+deliver-requires c = record { few = omega arith; small = small_by reader_outcome c.in-Ok.is c.requires }
 
-pub returns : goal.returns
+pub returns-in-Ok : goal.returns-in-Ok
 unfolding reader_outcome
-returns c = stored_by reader_outcome c.in-Delivered.is c.deliver_three.ensures
+returns-in-Ok c = stored_by reader_outcome c.in-Ok.is c.deliver.ensures
+
+pub tell-requires : goal.tell-requires
+tell-requires c = refusal-fits _ _ (read_refuses _) c.into.ensures (small_by reader_outcome c.in-Err.is c.requires)
+
+pub returns-in-Err : goal.returns-in-Err
+returns-in-Err c = stored_by reader_outcome c.in-Err.is (refusal-stored _ _ (read_refuses _) c.into.ensures c.tell.ensures)

@@ -1,24 +1,20 @@
 -- `hca_answers::store_stage` meets its contract. Assumes nothing.
+use native.Mathlib.Omega.{arith}
 use Rattle.rules.specs.Refusals.{stage_outcome}
 use Rattle.hca_answers.proofs.Places.{small_by, stored_by}
-use Rattle.hca_answers.proofs.Fitting.{of_four}
 use Rattle.hca_answers.proofs.Refusing.{stage_refuses, refusal-fits, refusal-stored}
-use borrow.Enum.Refused.{opened}
 use Rattle.hca_answers.proofs.store_stage.Goals as goal
 
-pub refuse-requires : goal.refuse-requires
-refuse-requires c = refusal-fits _ _ (stage_refuses _ (opened c.in_default.in_default-own.keys2)) c.stage_refusal-r.ensures
-    c.requires
-
-pub returns-in_default : goal.returns-in_default
-returns-in_default c =
-    refusal-stored _ _ (stage_refuses _ (opened c.in_default.in_default-own.keys2)) c.stage_refusal-r.ensures
-    c.refuse.ensures
-
-pub deliver_four-requires : goal.deliver_four-requires
+pub deliver-requires : goal.deliver-requires
 unfolding stage_outcome
-deliver_four-requires c = of_four _ _ _ _ (small_by stage_outcome c.in-Delivered.is c.requires)
+deliver-requires c = record { few = omega arith; small = small_by stage_outcome c.in-Ok.is c.requires }
 
-pub returns : goal.returns
+pub returns-in-Ok : goal.returns-in-Ok
 unfolding stage_outcome
-returns c = stored_by stage_outcome c.in-Delivered.is c.deliver_four.ensures
+returns-in-Ok c = stored_by stage_outcome c.in-Ok.is c.deliver.ensures
+
+pub tell-requires : goal.tell-requires
+tell-requires c = refusal-fits _ _ (stage_refuses _) c.into.ensures (small_by stage_outcome c.in-Err.is c.requires)
+
+pub returns-in-Err : goal.returns-in-Err
+returns-in-Err c = stored_by stage_outcome c.in-Err.is (refusal-stored _ _ (stage_refuses _) c.into.ensures c.tell.ensures)

@@ -6,8 +6,8 @@ ghost use Rattle.hca_answers.specs.Outcomes.{Small, AnswerStored};
 ghost use Rattle.hca_files.specs.Lists.{SummaryStored};
 
 use hca_answers::refuse;
-use refusals::list::{entry_refusal, list_read_refusal, summary_refusal};
-use rules_files::list::{Entry, EntryAnswer, ListAnswer, Summary, SummaryAnswer};
+use refusals::Refusal;
+use rules_files::list::{Entry, EntryRefusal, ListReadRefusal, Summary, SummaryRefusal};
 
 fn deliver_frames(n: usize, answer: &mut [u32]) -> u32
     requires { (n < 4294967296) × (4 ≤ length answer.old) }
@@ -17,15 +17,17 @@ fn deliver_frames(n: usize, answer: &mut [u32]) -> u32
     0
 }
 
-pub fn store_list(a: ListAnswer, answer: &mut [u32]) -> u32
+pub fn store_list(a: Result<usize, ListReadRefusal>, answer: &mut [u32]) -> u32
     requires { Small (list_read_outcome a) × (4 ≤ length answer.old) }
     ensures { AnswerStored (list_read_outcome a) result answer.old answer.new }
 {
-    let ListAnswer::Delivered(n) = a else {
-        let r = list_read_refusal(a);
-        return refuse(r.number, r.beside, answer);
-    };
-    deliver_frames(n, answer)
+    match a {
+        Ok(n) => deliver_frames(n, answer),
+        Err(e) => {
+            let r = Refusal::from(e);
+            refuse(r.number, r.beside, answer)
+        }
+    }
 }
 
 fn deliver_entry(entry: Entry, answer: &mut [u32]) -> u32
@@ -39,15 +41,17 @@ fn deliver_entry(entry: Entry, answer: &mut [u32]) -> u32
     0
 }
 
-pub fn store_entry(a: EntryAnswer, answer: &mut [u32]) -> u32
+pub fn store_entry(a: Result<Entry, EntryRefusal>, answer: &mut [u32]) -> u32
     requires { 4 ≤ length answer.old }
     ensures { AnswerStored (entry_outcome a) result answer.old answer.new }
 {
-    let EntryAnswer::Found(entry) = a else {
-        let r = entry_refusal(a);
-        return refuse(r.number, r.beside, answer);
-    };
-    deliver_entry(entry, answer)
+    match a {
+        Ok(entry) => deliver_entry(entry, answer),
+        Err(e) => {
+            let r = Refusal::from(e);
+            refuse(r.number, r.beside, answer)
+        }
+    }
 }
 
 fn refuse_summary(number: usize, answer: &mut [u64]) -> u32
@@ -68,13 +72,12 @@ fn deliver_summary(s: Summary, answer: &mut [u64]) -> u32
     0
 }
 
-pub fn store_summary(a: SummaryAnswer, answer: &mut [u64]) -> u32
+pub fn store_summary(a: Result<Summary, SummaryRefusal>, answer: &mut [u64]) -> u32
     requires { 3 ≤ length answer.old }
     ensures { SummaryStored (summary_outcome a) result answer.old answer.new }
 {
-    let SummaryAnswer::Summed(s) = a else {
-        let r = summary_refusal(a);
-        return refuse_summary(r.number, answer);
-    };
-    deliver_summary(s, answer)
+    match a {
+        Ok(s) => deliver_summary(s, answer),
+        Err(e) => refuse_summary(Refusal::from(e).number, answer),
+    }
 }

@@ -10,7 +10,7 @@ use Rattle.hfr.proofs.fill_scales.Goals as goal
 pub four_scales-requires-2 : goal.four_scales-requires-2
 four_scales-requires-2 c =
     let long = c.requires.spectra_len in
-    record { legal_layout = c.requires.legal_layout; scaling = c.requires.scaling; spectra_len = (long.0, long.1, search (rules, long.2), omega arith) }
+    record { legal_layout = c.requires.legal_layout; spectra_len = (long.0, long.1, search (rules, long.2), omega arith) }
 
 pub returns : goal.returns
 unfolding scale_side scale_at

@@ -40,7 +40,7 @@ overflow_add-group-3 c =
 
 pub scale_of-requires-4 : goal.scale_of-requires-4
 scale_of-requires-4 c =
-    record { scaling = c.requires.scaling; count_bound = (c.hfr_spectra_averages-spectrum.ensures.count_bound.3, c.hfr_source_averages-source.ensures.count_bound.3) }
+    record { count_bound = (c.hfr_spectra_averages-spectrum.ensures.count_bound.3, c.hfr_source_averages-source.ensures.count_bound.3) }
 
 pub overflow_add-side-3 : goal.overflow_add-side-3
 overflow_add-side-3 c =

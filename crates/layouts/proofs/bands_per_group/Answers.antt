@@ -5,4 +5,4 @@ use Rattle.layouts.proofs.bands_per_group.Goals as goal
 
 pub returns : goal.returns
 unfolding bands_per_group ceil_div
-returns c = (rw c.start.ensures.0, omega arith)
+returns c = (rw (c.div_ceil.ensures, c.start.ensures.0) (omega arith), omega arith)

@@ -6,43 +6,34 @@ use Rattle.line_gate.specs.Gate.{line_gate_outcome}
 use Rattle.rules_line.proofs.Gates.{batch_facts}
 use Rattle.line_gate.proofs.line_gate.Goals as goal
 
-pub line_room-requires : goal.line_room-requires
-line_room-requires c = record { legal_layout = legal_sizes _ (sym c.legal.ensures ∙ c.if-legal.true); count_bound = (batch_facts _ _ (sym c.batch_fits.ensures ∙ c.if-batch_fits.true)).few }
-
-pub returns-then-line_room : goal.returns-then-line_room
+pub returns-then-not-legal : goal.returns-then-not-legal
 unfolding line_gate_outcome line_gate
-returns-then-line_room c =
-    rw (
-      ← c.legal.ensures,
-      c.if-legal.true,
-      ← c.batch_fits.ensures,
-      c.if-batch_fits.true,
-      ← c.line_room.ensures,
-      c.if-line_room.true,
-    )
+returns-then-not-legal g c = rw (sym c.legal.ensures ∙ c.if-not-legal.true)
 
-pub returns-then-batch_fits : goal.returns-then-batch_fits
+pub returns-then-not-batch_fits : goal.returns-then-not-batch_fits
 unfolding line_gate_outcome line_gate
-returns-then-batch_fits c =
-    rw (
-      ← c.legal.ensures,
-      c.if-legal.true,
-      ← c.batch_fits.ensures,
-      c.if-batch_fits.true,
-      ← c.line_room.ensures,
-      c.if-line_room.false,
-    )
+returns-then-not-batch_fits g c = rw (sym c.legal.ensures ∙ c.if-not-legal.false, sym c.batch_fits.ensures ∙ c.if-not-batch_fits.true)
 
-pub returns-then-legal : goal.returns-then-legal
+pub line_room-requires-clause-legal_layout : goal.line_room-requires-clause-legal_layout
+line_room-requires-clause-legal_layout g c = legal_sizes _ (sym c.legal.ensures ∙ c.if-not-legal.false)
+
+pub line_room-requires-clause-count_bound : goal.line_room-requires-clause-count_bound
+line_room-requires-clause-count_bound g c = (batch_facts _ _ (sym c.batch_fits.ensures ∙ c.if-not-batch_fits.false)).few
+
+pub returns-then-not-line_room : goal.returns-then-not-line_room
 unfolding line_gate_outcome line_gate
-returns-then-legal c =
+returns-then-not-line_room g c =
     rw (
-      ← c.legal.ensures,
-      c.if-legal.true,
-      ← c.batch_fits.ensures,
-      c.if-batch_fits.false,
+      sym c.legal.ensures ∙ c.if-not-legal.false,
+      sym c.batch_fits.ensures ∙ c.if-not-batch_fits.false,
+      sym c.line_room.ensures ∙ c.if-not-line_room.true,
     )
 
 pub returns : goal.returns
 unfolding line_gate_outcome line_gate
-returns c = rw (← c.legal.ensures, c.if-legal.false)
+returns g c =
+    rw (
+      sym c.legal.ensures ∙ c.if-not-legal.false,
+      sym c.batch_fits.ensures ∙ c.if-not-batch_fits.false,
+      sym c.line_room.ensures ∙ c.if-not-line_room.false,
+    )

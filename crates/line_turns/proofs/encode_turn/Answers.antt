@@ -1,85 +1,37 @@
 -- `line_turns::encode_turn` meets its contract. Assumes nothing.
-use mathlib.Core.Path.{sym, ap, subst}
-use native.Mathlib.Omega.{arith}
-use lib.ListN.{length-drop}
+use mathlib.Core.Path.{refl, sym, ap, subst}
+use Rattle.rules.specs.Refusals.{stage_outcome}
 use Rattle.rules_stereo.specs.Stereo.{StereoLeft}
-use Rattle.rules_line.specs.Line.{stage_step}
-use Rattle.rules_line.specs.Asked.{AnswersFit}
-use Rattle.line_turns.proofs.Counts.{stage_bounded, at-fits}
-use Rattle.line_turns.proofs.Placed.{turned}
+use Rattle.rules_line.specs.Line.{line_outcome_by, line_index, turn_outcome, turn_index}
+use Rattle.rules_line.specs.Asked.{AnswersFit, delivered_outcome}
+use Rattle.rules_line.proofs.Answers.{four_fit}
+use Rattle.line_turns.specs.Turn.{call_outcome}
+use Rattle.line_turns.proofs.Counts.{at-fits}
+use Rattle.line_turns.proofs.Placed.{with_outcome, turned, turned_away}
 use Rattle.line_turns.proofs.encode_turn.Goals as goal
 
-pub encode_part-answer-requires : goal.encode_part-answer-requires
-encode_part-answer-requires c = record { legal_layout = c.requires.legal_layout; turn = c.requires.turn }
+pub store_answers-requires-clause-answers_fit : goal.store_answers-requires-clause-answers_fit
+unfolding call_outcome
+store_answers-requires-clause-answers_fit g c =
+    subst (λ a. AnswersFit (call_outcome g.S.SingleCall.refusal a)) c.in-Ok.is
+    (subst AnswersFit (sym (ap (λ (x : StereoLeft). x.outcome) c.encode_part.ensures.placed)) (at-fits _ g.met.S.SingleCall.bounded _ _ _))
 
-pub part_start-n-requires : goal.part_start-n-requires
-part_start-n-requires c =
-    omega (arith, c.requires.turn.below)
+pub with-requires-clause-bits_bound : goal.with-requires-clause-bits_bound
+unfolding call_outcome
+with-requires-clause-bits_bound g c =
+    let fits : AnswersFit (delivered_outcome c.in-Ok.d) =
+    subst (λ a. AnswersFit (call_outcome g.S.SingleCall.refusal a)) c.in-Ok.is
+    (subst AnswersFit (sym (ap (λ (x : StereoLeft). x.outcome) c.encode_part.ensures.placed)) (at-fits _ g.met.S.SingleCall.bounded _ _ _)) in
+    let (_, _, pairs, bits) = four_fit c.in-Ok.d fits in (bits, pairs)
 
-pub offset_bounds-answers-n : goal.offset_bounds-answers-n
-offset_bounds-answers-n c =
-    record { fits = omega (arith, c.part_start-n.ensures, c.requires.turn.below) }
+pub returns-in-Ok-clause-turned : goal.returns-in-Ok-clause-turned
+unfolding call_outcome stage_outcome turn_outcome turn_index line_outcome_by line_index
+returns-in-Ok-clause-turned g c =
+    turned c.args.k _ (delivered_outcome c.in-Ok.d) _ _ _ _ _ _ _ _ _ _ _ _ c.args.answers.now _ c.part_start-n.ensures
+    (with_outcome (ap (call_outcome g.S.SingleCall.refusal) (sym c.in-Ok.is)) c.encode_part.ensures.placed) c.store_answers.ensures c.with.ensures refl refl
 
-pub slice_bounds-store_answers-count : goal.slice_bounds-store_answers-count
-slice_bounds-store_answers-count c =
-    omega (arith, c.part_start-n.ensures, c.requires.k_in_bounds)
-
-pub slice_bounds-store_answers-start : goal.slice_bounds-store_answers-start
-slice_bounds-store_answers-start c =
-    omega (arith, c.part_start-n.ensures, c.requires.k_in_bounds)
-
-pub slice_bounds-store_answers-end : goal.slice_bounds-store_answers-end
-slice_bounds-store_answers-end c =
-    omega (arith, c.part_start-n.ensures, c.requires.k_in_bounds)
-
-pub store_answers-requires : goal.store_answers-requires
-store_answers-requires c =
-    record {
-      answers_fit = subst AnswersFit (sym (ap (λ (x : StereoLeft). x.outcome)
-          c.encode_part-answer.ensures))
-          (at-fits stage_step stage_bounded _ _ _);
-      in_bounds = omega (
-        arith,
-        length-drop c.part_start-n.result
-            c.args.answers.now,
-        c.part_start-n.ensures,
-        c.requires.k_in_bounds,
-      );
-    }
-
-pub after-next-requires : goal.after-next-requires
-after-next-requires c =
-    record {
-      on_the_way = c.requires.on_the_way;
-      answers_fit = subst AnswersFit
-          (sym
-          (ap (λ (x : StereoLeft). x.outcome)
-          c.encode_part-answer.ensures))
-          (at-fits stage_step stage_bounded _ _ _);
-    }
-
-pub shape_of-scaled : goal.shape_of-scaled
-shape_of-scaled c =
-    c.encode_part-answer.auto.scaled
-
-pub shape_of-codes : goal.shape_of-codes
-shape_of-codes c =
-    c.encode_part-answer.auto.codes
-
-pub shape_of-factors : goal.shape_of-factors
-shape_of-factors c =
-    c.encode_part-answer.auto.factors
-
-pub shape_of-side : goal.shape_of-side
-shape_of-side c =
-    c.encode_part-answer.auto.side
-
-pub shape_of-frames : goal.shape_of-frames
-shape_of-frames c =
-    c.encode_part-answer.auto.frames
-
-pub returns : goal.returns
-returns c =
-    turned _ _ _ _ _ _ _ _ _ _ _ _ _ _ _ c.args.answers.now _ c.part_start-n.ensures
-    c.encode_part-answer.ensures c.store_answers.ensures c.after-next.ensures
-    c.line_answer-answered.ensures.ended c.line_answer-answered.ensures.index
+pub returns-in-Err-clause-turned : goal.returns-in-Err-clause-turned
+unfolding call_outcome line_outcome_by line_index
+returns-in-Err-clause-turned g c =
+    turned_away c.args.k (g.S.SingleCall.refusal c.in-Err.e) (g.met.S.SingleCall.refuses c.in-Err.e) _ _ _ _ _ _ _ _ _ _
+    (with_outcome (ap (call_outcome g.S.SingleCall.refusal) (sym c.in-Err.is)) c.encode_part.ensures.placed)

@@ -1,5 +1,4 @@
 -- `packing_channels::write_channels` meets its contract. The invariant: the first c channels are written. Assumes nothing.
-use Prim.Native.Nat.{◌-◌, ◌≤◌}
 use Rattle.rules.specs.Layout.{kind_at}
 use Rattle.rules.specs.Record.{chan_of}
 use Rattle.rules.specs.Fields.{channel_fields}
@@ -8,7 +7,4 @@ use Rattle.packing_channels.proofs.write_channels.Given as goal
 
 abbrev pub invariant-loop-c : goal.invariant-loop-c
 invariant-loop-c l =
-    (l.c ≤ l.channels) × Sent (λ k. channel_fields l.layout (kind_at l.layout k) (chan_of l.layout l.factors l.side k)) 1459 l.initial.at l.initial.payload l.c l.at l.payload
-
-abbrev pub decreases-loop-c : goal.decreases-loop-c
-decreases-loop-c l = l.channels - l.c
+    Sent (λ k. channel_fields l.layout (kind_at l.layout k) (chan_of l.layout l.factors l.side k)) 1459 l.initial.at l.initial.payload l.c l.at l.payload

@@ -1,12 +1,8 @@
 -- `packing_codes::code_rules` meets its contract. Assumes nothing.
-use Prim.Native.Nat.{◌-◌, ◌≤◌}
-use lib.ListN.{length, get_or}
+use lib.ListN.{get_or}
 use Rattle.buffers.proofs.Build.{Filled}
 use Rattle.packing_codes.specs.Columns.{rule_of}
 use Rattle.packing_codes.proofs.code_rules.Given as goal
 
 abbrev pub invariant-loop-i : goal.invariant-loop-i
-invariant-loop-i l = (l.i ≤ length l.resolutions) × Filled (λ k. rule_of (get_or l.resolutions k 0)) l.initial.rows l.i l.rows
-
-abbrev pub decreases-loop-i : goal.decreases-loop-i
-decreases-loop-i l = length l.resolutions - l.i
+invariant-loop-i l = Filled (λ k. rule_of (get_or l.resolutions k 0)) l.initial.rows l.i l.rows

@@ -1,5 +1,4 @@
 use mathlib.Core.Path.{refl}
-use Prim.Native.Nat.{◌-◌}
 use native.Mathlib.Omega.{arith}
 use borrow.Author.Rules.{rules}
 use Rattle.buffers.specs.Walk.{build}
@@ -16,7 +15,7 @@ pub code_rules-requires : goal.code_rules-requires
 code_rules-requires c = (search rules, c.requires.at_most.0)
 
 pub loop-s-init : goal.loop-s-init
-loop-s-init c = (search rules, sent_none _ _ _ _ c.requires.n_bound.0, refl, refl)
+loop-s-init c = (sent_none _ _ _ _ c.requires.n_bound.0, refl, refl)
 
 pub write_subframe-at-requires : goal.write_subframe-at-requires
 write_subframe-at-requires c =
@@ -24,20 +23,17 @@ write_subframe-at-requires c =
     let l = c.loop-s in record {
       legal_layout = c.requires.legal_layout;
       n_bound = (
-        l.invariant.1.run.few,
-        omega (arith, l.invariant.1.bound, c.requires.n_bound.1),
+        l.invariant.0.run.few,
+        omega (arith, l.invariant.0.bound, c.requires.n_bound.1),
         omega (arith, c.loop-s-test.true),
         search rules,
         c.requires.n_bound.3,
-        omega (arith, l.invariant.2, c.requires.n_bound.5),
-        omega (arith, l.invariant.3, c.requires.n_bound.6),
+        omega (arith, l.invariant.1, c.requires.n_bound.5),
+        omega (arith, l.invariant.2, c.requires.n_bound.6),
       );
       rows_ruled = rows_ruled a.layout a.resolutions.now a.codes.now c.requires.legal_layout c.requires.n_bound.2 c.requires.n_bound.3 c.requires.at_most.0 c.requires.at_most.1 c.requires.at_most.2
           c.code_rules.ensures;
     }
-
-pub loop-s-smaller : goal.loop-s-smaller
-loop-s-smaller c = omega (arith, c.loop-s-test.true)
 
 pub loop-s-preserved : goal.loop-s-preserved
 loop-s-preserved c =
@@ -47,27 +43,26 @@ loop-s-preserved c =
     let e = subframe_bits_lem a.layout a.resolutions.now a.codes.now c.requires.legal_layout c.requires.n_bound.2 c.requires.n_bound.3 c.requires.at_most.0 c.requires.at_most.1 c.requires.at_most.2
     c.code_rules.ensures l.s
     (omega (arith, c.loop-s-test.true)) in (
-      omega (arith, c.loop-s-test.true),
-      sent_more _ _ _ _ l.invariant.1
+      sent_more _ _ _ _ l.invariant.0
           (rw e at w.0) w.1,
       search rules,
       search rules,
     )
 
 pub shape_of-payload : goal.shape_of-payload
-shape_of-payload c = c.loop-s.invariant.1.run.same
+shape_of-payload c = c.loop-s.invariant.0.run.same
 
 pub shape_of-words : goal.shape_of-words
-shape_of-words c = c.loop-s.invariant.2
+shape_of-words c = c.loop-s.invariant.1
 
 pub shape_of-lengths : goal.shape_of-lengths
-shape_of-lengths c = c.loop-s.invariant.3
+shape_of-lengths c = c.loop-s.invariant.2
 
 pub returns : goal.returns
 returns c =
     let a = c.args in
     let l = c.loop-s in
     let each = each_bits (each_bits code_bits) (build (coded_resolutions a.layout a.resolutions.now) a.layout.channels) in (
-      sent_all _ _ _ _ (times-blocks each (λ s. build (codes_in a.layout a.codes.now s) a.layout.channels) 8) (omega arith) l.invariant.1,
-      omega (arith, l.invariant.1.bound),
+      sent_all _ _ _ _ (times-blocks each (λ s. build (codes_in a.layout a.codes.now s) a.layout.channels) 8) (omega arith) l.invariant.0,
+      omega (arith, l.invariant.0.bound),
     )

@@ -1,6 +1,5 @@
 -- `packing_codes::write_codes` meets its contract. The invariant: the first s subframes are there. Assumes nothing.
 use mathlib.Core.Path.{◌≡◌}
-use Prim.Native.Nat.{◌-◌, ◌≤◌}
 use lib.ListN.{length}
 use Rattle.buffers.specs.Walk.{build}
 use Rattle.emission.proofs.Loops.{Sent}
@@ -12,12 +11,8 @@ use Rattle.packing_codes.proofs.write_codes.Given as goal
 
 abbrev pub invariant-loop-s : goal.invariant-loop-s
 invariant-loop-s l =
-    (l.s ≤ 8)
-    × Sent (λ k. each_bits (each_bits code_bits) (build (coded_resolutions l.layout l.resolutions) l.layout.channels)
+    Sent (λ k. each_bits (each_bits code_bits) (build (coded_resolutions l.layout l.resolutions) l.layout.channels)
     (build (codes_in l.layout l.codes k) l.layout.channels)) 24576
     l.initial.at l.initial.payload l.s l.at l.payload
     × (length l.words ≡ length l.initial.words)
     × (length l.lengths ≡ length l.initial.lengths)
-
-abbrev pub decreases-loop-s : goal.decreases-loop-s
-decreases-loop-s l = 8 - l.s

@@ -14,5 +14,5 @@ returns-then-band-coded c =
       c.calculate_resolution.ensures.1,
     )
 
-pub returns : goal.returns
-returns c = (rw (le-ltb _ _ c.if-band-coded.false), omega arith)
+pub returns-else-band-coded : goal.returns-else-band-coded
+returns-else-band-coded c = (rw (le-ltb _ _ c.if-band-coded.false), omega arith)

@@ -1,12 +1,7 @@
 -- `resolutions::calculate_frame_resolutions` meets its contract. The invariant: the first c channels are stored. Assumes nothing.
-use Prim.Native.Nat.{◌≤◌, ◌-◌}
 use Rattle.buffers.proofs.Blocks.{Blocked}
 use Rattle.rules.proofs.Bands.{resolutions_at}
 use Rattle.resolutions.proofs.calculate_frame_resolutions.Given as goal
 
 abbrev pub invariant-loop-c : goal.invariant-loop-c
-invariant-loop-c l =
-    (l.c ≤ l.channels) × Blocked (resolutions_at l.layout l.level l.boundary l.factors) 128 l.initial.resolutions l.c l.resolutions
-
-abbrev pub decreases-loop-c : goal.decreases-loop-c
-decreases-loop-c l = l.channels - l.c
+invariant-loop-c l = Blocked (resolutions_at l.layout l.level l.boundary l.factors) 128 l.initial.resolutions l.c l.resolutions

@@ -12,15 +12,15 @@ pub returns-then-factor-eq0 : goal.returns-then-factor-eq0
 unfolding resolution_in
 returns-then-factor-eq0 c = (rw (eq-eqb _ _ c.if-factor-eq0.true), omega arith)
 
-pub returns : goal.returns
+pub returns-else-factor-eq0 : goal.returns-else-factor-eq0
 unfolding resolution_in
-returns c =
+returns-else-factor-eq0 c =
     let a = c.args in (
       rw (ne_eqb _ _ c.if-factor-eq0.false)
-          (c.smaller.ensures
+          (c.min.ensures
           ∙ ap (λ (n : ℕ). min n a.highest)
-          (c.larger.ensures
+          (c.max.ensures
           ∙ ap (λ (n : ℕ). max n a.lowest) (c.curve.ensures.0
-          ∙ ap (λ (n : ℕ). get_or resolution_curve n 0) c.held_position-at.ensures.0))),
-      omega (arith, c.smaller.ensures),
+          ∙ ap (λ (n : ℕ). get_or resolution_curve n 0) c.held_position.ensures.0))),
+      omega (arith, c.min.ensures),
     )

@@ -1,21 +1,16 @@
-use mathlib.Core.Path.{◌≡◌, refl, ◌∙◌}
-use Prim.Native.Nat.{◌-◌}
-use native.Mathlib.Omega.{arith}
-use borrow.Author.Rules.{rules}
-use lib.ListN.{replicate}
-use Rattle.buffers.proofs.Build.{filled_none, filled_more}
+-- `scaling::coded_factors` meets its contract. Assumes nothing.
+use mathlib.Core.Path.{ap, ◌∙◌}
+use mathlib.Core.List.{List, ◌++◌}
+use Prim.Native.Nat.{ℕ}
+use lib.ListN.{drop, replicate, take}
+use lib.Seq.{get_or-take, length-take-le}
+use Rattle.buffers.proofs.Build.{build-of}
 use Rattle.scaling.proofs.Scaled.{coded_are}
 use Rattle.scaling.proofs.coded_factors.Goals as goal
 
-pub loop-b-init : goal.loop-b-init
-loop-b-init c = (search rules, filled_none _ (replicate 128 0))
-
-pub loop-b-preserved : goal.loop-b-preserved
-loop-b-preserved c =
-    (search rules, filled_more _ (replicate 128 0) _ _ _ (omega arith) c.loop-b.invariant.1 refl)
-
 pub returns : goal.returns
 returns c =
-    let a = c.args in
-    let e : c.loop-b.b ≡ a.coded = omega arith in
-    coded_are a.factors.now _ a.coded (search rules) (c.loop-b.invariant.1.1 ∙ rw e)
+    let fs = c.args.factors.now in
+    let n = c.args.coded in
+    coded_are fs _ n c.requires.1
+    (ap (λ (front : List ℕ). front ++ drop n (replicate 128 0)) (c.copy_from_slice.ensures.after ∙ build-of _ n 0 (take n fs) (length-take-le n fs c.requires.0) (λ i l. get_or-take n fs i 0 l)))

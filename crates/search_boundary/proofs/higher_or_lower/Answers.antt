@@ -12,4 +12,4 @@ pub move_boundary-probed-requires : goal.move_boundary-probed-requires
 move_boundary-probed-requires c =
     let p = c.requires in
     let h = p.level_nonzero in
-    record { legal_layout = p.legal_layout; stretched = p.stretched; scaled_len = p.scaled_len; level_nonzero = (h.0, h.1, h.2, search rules); used_value = p.used_value }
+    record { probe_fits = p.probe_fits; level_nonzero = (h.0, h.1, h.2, search rules); used_value = p.used_value }

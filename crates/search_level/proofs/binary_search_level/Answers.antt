@@ -11,17 +11,17 @@ front : (m n v : ℕ) → n ≤ m → length (take n (replicate m v)) ≡ n
 front m n v h = length-take-le n (replicate m v) (rw (length-replicate m v) h)
 
 pub slice_bounds-halve_with_places-end : goal.slice_bounds-halve_with_places-end
-slice_bounds-halve_with_places-end c = sym (front 256 _ 0 (omega (arith, c.if-layout-lt3.true)))
+slice_bounds-halve_with_places-end c = sym (front 256 _ 0 (omega (arith, c.if-probe-lt3.true)))
 
 pub halve_with_places-requires : goal.halve_with_places-requires
 halve_with_places-requires c =
     let p = c.requires in
-    record { legal_layout = p.legal_layout; stretched = p.stretched; scaled_len = p.scaled_len; places_len = front 256 _ 0 (omega (arith, c.if-layout-lt3.true)) }
+    record { probe_fits = p.probe_fits; places_len = front 256 _ 0 (omega (arith, c.if-probe-lt3.true)) }
 
 pub slice_bounds-halve_with_places-end-2 : goal.slice_bounds-halve_with_places-end-2
-slice_bounds-halve_with_places-end-2 c = sym (front 2048 _ 0 (omega (arith, c.requires.legal_layout.few)))
+slice_bounds-halve_with_places-end-2 c = sym (front 2048 _ 0 (omega (arith, c.requires.probe_fits.legal.few)))
 
 pub halve_with_places-requires-2 : goal.halve_with_places-requires-2
 halve_with_places-requires-2 c =
     let p = c.requires in
-    record { legal_layout = p.legal_layout; stretched = p.stretched; scaled_len = p.scaled_len; places_len = front 2048 _ 0 (omega (arith, p.legal_layout.few)) }
+    record { probe_fits = p.probe_fits; places_len = front 2048 _ 0 (omega (arith, p.probe_fits.legal.few)) }

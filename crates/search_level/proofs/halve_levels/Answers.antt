@@ -1,20 +1,13 @@
-use mathlib.Core.Path.{◌≡◌, sym, ◌∙◌, ap}
-use Prim.Native.Nat.{◌-◌}
+use mathlib.Core.Path.{◌≡◌, refl, sym, ◌∙◌}
 use native.Mathlib.Omega.{arith}
 use borrow.Author.Rules.{rules}
 use Rattle.rules.proofs.Levels.{level-start, halve_up, halve-down, halve_end}
 use Rattle.estimate.proofs.Probes.{probe_over, probe_fits}
-use Rattle.search_level.specs.Bits.{level_bits}
-use Rattle.search_level.proofs.Bits.{bits_none, bits-found}
+use Rattle.search_level.proofs.Searching.{kept-fits}
 use Rattle.search_level.proofs.halve_levels.Goals as goal
 
 pub loop-low-init : goal.loop-low-init
-loop-low-init c = (search rules, search rules, level-start _, sym (bits_none _ _ _), search rules)
-
-pub calculate_used_bits-bits-requires : goal.calculate_used_bits-bits-requires
-calculate_used_bits-bits-requires c =
-    let p = c.requires in
-    record { legal_layout = p.legal_layout; stretched = p.stretched; scaled_len = p.scaled_len; fixed_value = (search rules, search rules, search rules); places_len = p.places_len }
+loop-low-init c = (search rules, search rules, level-start _, search rules, λ _. refl)
 
 pub loop-low-preserved-then-available-bits : goal.loop-low-preserved-then-available-bits
 loop-low-preserved-then-available-bits c =
@@ -32,12 +25,18 @@ loop-low-preserved c =
       omega arith,
       omega arith,
       c.loop-low.invariant.2 ∙ halve-down _ _ _ (omega arith) (probe_fits _ _ _ _ _ _ e c.if-available-bits.false),
-      e ∙ sym (bits-found _ _ _ _ (omega arith)),
-      c.if-available-bits.false,
+      (refl, omega arith, e, c.if-available-bits.false),
+      search rules,
     )
 
-pub returns : goal.returns
-returns c =
+pub returns-clause-some : goal.returns-clause-some
+returns-clause-some c =
     let i = c.loop-low.invariant in
     let e : c.loop-low.low ≡ c.loop-low.high = omega arith in
-    (sym (i.2 ∙ halve_end _ _ _ c.loop-low-test.false), omega arith, i.3 ∙ ap (level_bits _ _ _) (sym e), i.4)
+    kept-fits _ _ _ _ (sym e ∙ sym (i.2 ∙ halve_end _ _ _ c.loop-low-test.false)) c.loop-low.found i.3
+
+pub returns-clause-none : goal.returns-clause-none
+returns-clause-none c n =
+    let i = c.loop-low.invariant in
+    let e : c.loop-low.low ≡ c.loop-low.high = omega arith in
+    i.2 ∙ halve_end _ _ _ c.loop-low-test.false ∙ e ∙ i.4 n

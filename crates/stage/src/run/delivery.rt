@@ -14,47 +14,13 @@ use codes::quantize_spectra;
 use packing::pack_frame;
 use resolutions::noise_curve::curve_table;
 use resolutions::{RESOLUTION_ROOM, calculate_frame_resolutions};
-use rules::{Layout, StageAnswer};
+use rules::{Delivery, Layout, StageRefusal};
 use search_boundary::calculate_evaluation_boundary;
 use search_level::calculate_noise_level;
-use stage_answers::{answered, is_no_level, no_level};
 
-// Codes and frame. Resolutions are worked out once, for the quantiser and the packer. Answers how many bits the fields are.
+// Codes and frame. Resolutions are worked out once, for the quantiser and the packer: there is room for those of sixteen channels, of which the layout's
+// are lent. Answers how many bits the fields are.
 fn codes_and_frame(
-    layout: Layout,
-    level: usize,
-    boundary: usize,
-    scaled: &[f32],
-    factors: &[u8],
-    side: &[u8],
-    resolutions: &mut [u8],
-    codes: &mut [i32],
-    frame: &mut [u8],
-) -> usize
-    requires legal_layout { LegalLayout layout }
-    requires level_bound { (level ≤ 511) × (boundary ≤ 127) }
-    requires scaled_len { (length scaled.now ≡ spectrum_length layout) × (length factors.now ≡ factor_length layout) × (length side.now ≡ side_length layout) }
-    requires resolutions_len { (length resolutions.old ≡ factor_length layout) × (length codes.old ≡ spectrum_length layout) × (length frame.old ≡ frame_size layout)
-        × AllWithin scaled.now }
-    ensures { Delivers layout level boundary scaled.now factors.now side.now result codes.new
-        frame.new }
-{
-    calculate_frame_resolutions(layout, level, boundary, factors, resolutions);
-    quantize_spectra(layout, resolutions, scaled, codes);
-    pack_frame(
-        layout,
-        level,
-        boundary,
-        factors,
-        side,
-        codes,
-        resolutions,
-        frame,
-    )
-}
-
-// Room for the resolutions of sixteen channels, of which the layout's are lent.
-fn with_resolutions(
     layout: Layout,
     level: usize,
     boundary: usize,
@@ -71,22 +37,24 @@ fn with_resolutions(
     ensures { Delivers layout level boundary scaled.now factors.now side.now result codes.new
         frame.new }
 {
-    let n = layout.channels * 128;
-    let mut resolutions = [0u8; RESOLUTION_ROOM];
-    codes_and_frame(
+    let mut room = [0u8; RESOLUTION_ROOM];
+    let resolutions = &mut room[..layout.channels * 128];
+    calculate_frame_resolutions(layout, level, boundary, factors, resolutions);
+    quantize_spectra(layout, resolutions, scaled, codes);
+    pack_frame(
         layout,
         level,
         boundary,
-        scaled,
         factors,
         side,
-        &mut resolutions[..n],
         codes,
+        resolutions,
         frame,
     )
 }
 
-// The boundary, the codes and the frame of a level. The counts stand where the codes will.
+// The boundary, the codes and the frame of a level. The counts stand where the codes will. Fields that pass the payload's end are **refusal 7**,
+// beside it their length.
 fn boundary_to_frame(
     layout: Layout,
     level: usize,
@@ -98,7 +66,7 @@ fn boundary_to_frame(
     factors: &[u8],
     side: &[u8],
     frame: &mut [u8],
-) -> StageAnswer
+) -> Result<Delivery, StageRefusal>
     requires legal_layout { LegalLayout layout }
     requires stretched { IsStretched layout curve.now × Counted layout scaled.now codes.old × AtMost 63 factors.now }
     requires level_bound { (level ≤ 254) × AllWithin scaled.now }
@@ -110,12 +78,20 @@ fn boundary_to_frame(
     let boundary = calculate_evaluation_boundary(
         layout, curve, scaled, codes, factors, level, used,
     );
-    let bits = with_resolutions(layout, level, boundary, scaled, factors, side, codes, frame);
-    answered(8 * (layout.frame_size - 2), level, boundary, pairs, bits)
+    let written = codes_and_frame(layout, level, boundary, scaled, factors, side, codes, frame);
+    if 8 * (layout.frame_size - 2) < written {
+        return Err(StageRefusal::TooLong(written));
+    }
+    Ok(Delivery {
+        level,
+        boundary,
+        pairs,
+        bits: written,
+    })
 }
 
-// From prepared buffers on: all bands are counted once, in the buffer that the codes overwrite. No level is **refusal 5**. What a refusal leaves is
-// cleared later.
+// From prepared buffers on: all bands are counted once, in the buffer that the codes overwrite. No level is **refusal 5**,
+// beside it the pairs removed. What a refusal leaves is cleared later.
 pub(crate) fn level_to_frame(
     layout: Layout,
     scaled: &[f32],
@@ -123,7 +99,7 @@ pub(crate) fn level_to_frame(
     factors: &mut [u8],
     side: &[u8],
     frame: &mut [u8],
-) -> StageAnswer
+) -> Result<Delivery, StageRefusal>
     requires legal_layout { LegalLayout layout }
     requires at_most { AtMost 63 factors.old × AllWithin scaled.now }
     requires exact_buffers { ExactBuffers layout (length scaled.now) (length codes.old) (length factors.old) (length side.now) (length frame.old) }
@@ -133,17 +109,12 @@ pub(crate) fn level_to_frame(
 {
     frame_counts(layout, scaled, codes);
     let curve = curve_table(layout);
-    let removal = calculate_noise_level(layout, &curve, scaled, codes, factors);
-    let level = removal.level;
-    let pairs = removal.pairs;
-    if is_no_level(level) {
-        return no_level(pairs);
-    }
+    let found = calculate_noise_level(layout, &curve, scaled, codes, factors)?;
     boundary_to_frame(
         layout,
-        level,
-        pairs,
-        removal.used,
+        found.level,
+        found.pairs,
+        found.used,
         &curve,
         scaled,
         codes,

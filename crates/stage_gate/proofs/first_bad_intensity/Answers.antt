@@ -1,34 +1,31 @@
-use mathlib.Core.Logic.{⊎_elim}
-use borrow.Author.Tests.{lt-ltb, le-ltb}
-use Prim.Native.Nat.{◌-◌}
-use mathlib.Core.Path.{sym, ◌∙◌}
-use native.Mathlib.Nat.{sub-zero}
-use Rattle.buffers.proofs.Scan.{first_stop, first_next, first_end}
+-- `stage_gate::first_bad_intensity` meets its contract. Assumes nothing.
+use Rattle.std.proofs.Common.{rules, tests}
+use Rattle.std.proofs.lemmas.Iterator.{YieldsList-from_slice}
+use Rattle.std.proofs.lemmas.Iterator.Consumers.{YieldsList-from_enumerate, YieldsList-at}
+use Rattle.std.proofs.lemmas.Iterator.Search.{position_from_yields_List}
+use Rattle.std.proofs.lemmas.List.FromFn.{length-enumerate_from, get_or-enumerate_from}
+use Rattle.std.specs.List.{enumerate_from}
+use mathlib.Core.Bool.{Bool, ◌&&◌}
+use mathlib.Core.Path.{◌≡◌, ap, ◌∙◌}
+use native.Mathlib.Omega.{arith}
+use Prim.Native.Nat.{ℕ, ◌+◌, ◌/◌}
+use lib.Dec.{ltb}
+use Rattle.rules.specs.Layout.{secondary_at}
 use Rattle.rules.specs.Stage.{bad_intensity}
-use borrow.Author.Rules.{rules}
+use Rattle.stage_gate.specs.Gate.{first_if_any}
+use Rattle.stage_gate.proofs.Searches.{position_first}
 use Rattle.stage_gate.proofs.first_bad_intensity.Goals as goal
 
-pub loop-i-init : goal.loop-i-init
-loop-i-init c = (search rules, rw sub-zero)
-
-pub returns-then-is_secondary : goal.returns-then-is_secondary
-unfolding bad_intensity
-returns-then-is_secondary c =
-    sym (c.loop-i.invariant.1
-    ∙ first_stop _ _ _ c.loop-i-test.true
-    (rw (lt-ltb _ _ c.if-intensities-i-gt15.true, sym c.is_secondary.ensures ∙ c.if-is_secondary.true)))
-
-pub loop-i-preserved : goal.loop-i-preserved
-unfolding bad_intensity
-loop-i-preserved c = (
-  search rules,
-  c.loop-i.invariant.1
-      ∙ first_next _ _ _ c.loop-i-test.true
-      (⊎_elim
-      (λ w. rw (lt-ltb _ _ w.if-intensities-i-gt15.true, sym w.is_secondary.ensures ∙ w.if-is_secondary.false))
-      (λ w. rw (le-ltb _ _ w.if-intensities-i-gt15.false))
-      c.if-intensities-i-gt15.branch-raw),
-)
-
 pub returns : goal.returns
-returns c = sym (c.loop-i.invariant.1 ∙ first_end _ _ _ c.loop-i-test.false)
+unfolding bad_intensity
+returns c =
+    let l = c.args.layout in
+    let xs = c.args.intensities.now in
+    let test : ℕ × ℕ → Bool = λ p. ltb 15 p.1 && secondary_at l (p.0 / 8) in
+    position_from_yields_List test _ _ _ c.position.ensures.ran
+    (YieldsList-from_enumerate (YieldsList-at c.enumerate.ensures.source (YieldsList-from_slice xs cc)) (cc)) (λ x b q k. search (rules, tests))
+    ∙ position_first test (0, 0) (enumerate_from 0 xs) (bad_intensity l xs) (λ j k e b.
+    let w = length-enumerate_from 0 xs in
+    let z : 0 + k ≡ k = omega arith in
+    rw (get_or-enumerate_from 0 xs k (0, 0) (omega (arith, b, w)), z) (ap (bad_intensity l xs) (omega (arith, e))))
+    ∙ ap (first_if_any (bad_intensity l xs)) (length-enumerate_from 0 xs)

@@ -1,20 +1,13 @@
 -- `stereo_mixing::paired` meets its contract. The next channel is there, and the kind is looked up. Assumes nothing.
+use mathlib.Core.Path.{refl, ◌∙◌}
+use borrow.Author.Tests.{le-ltb}
 use Rattle.rules.specs.Layout.{kind_at}
-use native.Mathlib.Omega.{arith}
-use Rattle.stereo_mixing.proofs.Steps.{paired-last, paired_kind}
+use Rattle.stereo_mixing.proofs.Steps.{paired-last, paired_kind, same_primary}
 use Rattle.stereo_mixing.proofs.paired.Goals as goal
 
-pub returns-then-layout-next : goal.returns-then-layout-next
-returns-then-layout-next c = paired-last _ _ (omega arith)
-
-pub returns-in-StereoSecondary : goal.returns-in-StereoSecondary
+pub returns-then-c-layout : goal.returns-then-c-layout
 unfolding kind_at
-returns-in-StereoSecondary c = paired_kind _ _ _ (omega arith) c.in-StereoSecondary.is
+returns-then-c-layout c = c.eq.ensures ∙ same_primary _ ∙ paired_kind _ _ _ c.if-c-layout.true refl
 
-pub returns-in-StereoPrimary : goal.returns-in-StereoPrimary
-unfolding kind_at
-returns-in-StereoPrimary c = paired_kind _ _ _ (omega arith) c.in-StereoPrimary.is
-
-pub returns-in-Discrete : goal.returns-in-Discrete
-unfolding kind_at
-returns-in-Discrete c = paired_kind _ _ _ (omega arith) c.in-Discrete.is
+pub returns-else-c-layout : goal.returns-else-c-layout
+returns-else-c-layout c = le-ltb _ _ c.if-c-layout.false ∙ paired-last _ _ c.if-c-layout.false

@@ -31,11 +31,9 @@ pub fn sample(wav: &[u8], at: usize, depth: usize) -> f32
     requires depth_value_2 { finite (sample_of depth (low_at wav.now at (sample_width depth))) ≡ true }
     ensures { result ≡ sample_of depth (low_at wav.now at (sample_width depth)) }
 {
-    if depth == 16 {
-        return signed(get_low(wav, at, 2), 0x8000) as f32 / 32768.0;
+    match depth {
+        16 => signed(get_low(wav, at, 2), 0x8000) as f32 / 32768.0,
+        24 => signed(get_low(wav, at, 3), 0x80_0000) as f32 / 8388608.0,
+        _ => f32::from_bits(get_low(wav, at, 4)),
     }
-    if depth == 24 {
-        return signed(get_low(wav, at, 3), 0x80_0000) as f32 / 8388608.0;
-    }
-    f32::from_bits(get_low(wav, at, 4))
 }

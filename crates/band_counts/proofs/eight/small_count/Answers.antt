@@ -10,21 +10,21 @@ use Rattle.band_counts.proofs.eight.small_count.Reads as reads
 use Rattle.band_counts.proofs.eight.small_count.Goals as goal
 
 pub overflow_add-more : goal.overflow_add-more
-overflow_add-more c = let h = most-le c.args.k c.requires.k_bound.0 in omega (arith, c.requires.k_bound.3, c.eight_reached.ensures.1)
+overflow_add-more c = omega (arith, most-le c.args.k c.requires.k_bound, c.most_of.ensures, c.eight_reached.ensures.1)
 
 -- what was added is the values' bits and what is taken off
 module _ (c : lts.After-eight_reached2 tie.the-claims reads.Pre reads.Post tie.handed_clauses) where
-  some : c.args.most + c.eight_reached.result ≤ 40
-  some = let h = most-le c.args.k c.requires.k_bound.0 in omega (arith, c.requires.k_bound.3, c.eight_reached.ensures.1)
+  some : c.most_of.result + c.eight_reached.result ≤ 40
+  some = omega (arith, most-le c.args.k c.requires.k_bound, c.most_of.ensures, c.eight_reached.ensures.1)
 
-  whole : c.args.most + c.eight_reached.result
-      ≡ eight_bits c.args.mode c.args.k c.args.e + (c.eight_reached-2.result + c.args.drop * c.args.clips)
+  whole : c.most_of.result + c.eight_reached.result
+      ≡ eight_bits c.args.mode c.args.k c.args.e + (c.eight_reached-2.result + c.drop_of-drop.result * c.args.clips)
   whole =
-      ap₂ ◌+◌ c.requires.k_bound.3 (c.eight_reached.ensures.0 ∙ ap (λ x. eight_reached x c.args.e) c.requires.k_bound.2)
-      ∙ eight_zones c.args.mode c.args.k c.requires.k_bound.0 c.args.e c.requires.each_within.0 c.requires.each_within.1
+      ap₂ ◌+◌ c.most_of.ensures (c.eight_reached.ensures.0 ∙ ap (λ x. eight_reached x c.args.e) c.high_of.ensures)
+      ∙ eight_zones c.args.mode c.args.k c.requires.k_bound c.args.e c.requires.each_within.0 c.requires.each_within.1
       ∙ sym (ap₂ (λ a b. eight_bits c.args.mode c.args.k c.args.e + (a + b))
-      (c.eight_reached-2.ensures.0 ∙ ap (λ x. eight_reached x c.args.e) c.requires.k_bound.1)
-      (ap₂ ◌*◌ c.requires.k_bound.4 c.requires.each_within.2))
+      (c.eight_reached-2.ensures.0 ∙ ap (λ x. eight_reached x c.args.e) c.low_of.ensures)
+      (ap₂ ◌*◌ c.drop_of-drop.ensures c.requires.each_within.2))
 
 pub overflow_mul-result : goal.overflow_mul-result
 overflow_mul-result c = let e = whole c in let h = some c in omega arith

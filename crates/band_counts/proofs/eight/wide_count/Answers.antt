@@ -8,11 +8,11 @@ use Rattle.band_counts.specs.Counts.{eight_reached}
 use Rattle.band_counts.proofs.eight.wide_count.Goals as goal
 
 pub overflow_add-result : goal.overflow_add-result
-overflow_add-result c = omega (arith, bits-le c.args.r c.requires.2, c.requires.4, c.eight_reached.ensures.1)
+overflow_add-result c = omega (arith, bits-le (c.args.k + 8) (omega arith), c.wide_of.ensures, c.eight_reached.ensures.1)
 
 pub returns : goal.returns
 returns c =
-    let n : c.eight_reached.result ≡ _ = c.eight_reached.ensures.0 ∙ ap₂ eight_reached c.requires.3 c.requires.0 in (
-      ap₂ ◌+◌ c.requires.4 n ∙ eight_wide c.args.mode c.args.r c.requires.1 c.args.e,
-      omega (arith, bits-le c.args.r c.requires.2, c.requires.4, c.eight_reached.ensures.1),
+    let n : c.eight_reached.result ≡ _ = c.eight_reached.ensures.0 ∙ ap₂ eight_reached c.dead_of.ensures c.requires.0 in (
+      ap₂ ◌+◌ c.wide_of.ensures n ∙ eight_wide c.args.mode (c.args.k + 8) (omega arith) c.args.e,
+      omega (arith, bits-le (c.args.k + 8) (omega arith), c.wide_of.ensures, c.eight_reached.ensures.1),
     )

@@ -1,5 +1,4 @@
 use mathlib.Core.Path.{◌∙◌}
-use Prim.Native.Nat.{◌-◌}
 use native.Mathlib.Omega.{arith}
 use mir.Syntax.{w32}
 use mir.ValLaws.{to_z-of_z}
@@ -9,20 +8,18 @@ use Rattle.band_counts.specs.Counts.{entry_of}
 use Rattle.band_counts.proofs.marked.marked_counts.Goals as goal
 
 pub loop-k-init : goal.loop-k-init
-loop-k-init c = (search rules, filled_none _ _)
+loop-k-init c = filled_none _ _
 
 pub loop-k-preserved : goal.loop-k-preserved
 loop-k-preserved c =
-    let a = c.args in (
-      search rules,
-      filled_more (entry_of a.mode a.e) a.counts.now c.loop-k.k c.loop-k.counts _ (omega arith) c.loop-k.invariant.1
-          (to_z-of_z w32 c.marked_entry.result (record { sfits = c.marked_entry.type_inv }) ∙ c.marked_entry.ensures),
-    )
+    let a = c.args in
+    filled_more (entry_of a.mode a.e) a.counts.now c.loop-k.k c.loop-k.counts _ (omega arith) c.loop-k.invariant
+    (to_z-of_z w32 c.marked_entry.result (record { sfits = c.marked_entry.type_inv }) ∙ c.marked_entry.ensures)
 
 pub shape_of-counts : goal.shape_of-counts
-shape_of-counts c = c.loop-k.invariant.1.0
+shape_of-counts c = c.loop-k.invariant.0
 
 pub returns : goal.returns
 returns c =
     filled-all (entry_of c.args.mode c.args.e) c.args.counts.now c.loop-k.k 8 _ c.requires (search rules)
-    c.loop-k.invariant.0 c.loop-k.invariant.1
+    (search rules) c.loop-k.invariant

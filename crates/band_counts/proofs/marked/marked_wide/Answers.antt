@@ -1,10 +1,18 @@
--- `band_counts::marked::marked_wide` meets its contract. Assumes nothing.
-use mathlib.Core.Path.{ap₂}
-use Prim.Native.Nat.{◌+◌}
+use mathlib.Core.Path.{◌≡◌, sym}
+use native.Mathlib.Omega.{arith}
+use Rattle.buffers.proofs.Scan.{sum-none, sum-turn}
 use Rattle.band_counts.specs.Counts.{eight_bits}
-use borrow.Author.Rules.{rules}
 use Rattle.band_counts.proofs.marked.marked_wide.Goals as goal
+
+pub loop-i-init : goal.loop-i-init
+loop-i-init c = (sym (sum-none _), omega arith)
+
+pub loop-i-preserved : goal.loop-i-preserved
+loop-i-preserved c =
+    let l = c.loop-i in
+    let b = c.wide_bits-count in
+    (sum-turn _ l.i l.count b.result l.invariant.0 b.ensures.0, omega (arith, l.invariant.1, b.ensures.1))
 
 pub returns : goal.returns
 unfolding eight_bits
-returns c = (ap₂ ◌+◌ c.wide_four.ensures.0 c.wide_four-2.ensures.0, search rules)
+returns c = let l = c.loop-i in let e : l.i ≡ 8 = omega arith in (rw e at l.invariant.0, omega (arith, e, l.invariant.1))

@@ -16,4 +16,4 @@ returns c =
     let a = c.args in
     let n : ℕ = a.bits in
     let e : n - n ≡ 0 = omega arith in
-    rw c.look-value.ensures.0 (sym (rw (e, div-one) at (look_field a.part.now a.self.at n n (omega arith) (omega arith))))
+    rw c.look.ensures.0 (sym (rw (e, div-one) at (look_field a.part.now a.self.at n n (omega arith) (omega arith))))

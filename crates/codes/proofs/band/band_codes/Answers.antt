@@ -1,6 +1,6 @@
 use mathlib.Core.Path.{◌≡◌, refl, sym, ap, subst, ◌∙◌}
 use mathlib.Core.List.{List}
-use Prim.Native.Nat.{ℕ, ◌≤◌, ◌<◌, ◌-◌, ◌+◌, ◌*◌}
+use Prim.Native.Nat.{ℕ, ◌≤◌, ◌<◌, ◌+◌, ◌*◌}
 use native.Mathlib.Omega.{arith}
 use lib.Ieee.{Float, nan}
 use lib.ListN.{length, get_or, length-set}
@@ -31,7 +31,7 @@ unfolding AllWithin
 same_code k m r h e xs w i l = ap (λ (k : Column). code_by k (get_or xs i nan)) e ∙ column_code r h (get_or xs i nan) (w i l) m
 
 pub loop-s-init : goal.loop-s-init
-loop-s-init c = (search rules, refl, band-none _ _ _)
+loop-s-init c = (refl, band-none _ _ _)
 
 pub code_by-requires : goal.code_by-requires
 code_by-requires c =
@@ -41,21 +41,20 @@ pub loop-s-preserved : goal.loop-s-preserved
 loop-s-preserved c =
     let a = c.args in
     let v = to_z-of_z w32 c.code_by.result (record { sfits = c.code_by.type_inv }) ∙ c.code_by.ensures in (
-      search rules,
-      length-set c.loop-s.codes _ _ ∙ c.loop-s.invariant.1,
-      rw (v, c.loop-s.invariant.2)
+      length-set c.loop-s.codes _ _ ∙ c.loop-s.invariant.0,
+      rw (v, c.loop-s.invariant.1)
           (sym (band_more (λ i. code_by c.column_of-column.result (get_or a.scaled.now (a.band * 8 + i) nan)) a.band a.codes.now c.loop-s.s)),
     )
 
 pub shape_of-codes : goal.shape_of-codes
-shape_of-codes c = c.loop-s.invariant.1
+shape_of-codes c = c.loop-s.invariant.0
 
 pub returns : goal.returns
 returns c =
     let a = c.args in
     let e = c.column_of-column.ensures in
     let q : c.loop-s.s ≡ 8 = search rules in
-    (rw q at c.loop-s.invariant.2)
+    (rw q at c.loop-s.invariant.1)
     ∙ band-same _ _ a.band a.codes.now 8
     (λ i g.
     same_code _ a.mode a.resolution c.requires.resolution_bound.0 e a.scaled.now c.requires.resolution_bound.2 (a.band * 8 + i) (omega (arith, c.requires.resolution_bound.1, c.requires.scaled_len.0)))

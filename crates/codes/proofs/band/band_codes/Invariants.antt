@@ -1,6 +1,6 @@
 -- `codes::band::band_codes` meets its contract. The invariant: the codes of the first s subframes are laid. Assumes nothing.
 use mathlib.Core.Path.{◌≡◌}
-use Prim.Native.Nat.{◌≤◌, ◌-◌, ◌+◌, ◌*◌}
+use Prim.Native.Nat.{◌+◌, ◌*◌}
 use lib.Ieee.{nan}
 use lib.ListN.{length, get_or}
 use Rattle.codes.specs.Bands.{band_laid}
@@ -9,7 +9,4 @@ use Rattle.codes.proofs.band.band_codes.Given as goal
 
 abbrev pub invariant-loop-s : goal.invariant-loop-s
 invariant-loop-s l =
-    (l.s ≤ 8) × (length l.codes ≡ length l.initial.codes) × (l.codes ≡ band_laid (λ i. code_by l.column (get_or l.scaled (l.band * 8 + i) nan)) l.band l.s l.initial.codes)
-
-abbrev pub decreases-loop-s : goal.decreases-loop-s
-decreases-loop-s l = 8 - l.s
+    (length l.codes ≡ length l.initial.codes) × (l.codes ≡ band_laid (λ i. code_by l.column (get_or l.scaled (l.band * 8 + i) nan)) l.band l.s l.initial.codes)

@@ -11,11 +11,11 @@ returns-in_default c =
     let e = c.in_default.is in
     (rw e, omega arith, rw e (put_none _))
 
-pub loop_fields-fields-requires : goal.loop_fields-fields-requires
-loop_fields-fields-requires c = subst PointsFit c.in-Given.is c.requires.1
+pub loop_fields-requires : goal.loop_fields-requires
+loop_fields-requires c = subst PointsFit c.in-Some.is c.requires
 
 pub returns : goal.returns
 unfolding after_loop loop_pieces
 returns c =
-    let e = c.in-Given.is in
-    (rw e, omega arith, c.put_fields.ensures ∙ rw (e, c.loop_fields-fields.ensures))
+    let e = c.in-Some.is in
+    (rw e, omega arith, c.put_fields.ensures ∙ rw (e, c.loop_fields.ensures))

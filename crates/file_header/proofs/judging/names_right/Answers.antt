@@ -1,12 +1,11 @@
--- `file_header::judging::names_right` meets its contract. Assumes nothing.
-use mathlib.Core.Path.{ap}
-use mathlib.Core.Bool.{not}
-use Rattle.file_header.proofs.Readings.{names_front, names_tail}
+use Rattle.std.proofs.Common.{rules}
+use Rattle.rules_files.specs.HeaderReading.{all_stand, names_right}
 use Rattle.file_header.proofs.judging.names_right.Goals as goal
 
-pub returns-then-not-front_names : goal.returns-then-not-front_names
-returns-then-not-front_names c = names_front _ _ c.front_names.ensures (ap not c.if-not-front_names.true)
+pub returns-then-front_names : goal.returns-then-front_names
+unfolding names_right all_stand
+returns-then-front_names c = search rules
 
-pub returns : goal.returns
-returns c =
-    names_tail _ _ c.front_names.ensures (ap not c.if-not-front_names.false) _ _ c.tail_of-at.ensures.0 c.tail_names.ensures
+pub returns-else-front_names : goal.returns-else-front_names
+unfolding names_right all_stand
+returns-else-front_names c = search rules

@@ -20,7 +20,7 @@ module _ (start end : ℕ) where
   inside e = rw (ne_eqb _ _ e)
 
 pub returns-then-e-eq0 : goal.returns-then-e-eq0
-returns-then-e-eq0 c = on_edge_lem c.args.start c.args.end c.if-e-eq0.true
+returns-then-e-eq0 c = on_edge_lem c.args.points.start c.args.points.end c.if-e-eq0.true
 
 pub returns : goal.returns
-returns c = inside c.args.start c.args.end c.if-e-eq0.false
+returns c = inside c.args.points.start c.args.points.end c.if-e-eq0.false

@@ -1,20 +1,17 @@
-use mathlib.Core.Path.{refl}
-use mathlib.Core.Bool.{true}
-use Prim.Native.Nat.{◌-◌}
-use borrow.Author.Tests.{eq-eqb}
-use Rattle.buffers.proofs.Every.{every-none, every_more}
-use Rattle.file_header.proofs.Readings.{zero_fails, zero-done}
-use borrow.Author.Rules.{rules}
+-- `file_header::numbers_at::zero_bytes` meets its contract. Assumes nothing.
+use mathlib.Core.Path.{◌∙◌}
+use mathlib.Core.List.{List}
+use Prim.Native.Nat.{ℕ, ◌-◌}
+use lib.Dec.{eqb}
+use lib.ListN.{take, drop}
+use Rattle.std.proofs.Common.{rules, tests}
+use Rattle.std.proofs.lemmas.Iterator.{YieldsList-from_slice}
+use Rattle.std.proofs.lemmas.Iterator.Search.{all_from_yields_List}
+use Rattle.file_header.proofs.Readings.{all_zero}
 use Rattle.file_header.proofs.numbers_at.zero_bytes.Goals as goal
 
-pub loop-i-init : goal.loop-i-init
-loop-i-init c = (refl, search rules, every-none _)
-
-pub returns-then-header-from-ne0 : goal.returns-then-header-from-ne0
-returns-then-header-from-ne0 c = let y = c.loop-i in zero_fails _ _ _ _ _ y.invariant.0 c.loop-i-test.true c.if-header-from-ne0.true
-
-pub loop-i-preserved : goal.loop-i-preserved
-loop-i-preserved c = let y = c.loop-i in (y.invariant.0, search rules, every_more _ _ y.invariant.2 (eq-eqb _ _ c.if-header-from-ne0.false))
-
 pub returns : goal.returns
-returns c = let y = c.loop-i in zero-done _ _ _ _ _ y.invariant.0 y.invariant.1 c.loop-i-test.false y.invariant.2
+returns c =
+    let bytes : List ℕ = take (c.args.to - c.args.from) (drop c.args.from c.args.header.now) in
+    all_from_yields_List (λ x. eqb x 0) _ _ c.all.result c.all.ensures.ran (YieldsList-from_slice bytes cc) (λ x b q k. search (rules, tests))
+    ∙ all_zero c.args.header.now c.args.from c.args.to c.requires.1

@@ -1,51 +1,52 @@
--- `file_header::reading::points_back` meets its contract. Assumes nothing.
-use mathlib.Core.Path.{ap}
-use mathlib.Core.Bool.{not}
+use Rattle.std.proofs.Common.{rules}
+use Rattle.rules_files.specs.HeaderReading.{start_and_end, points_back}
 use native.Mathlib.Omega.{arith}
-use Rattle.file_header.proofs.Readings.{back_wrong, back_facts, back_right, back_none}
+use Rattle.rules_files.proofs.HeaderJudging.{LoopIs, loop_facts}
 use Rattle.file_header.proofs.reading.points_back.Goals as goal
 
+pub returns-in_err-fields : goal.returns-in_err-fields
+unfolding points_back
+returns-in_err-fields c = search rules
+
 pub returns-then-not-loop_right : goal.returns-then-not-loop_right
-returns-then-not-loop_right c = back_wrong _ _ c.loop_right.ensures (ap not c.if-not-loop_right.true)
+unfolding points_back
+returns-then-not-loop_right c = search rules
 
-pub returns-in_default : goal.returns-in_default
-returns-in_default c = back_none _ c.in_default.is
-
-pub overflow_mul-start : goal.overflow_mul-start
-overflow_mul-start c =
-    let k = back_facts _ _ c.loop_right.ensures (ap not c.if-not-loop_right.false) _ _ _ _ c.in-Given.is in
+pub overflow_mul-result : goal.overflow_mul-result
+overflow_mul-result c =
+    let k : LoopIs c.in_ok-fields.fields = loop_facts _ (search rules) in
     record { fits = omega arith }
 
-pub overflow_add-start : goal.overflow_add-start
-overflow_add-start c =
-    let k = back_facts _ _ c.loop_right.ensures (ap not c.if-not-loop_right.false) _ _ _ _ c.in-Given.is in
+pub overflow_add-result : goal.overflow_add-result
+overflow_add-result c =
+    let k : LoopIs c.in_ok-fields.fields = loop_facts _ (search rules) in
     record { fits = omega arith }
 
-pub overflow_sub-start : goal.overflow_sub-start
-overflow_sub-start c =
-    let k = back_facts _ _ c.loop_right.ensures (ap not c.if-not-loop_right.false) _ _ _ _ c.in-Given.is in
+pub overflow_sub-result : goal.overflow_sub-result
+overflow_sub-result c =
+    let k : LoopIs c.in_ok-fields.fields = loop_facts _ (search rules) in
     omega arith
 
-pub overflow_add-end : goal.overflow_add-end
-overflow_add-end c =
-    let k = back_facts _ _ c.loop_right.ensures (ap not c.if-not-loop_right.false) _ _ _ _ c.in-Given.is in
+pub overflow_add-result-2 : goal.overflow_add-result-2
+overflow_add-result-2 c =
+    let k : LoopIs c.in_ok-fields.fields = loop_facts _ (search rules) in
     record { fits = omega arith }
 
-pub overflow_mul-end : goal.overflow_mul-end
-overflow_mul-end c =
-    let k = back_facts _ _ c.loop_right.ensures (ap not c.if-not-loop_right.false) _ _ _ _ c.in-Given.is in
+pub overflow_mul-result-2 : goal.overflow_mul-result-2
+overflow_mul-result-2 c =
+    let k : LoopIs c.in_ok-fields.fields = loop_facts _ (search rules) in
     record { fits = omega arith }
 
-pub overflow_sub-end : goal.overflow_sub-end
-overflow_sub-end c =
-    let k = back_facts _ _ c.loop_right.ensures (ap not c.if-not-loop_right.false) _ _ _ _ c.in-Given.is in
+pub overflow_sub-result-2 : goal.overflow_sub-result-2
+overflow_sub-result-2 c =
+    let k : LoopIs c.in_ok-fields.fields = loop_facts _ (search rules) in
     omega arith
 
-pub overflow_sub-end-2 : goal.overflow_sub-end-2
-overflow_sub-end-2 c =
-    let k = back_facts _ _ c.loop_right.ensures (ap not c.if-not-loop_right.false) _ _ _ _ c.in-Given.is in
+pub overflow_sub-result-3 : goal.overflow_sub-result-3
+overflow_sub-result-3 c =
+    let k : LoopIs c.in_ok-fields.fields = loop_facts _ (search rules) in
     omega arith
 
 pub returns : goal.returns
-returns c =
-    back_right _ _ c.loop_right.ensures (ap not c.if-not-loop_right.false) _ _ _ _ c.in-Given.is
+unfolding points_back start_and_end
+returns c = search rules

@@ -14,9 +14,6 @@ unfolding ReadFits
 returns-then-not-names_right c =
     (read_unnamed _ _ c.is_sealed.ensures (ap not c.if-not-is_sealed.false) _ c.names_right.ensures (ap not c.if-not-names_right.true), tt)
 
-pub fields_right-requires : goal.fields_right-requires
-fields_right-requires c = (c.requires, c.fields_of-fields.ensures.0)
-
 pub returns-then-not-fields_right : goal.returns-then-not-fields_right
 unfolding ReadFits
 returns-then-not-fields_right c = (

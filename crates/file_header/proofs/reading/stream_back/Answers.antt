@@ -2,4 +2,4 @@
 use Rattle.file_header.proofs.reading.stream_back.Goals as goal
 
 pub returns : goal.returns
-returns c = rw c.points_back-back.ensures
+returns c = rw c.points_back.ensures

@@ -1,46 +1,17 @@
 use mathlib.Core.Path.{ap}
-use Prim.Native.Nat.{◌≤◌, ◌+◌, ◌-◌, ◌*◌}
-use native.Mathlib.Omega.{arith}
+use Prim.Native.Nat.{◌+◌}
 use lib.Ieee.{Float, binary32, add}
 use Rattle.floats.specs.Single.{with_eight}
-use Rattle.floats.proofs.FoldLaws.{take_none, take_more, take_all, reach}
-use Rattle.floats.proofs.Average.with_eight.Lts as lts
-use Rattle.floats.proofs.Average.with_eight.Tie as tie
-use Rattle.floats.proofs.Average.with_eight.Reads as reads
+use Rattle.floats.proofs.FoldLaws.{take_more, take_all}
 use Rattle.floats.proofs.Average.with_eight.Goals as goal
-
--- k * stride, for a k below 8
-reached : (c : lts.In-loop tie.the-claims reads.Pre reads.Post goal.the-invariant-loop-k goal.the-decreases-loop-k tie.handed_clauses) → c.loop-k.k * c.args.stride ≤ 7 * c.args.stride
-reached c = reach c.loop-k.k c.args.stride (omega arith)
-
-pub loop-k-init : goal.loop-k-init
-loop-k-init c = take_none _ _ _ _ _
-
-pub offset_bounds-xs-i : goal.offset_bounds-xs-i
-offset_bounds-xs-i c = omega (arith, reached c.before)
-
-pub bounds-xs-i : goal.bounds-xs-i
-bounds-xs-i c = omega (arith, reached c.before.before)
-
-pub overflow_add-i : goal.overflow_add-i
-overflow_add-i c = omega (arith, reached c.before.before.before)
-
-pub overflow_add-k : goal.overflow_add-k
-overflow_add-k c = omega arith
-
-pub loop-k-smaller : goal.loop-k-smaller
-loop-k-smaller c = omega arith
 
 pub loop-k-preserved : goal.loop-k-preserved
 loop-k-preserved c =
-    take_more _ _ _ _ _ c.loop-k.i c.loop-k.k c.loop-k.sum _ (omega arith) c.loop-k.invariant
-    (ap (add binary32 c.loop-k.sum) c.magnitude-m.ensures)
-
-pub overflow_add-result : goal.overflow_add-result
-overflow_add-result c = omega arith
+    take_more _ _ _ _ _ c.loop-k.k c.loop-k.sum _ c.loop-k-test.true c.loop-k.invariant
+    (ap (add binary32 c.loop-k.sum) c.magnitude-sum.ensures)
 
 pub returns : goal.returns
 unfolding with_eight
 returns c =
     ap (λ (s : Float). record { sum = s; count = c.args.self.count + 8 })
-    (take_all _ _ _ _ _ c.loop-k.i c.loop-k.k c.loop-k.sum (omega arith) c.loop-k.invariant)
+    (take_all _ _ _ _ _ c.loop-k.k c.loop-k.sum c.loop-k-test.false c.loop-k.invariant)

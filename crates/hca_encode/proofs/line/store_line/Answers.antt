@@ -1,31 +1,36 @@
 -- `hca_encode::line::store_line` meets its contract. Assumes nothing.
-use mathlib.Core.Path.{◌∙◌}
-use Rattle.rules_line.specs.Line.{line_outcome, line_index}
+use mathlib.Core.Path.{sym, ◌∙◌, ap, subst}
+use Rattle.rules_line.specs.Line.{line_outcome_by, line_index}
 use Rattle.hca_answers.specs.Outcomes.{result_of}
-use Rattle.hca_encode.specs.EncodeLine.{index_in}
-use Rattle.hca_encode.proofs.LinePlaces.{stored-none, line_refusing, line_fits, line_stored}
-use borrow.Enum.Refused.{opened}
+use Rattle.hca_encode.specs.EncodeLine.{index_in, line_answer_after, IndexFits, LineSmall}
+use Rattle.hca_encode.proofs.LinePlaces.{stored-none, refusing_told, line_fits, line_stored}
 use Rattle.hca_encode.proofs.line.store_line.Goals as goal
 
+pub returns-in-Ok : goal.returns-in-Ok
+unfolding line_outcome_by line_index result_of index_in
+returns-in-Ok g c = record { answered = rw c.in-Ok.is; shown = rw c.in-Ok.is (stored-none _) }
+
 pub name_frame-requires : goal.name_frame-requires
-name_frame-requires c = c.requires.index
+name_frame-requires g c = subst (λ a. IndexFits (line_index a)) c.in-Err.is c.requires.index
 
-pub refuse-requires : goal.refuse-requires
-refuse-requires c =
-    let small = c.requires in
-    line_fits _ _ _ (line_refusing _ (opened c.in_default.in_default-own.keys2) small) small c.line_refusal-r.ensures
+pub tell-requires : goal.tell-requires
+tell-requires g c =
+    let s = g.S.SingleCall in
+    let small = subst (λ a. LineSmall (line_outcome_by s.refusal a) (line_index a)) c.in-Err.is c.requires in
+    line_fits _ _ _ (refusing_told s.refusal g.met.S.SingleCall.refuses _ _ c.told.ensures.said c.told.ensures.low) small c.told.ensures.said
 
-pub shape_of-answer-in_default : goal.shape_of-answer-in_default
-shape_of-answer-in_default c = c.refuse.auto.answer ∙ c.name_frame.auto.answer
+pub returns-in-Err-clause-answered : goal.returns-in-Err-clause-answered
+returns-in-Err-clause-answered g c =
+    let s = g.S.SingleCall in
+    let small = subst (λ a. LineSmall (line_outcome_by s.refusal a) (line_index a)) c.in-Err.is c.requires in
+    let refusing = refusing_told s.refusal g.met.S.SingleCall.refuses _ _ c.told.ensures.said c.told.ensures.low in
+    let stored = line_stored _ _ _ refusing small c.told.ensures.said _ _ _ _ c.name_frame.ensures c.tell.ensures in
+    stored.0 ∙ ap (λ a. result_of (line_outcome_by s.refusal a)) (sym c.in-Err.is)
 
-pub returns-in_default : goal.returns-in_default
-returns-in_default c =
-    let small = c.requires in
-    let stored = line_stored _ _ _ (line_refusing _ (opened c.in_default.in_default-own.keys2) small) small
-    c.line_refusal-r.ensures _ _ _ _ c.name_frame.ensures
-    c.refuse.ensures in
-    record { answered = stored.0; shown = stored.1 }
-
-pub returns : goal.returns
-unfolding line_outcome line_index result_of index_in
-returns c = record { answered = rw c.in-Delivered.is; shown = rw c.in-Delivered.is (stored-none _) }
+pub returns-in-Err-clause-shown : goal.returns-in-Err-clause-shown
+returns-in-Err-clause-shown g c =
+    let s = g.S.SingleCall in
+    let small = subst (λ a. LineSmall (line_outcome_by s.refusal a) (line_index a)) c.in-Err.is c.requires in
+    let refusing = refusing_told s.refusal g.met.S.SingleCall.refuses _ _ c.told.ensures.said c.told.ensures.low in
+    let stored = line_stored _ _ _ refusing small c.told.ensures.said _ _ _ _ c.name_frame.ensures c.tell.ensures in
+    stored.1 ∙ ap (λ a. line_answer_after (line_outcome_by s.refusal a) (line_index a) c.args.answer.now) (sym c.in-Err.is)

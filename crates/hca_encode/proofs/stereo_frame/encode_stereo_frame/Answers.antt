@@ -1,66 +1,26 @@
 -- `hca_encode::stereo_frame::encode_stereo_frame` meets its contract. Assumes nothing.
-use mathlib.Core.Path.{◌≡◌, sym, ◌∙◌}
-use mathlib.Core.Bool.{true}
-use Rattle.hca_layout.specs.Layouts.{is_layout}
+use mathlib.Core.Path.{sym, ◌∙◌, ap, subst}
 use Rattle.hca_layout.proofs.Naming.{named_five}
-use Rattle.hca_encode.proofs.StereoStores.{stereo_unnamed, stereo-short, stereo-done}
-use Rattle.hca_encode.proofs.stereo_frame.encode_stereo_frame.Lts as lts
-use Rattle.hca_encode.proofs.stereo_frame.encode_stereo_frame.Tie as tie
-use Rattle.hca_encode.proofs.stereo_frame.encode_stereo_frame.Reads as reads
+use Rattle.rules_stereo.specs.Stereo.{StereoLeft}
+use Rattle.hca_answers.specs.Outcomes.{Small}
+use Rattle.hca_encode.proofs.StereoBounds.{stereo-small}
+use Rattle.hca_encode.proofs.StereoStores.{stereo_stores, stereo_unnamed, stereo-short, stereo-done}
 use Rattle.hca_encode.proofs.stereo_frame.encode_stereo_frame.Goals as goal
-
-pub shape_of-answer-then-not-is_layout : goal.shape_of-answer-then-not-is_layout
-shape_of-answer-then-not-is_layout c = c.refuse.auto.answer
 
 pub returns-then-not-is_layout : goal.returns-then-not-is_layout
 returns-then-not-is_layout c = stereo_unnamed _ _ _ _ _ _ (sym c.is_layout.ensures
     ∙ c.if-not-is_layout.true) c.refuse.ensures
 
-lawful : (c : lts.Else1 tie.the-claims reads.Pre reads.Post) → is_layout c.args.layout.now
-    c.args.kinds.now ≡ true
-lawful c = sym c.is_layout.ensures ∙ c.if-not-is_layout.false
-
 pub returns-then-answer-lt4 : goal.returns-then-answer-lt4
-returns-then-answer-lt4 c = stereo-short _ _ _ _ (lawful c.before.before) c.if-answer-lt4.true
+returns-then-answer-lt4 c = stereo-short _ _ _ _ (sym c.is_layout.ensures ∙ c.if-not-is_layout.false) c.if-answer-lt4.true
 
-pub layout_of-l-requires : goal.layout_of-l-requires
-layout_of-l-requires c = named_five _ _ (lawful c.before.before)
+pub layout_of-requires : goal.layout_of-requires
+layout_of-requires c = named_five _ _ (sym c.is_layout.ensures ∙ c.if-not-is_layout.false)
 
-pub shape_of-spectra : goal.shape_of-spectra
-shape_of-spectra c =
-    c.stereo_and_store.auto.spectra
-
-pub shape_of-intensities : goal.shape_of-intensities
-shape_of-intensities c =
-    c.stereo_and_store.auto.intensities
-
-pub shape_of-scaled : goal.shape_of-scaled
-shape_of-scaled c =
-    c.stereo_and_store.auto.scaled
-
-pub shape_of-codes : goal.shape_of-codes
-shape_of-codes c =
-    c.stereo_and_store.auto.codes
-
-pub shape_of-factors : goal.shape_of-factors
-shape_of-factors c =
-    c.stereo_and_store.auto.factors
-
-pub shape_of-side : goal.shape_of-side
-shape_of-side c =
-    c.stereo_and_store.auto.side
-
-pub shape_of-frame : goal.shape_of-frame
-shape_of-frame c =
-    c.stereo_and_store.auto.frame
-
-pub shape_of-answer : goal.shape_of-answer
-shape_of-answer c =
-    c.stereo_and_store.auto.answer
+pub store_stereo-requires : goal.store_stereo-requires
+store_stereo-requires c = subst Small (sym (ap (λ (x : StereoLeft). x.outcome) c.encode_stereo_frame-a.ensures)) (stereo-small _ _)
 
 pub returns : goal.returns
 returns c =
-    stereo-done _ _ _ _ (lawful c.before.before.before.before.before.before.before.before.before.before.before.before.before.before.before.before.before.before.before.before.before.before.before.before.before.before.before) _ _
-    c.layout_of-l.ensures
-    c.if-answer-lt4.false
-    c.stereo_and_store.ensures
+    stereo-done _ _ _ _ (sym c.is_layout.ensures ∙ c.if-not-is_layout.false) _ _ c.layout_of.ensures c.if-answer-lt4.false
+    (stereo_stores _ _ _ _ _ _ _ _ _ _ _ _ c.encode_stereo_frame-a.ensures c.store_stereo.ensures)

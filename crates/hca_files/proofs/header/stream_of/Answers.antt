@@ -4,4 +4,4 @@ use Rattle.hca_files.proofs.header.stream_of.Goals as goal
 
 pub returns : goal.returns
 unfolding stream_of
-returns c = rw c.points_of-points.ensures
+returns c = rw c.points_of.ensures

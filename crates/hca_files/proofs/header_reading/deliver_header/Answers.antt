@@ -33,4 +33,4 @@ bounds-answer-7 c = simp length-set (omega arith)
 pub returns : goal.returns
 unfolding result_of
 returns c =
-    record { answered = refl; shown = header-stored c.args.fields _ _ _ c.requires.in_bounds c.loop_or-numbers.ensures.0 c.loop_flag-flag.ensures }
+    record { answered = refl; shown = header-stored c.args.fields _ _ _ c.requires.in_bounds c.loop_or-numbers.ensures.0 c.loop_flag.ensures }

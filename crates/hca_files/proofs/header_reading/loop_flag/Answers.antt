@@ -2,10 +2,10 @@
 use Rattle.hca_files.specs.ReadHeader.{loop_flag}
 use Rattle.hca_files.proofs.header_reading.loop_flag.Goals as goal
 
-pub returns-in-Absent : goal.returns-in-Absent
+pub returns-in-None : goal.returns-in-None
 unfolding loop_flag
-returns-in-Absent c = rw c.in-Absent.is
+returns-in-None c = rw c.in-None.is
 
-pub returns-in-Given : goal.returns-in-Given
+pub returns-in-Some : goal.returns-in-Some
 unfolding loop_flag
-returns-in-Given c = rw c.in-Given.is
+returns-in-Some c = rw c.in-Some.is

@@ -10,18 +10,6 @@ pub store_read-requires : goal.store_read-requires
 store_read-requires c = subst Small (sym (ap (λ (x : ReaderLeft). x.outcome) c.read_frame-a.ensures))
     (read_small _ _)
 
-pub shape_of-factors : goal.shape_of-factors
-shape_of-factors c = c.read_frame-a.auto.factors
-
-pub shape_of-side : goal.shape_of-side
-shape_of-side c = c.read_frame-a.auto.side
-
-pub shape_of-codes : goal.shape_of-codes
-shape_of-codes c = c.read_frame-a.auto.codes
-
-pub shape_of-answer : goal.shape_of-answer
-shape_of-answer c = c.store_read.auto.answer
-
 pub returns : goal.returns
 returns c = read_stores _ _ _ _ _ _ _ _ c.read_frame-a.ensures
     c.store_read.ensures

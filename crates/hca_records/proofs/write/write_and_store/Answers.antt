@@ -9,11 +9,5 @@ use Rattle.hca_records.proofs.write.write_and_store.Goals as goal
 pub store_write-requires : goal.store_write-requires
 store_write-requires c = subst Small (sym (ap (λ (x : WriterLeft). x.outcome) c.write_record-a.ensures)) (written_small _ _)
 
-pub shape_of-frame : goal.shape_of-frame
-shape_of-frame c = c.write_record-a.auto.frame
-
-pub shape_of-answer : goal.shape_of-answer
-shape_of-answer c = c.store_write.auto.answer
-
 pub returns : goal.returns
 returns c = write_stores _ _ _ _ _ _ c.write_record-a.ensures c.store_write.ensures

@@ -8,6 +8,6 @@ pub returns-then-source : goal.returns-then-source
 unfolding group_value of_bits
 returns-then-source c = rw c.if-source.true (ap (mul binary32 c.args.spectrum) c.smaller.ensures)
 
-pub returns : goal.returns
+pub returns-else-source : goal.returns-else-source
 unfolding group_value of_bits
-returns c = rw c.if-source.false
+returns-else-source c = rw c.if-source.false

@@ -1,36 +1,19 @@
-use mathlib.Core.Path.{◌≡◌, sym, ◌∙◌}
-use mathlib.Core.Bool.{true}
-use Prim.Native.Nat.{◌-◌}
+-- `list::judging::are_legal` meets its contract. Assumes nothing.
+use mathlib.Core.Path.{refl, sym, ◌∙◌}
 use native.Mathlib.Omega.{arith}
-use borrow.Author.Rules.{rules}
-use Rattle.buffers.proofs.Every.{every-none, every_more, every_fails}
-use Rattle.rules_files.specs.List.{legal_entries}
+use Rattle.std.proofs.Common.{rules}
+use Rattle.std.proofs.lemmas.Iterator.{YieldsList-from_range}
+use Rattle.std.proofs.lemmas.Iterator.Search.{all_from_yields_List}
+use Rattle.rules_files.specs.List.{legal_entry, legal_entries, entry_in}
 use Rattle.rules_files.proofs.Entries.{entry-judged}
+use Rattle.rules_files.proofs.Ranges.{all-range, every_same}
 use Rattle.list.proofs.judging.are_legal.Goals as goal
 
-pub loop-i-init : goal.loop-i-init
-unfolding legal_entries
-loop-i-init c = (search rules, every-none _)
-
-pub returns-then-not-is_legal_entry : goal.returns-then-not-is_legal_entry
-unfolding legal_entries
-returns-then-not-is_legal_entry c =
-    let h = c.loop-i-test.true in
-    sym (every_fails _ c.args.n c.loop-i.i h
-    (entry-judged c.args.list.now _ _ c.requires.0 h _ _ c.entry_in.ensures c.is_legal_entry.ensures
-    ∙ c.if-not-is_legal_entry.true))
-
-pub loop-i-preserved : goal.loop-i-preserved
-unfolding legal_entries
-loop-i-preserved c =
-    let h = c.loop-i-test.true in (
-      search rules,
-      every_more _ _ c.loop-i.invariant.1
-          (entry-judged c.args.list.now _ _ c.requires.0 h _ _ c.entry_in.ensures c.is_legal_entry.ensures
-          ∙ c.if-not-is_legal_entry.false),
-    )
-
 pub returns : goal.returns
+unfolding legal_entries
 returns c =
-    let q : c.loop-i.i ≡ c.args.n = omega arith in
-    sym (rw q at c.loop-i.invariant.1)
+    let list = c.args.list.now in
+    all_from_yields_List (λ i. legal_entry (entry_in list i)) _ _ c.all.result c.all.ensures.ran
+    (YieldsList-from_range 0 c.args.n c.args.n refl (omega arith)) (λ x b q k. search rules)
+    ∙ all-range _ c.args.n
+    ∙ every_same _ _ c.args.n (λ i h. sym (entry-judged list c.args.n i c.requires.0 h _ _ refl refl))

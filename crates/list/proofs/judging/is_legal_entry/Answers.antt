@@ -1,17 +1,12 @@
 -- `list::judging::is_legal_entry` meets its contract. Assumes nothing.
-use native.Mathlib.Omega.{arith}
-use mathlib.Core.Path.{sym}
-use Rattle.rules_files.proofs.Entries.{limits-legal, past-limit}
+use borrow.Author.Rules.{rules}
+use Rattle.rules_files.specs.List.{legal_entry}
 use Rattle.list.proofs.judging.is_legal_entry.Goals as goal
 
-pub returns-then-entry-gt511 : goal.returns-then-entry-gt511
-returns-then-entry-gt511 c = past-limit _ (λ h. omega (arith, h.levels))
+pub returns-then-entry-le127 : goal.returns-then-entry-le127
+unfolding legal_entry
+returns-then-entry-le127 c = search rules
 
-pub returns-then-entry-gt127 : goal.returns-then-entry-gt127
-returns-then-entry-gt127 c = past-limit _ (λ h. omega (arith, h.boundaries))
-
-pub returns-then-entry-gt63 : goal.returns-then-entry-gt63
-returns-then-entry-gt63 c = past-limit _ (λ h. omega (arith, h.removed))
-
-pub returns : goal.returns
-returns c = sym (limits-legal _ (record { levels = omega arith; boundaries = omega arith; removed = omega arith }))
+pub returns-else-entry-le127 : goal.returns-else-entry-le127
+unfolding legal_entry
+returns-else-entry-le127 c = search rules

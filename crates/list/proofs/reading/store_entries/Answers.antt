@@ -1,35 +1,22 @@
 use mathlib.Core.Path.{refl, ap, ◌∙◌}
-use Prim.Native.Nat.{◌-◌, ◌*◌}
 use native.Mathlib.Omega.{arith}
 use borrow.Author.Rules.{rules}
-use Rattle.buffers.proofs.Build.{back-width}
 use Rattle.buffers.proofs.Blocks.{blocked_none, blocked_more, blocked_all}
-use Rattle.rules.proofs.Cuts.{length_part}
 use Rattle.rules_files.specs.List.{entry_numbers}
 use Rattle.list.proofs.Laying.{numbers_laid}
 use Rattle.list.proofs.reading.store_entries.Invariants.{numbers_at}
 use Rattle.list.proofs.reading.store_entries.Goals as goal
 
 pub loop-i-init : goal.loop-i-init
-loop-i-init c = (search rules, blocked_none _ 4 _)
-
-pub store_entry-requires : goal.store_entry-requires
-store_entry-requires c = rw (back-width (c.loop-i.i * 4) 4)
-    (length_part 4 c.args.n _ c.loop-i.entries (omega arith)
-    c.loop-i-test.true)
+loop-i-init c = blocked_none _ 4 _
 
 pub loop-i-preserved : goal.loop-i-preserved
-loop-i-preserved c = (
-  search rules,
-  blocked_more (numbers_at c.args.list.now) 4 c.args.n c.args.entries.now (λ _ _. refl) c.loop-i.i c.loop-i.entries
-      c.loop-i-test.true c.loop-i.invariant.1 _ (omega arith)
-      (c.store_entry.ensures ∙ ap entry_numbers c.entry_in-entry.ensures),
-)
-
-pub shape_of-entries : goal.shape_of-entries
-shape_of-entries c = c.loop-i.invariant.1.0
+loop-i-preserved c =
+    blocked_more (numbers_at c.args.list.now) 4 c.args.n c.args.entries.now (λ _ _. refl) c.loop-i.i c.loop-i.entries
+    c.loop-i-test.true c.loop-i.invariant _ (omega arith)
+    (c.copy_from_slice.ensures.after ∙ c.entry_numbers.ensures ∙ ap entry_numbers c.entry_in-entry.ensures)
 
 pub returns : goal.returns
 returns c =
     numbers_laid _ _ c.args.entries.now _ c.requires.0
-    (blocked_all _ 4 c.args.entries.now c.loop-i.i _ _ (search rules) (search rules) c.loop-i.invariant.1)
+    (blocked_all _ 4 c.args.entries.now c.loop-i.i _ _ (search rules) (search rules) c.loop-i.invariant)

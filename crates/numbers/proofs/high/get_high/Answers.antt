@@ -1,33 +1,44 @@
-use Prim.Native.Nat.{◌-◌}
+use mathlib.Core.Path.{◌≡◌, ap, ◌∙◌}
+use mathlib.Core.List.{List}
+use Prim.Native.Nat.{ℕ, ◌<◌}
 use native.Mathlib.Omega.{arith}
+use lib.ListN.{length}
 use borrow.Author.Rules.{rules}
+use Rattle.numbers.specs.Numbers.{of_high}
 use Rattle.numbers.proofs.HighFirst.{high-room}
-use Rattle.numbers.proofs.Loops.{taken_none, taken_more, taken_all}
+use Rattle.numbers.proofs.Loops.{lent, lent-is, length-lent, taken_none, taken_more, taken_all}
 use Rattle.numbers.proofs.high.get_high.Goals as goal
 
-pub loop-i-init : goal.loop-i-init
-loop-i-init c = let a = c.args in taken_none a.bytes.now a.at a.width
+pub loop-byte-init : goal.loop-byte-init
+loop-byte-init c = let a = c.args in taken_none (lent a.bytes.now a.at a.width)
 
 pub overflow_mul-number : goal.overflow_mul-number
 overflow_mul-number c =
-    let l = c.loop-i in
     let a = c.args in
-    omega (arith, high-room l.i a.width l.number 0 l.invariant.2 (search rules) (search rules) (omega arith))
+    let l = c.loop-byte in
+    let below : l.byte-index < a.width = omega (arith, c.loop-byte-test.true, length-lent a.bytes.now a.at a.width c.requires.0) in
+    record { fits = omega (arith, high-room l.byte-index a.width l.number 0 l.invariant.1 below c.requires.1 (omega arith)) }
 
 pub overflow_add-number : goal.overflow_add-number
 overflow_add-number c =
-    let l = c.loop-i in
     let a = c.args in
-    omega (arith, high-room l.i a.width l.number c.wide.result l.invariant.2 (search rules) (search rules) c.wide.ensures.1)
+    let l = c.loop-byte in
+    let below : l.byte-index < a.width = omega (arith, c.loop-byte-test.true, length-lent a.bytes.now a.at a.width c.requires.0) in
+    record { fits = high-room l.byte-index a.width l.number c.from.result l.invariant.1 below c.requires.1 (search rules) }
 
-pub loop-i-preserved : goal.loop-i-preserved
-loop-i-preserved c =
-    let l = c.loop-i in
+pub loop-byte-preserved : goal.loop-byte-preserved
+loop-byte-preserved c =
     let a = c.args in
-    taken_more a.bytes.now a.at a.width l.i l.number c.wide.result (search rules) (search rules) l.invariant c.wide.ensures.0
-    c.wide.ensures.1
+    let l = c.loop-byte in
+    taken_more (lent a.bytes.now a.at a.width) l.byte-index l.number c.from.result c.loop-byte-test.true l.invariant (search rules) (search rules)
 
 pub returns : goal.returns
 returns c =
     let a = c.args in
-    taken_all a.bytes.now a.at a.width c.loop-i.i c.loop-i.number (search rules) c.loop-i.invariant
+    let l = c.loop-byte in
+    let part : List ℕ = lent a.bytes.now a.at a.width in
+    let long : length part ≡ a.width = length-lent a.bytes.now a.at a.width c.requires.0 in
+    let all : l.byte-index ≡ a.width = omega (arith, long, c.loop-byte-test.false, l.auto.byte-index-end) in (
+      taken_all part l.byte-index l.number c.loop-byte-test.false l.invariant ∙ ap of_high (lent-is a.bytes.now a.at a.width),
+      rw all at l.invariant.1,
+    )

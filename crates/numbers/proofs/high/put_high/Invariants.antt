@@ -4,6 +4,3 @@ use Rattle.numbers.proofs.high.put_high.Given as goal
 
 abbrev pub invariant-loop-left : goal.invariant-loop-left
 invariant-loop-left l = Stored l.initial.bytes l.at l.width l.number l.left l.rest l.bytes
-
-abbrev pub decreases-loop-left : goal.decreases-loop-left
-decreases-loop-left l = l.left

@@ -1,6 +1,6 @@
 use native.Mathlib.Omega.{arith}
 use borrow.Author.Rules.{rules}
-use Rattle.numbers.proofs.LowFirst.{met_none, met_more, met_fits, met_all}
+use Rattle.numbers.proofs.LowFirst.{met_none, met_more, met_fits}
 use Rattle.numbers.proofs.low.get_low.Goals as goal
 
 pub loop-left-init : goal.loop-left-init
@@ -8,15 +8,12 @@ loop-left-init c = met_none _ _ _ c.requires.0
 
 pub overflow_mul-number : goal.overflow_mul-number
 overflow_mul-number c =
-    record { fits = omega (arith, met_fits _ _ _ c.requires.0 _ _ 0 (omega arith) (omega arith) c.loop-left.invariant (omega arith)) }
+    record { fits = omega (arith, met_fits _ _ _ c.requires.0 _ _ 0 c.requires.1 c.loop-left-test.true c.loop-left.invariant (omega arith)) }
 
 pub overflow_add-number : goal.overflow_add-number
 overflow_add-number c =
-    record { fits = met_fits _ _ _ c.requires.0 _ _ _ (omega arith) (omega arith) c.loop-left.invariant c.widened.ensures.1 }
+    record { fits = met_fits _ _ _ c.requires.0 _ _ _ c.requires.1 c.loop-left-test.true c.loop-left.invariant (search rules) }
 
 pub loop-left-preserved : goal.loop-left-preserved
 loop-left-preserved c =
-    met_more _ _ _ c.requires.0 _ c.loop-left.left _ (omega arith) c.loop-left.invariant c.widened.ensures.0 c.widened.ensures.1
-
-pub returns : goal.returns
-returns c = met_all _ _ _ c.requires.0 _ c.loop-left.left (search rules) c.loop-left.invariant
+    met_more _ _ _ c.requires.0 _ c.loop-left.left _ c.loop-left-test.true c.loop-left.invariant (search rules) (search rules)

@@ -4,6 +4,3 @@ use Rattle.numbers.proofs.low.get_low.Given as goal
 
 abbrev pub invariant-loop-left : goal.invariant-loop-left
 invariant-loop-left l = Met l.bytes l.at l.width l.number l.left
-
-abbrev pub decreases-loop-left : goal.decreases-loop-left
-decreases-loop-left l = l.left

@@ -1,19 +1,9 @@
--- `reader::fault_bits::in_frame` gives the answer of each refusal. Assumes nothing.
-use mathlib.Core.Path.{sym, ap, subst}
-use Prim.Native.Nat.{◌+◌, ◌*◌, ◌≤◌}
-use native.Mathlib.Omega.{arith}
+-- `reader::fault_bits::in_frame` gives the refusal of each fault. Assumes nothing.
+use mathlib.Core.Path.{sym, ap}
+use Prim.Native.Nat.{◌+◌}
 use Rattle.rules.specs.Refusals.{refused, reader_outcome}
 use Rattle.reader_channels.specs.Steps.{fault_number, fault_bit}
 use Rattle.reader.proofs.fault_bits.in_frame.Goals as goal
-
-pub overflow_add-result : goal.overflow_add-result
-overflow_add-result c = omega (arith, subst (λ f. fault_bit f ≤ 8 * 65535) c.in-BadWidth.is c.requires)
-
-pub overflow_add-result-in-BadFactor : goal.overflow_add-result-in-BadFactor
-overflow_add-result-in-BadFactor c = omega (arith, subst (λ f. fault_bit f ≤ 8 * 65535) c.in-BadFactor.is c.requires)
-
-pub overflow_add-result-in-PastEnd : goal.overflow_add-result-in-PastEnd
-overflow_add-result-in-PastEnd c = omega (arith, subst (λ f. fault_bit f ≤ 8 * 65535) c.in-PastEnd.is c.requires)
 
 pub returns-in-BadWidth : goal.returns-in-BadWidth
 unfolding reader_outcome

@@ -1,10 +1,6 @@
 -- `first_bit` meets its contract. The invariant: no 1 was passed. Assumes nothing.
-use Prim.Native.Nat.{◌≤◌, ◌-◌}
 use Rattle.reader.specs.Ones.{ZerosBetween}
 use Rattle.reader.proofs.fill.first_bit.Given as goal
 
 abbrev pub invariant-loop-at : goal.invariant-loop-at
-invariant-loop-at l = (l.at ≤ l.end) × ZerosBetween l.part l.from l.at
-
-abbrev pub decreases-loop-at : goal.decreases-loop-at
-decreases-loop-at l = l.end - l.at
+invariant-loop-at l = ZerosBetween l.part l.from l.at

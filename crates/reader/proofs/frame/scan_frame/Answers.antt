@@ -3,8 +3,8 @@ use mathlib.Core.Path.{refl, sym, ap, ◌∙◌}
 use native.Mathlib.Omega.{arith}
 use Rattle.rules.specs.Refusals.{reader_outcome}
 use Rattle.rules.specs.Reader.{scanned_left}
-use Rattle.rules.specs.declared.ReadAnswer.TheVariants as read
-use Rattle.reader.proofs.Frames.{unsealed, sync-there, unsynced, synced}
+use Rattle.rules.specs.declared.ReadRefusal.TheVariants as read
+use Rattle.reader.proofs.Frames.{unsealed, unsynced, synced}
 use Rattle.reader.proofs.Records.{refused-left}
 use Rattle.reader.proofs.frame.scan_frame.Goals as goal
 
@@ -14,27 +14,16 @@ returns-then-not-is_sealed c =
     let a = c.args in
     refused-left a.layout read.WrongCheck (unsealed a.layout a.frame.now (sym c.is_sealed.ensures ∙ c.if-not-is_sealed.true)) refl
 
-pub returns-in_default : goal.returns-in_default
-returns-in_default c = absurd (sync-there c.args.layout
-    c.args.frame.now (omega arith)
-    (sym c.get.ensures ∙ c.in_default.is))
-
-pub returns-then-sync-ne65535 : goal.returns-then-sync-ne65535
+pub returns-then-sync-ne-SYNC : goal.returns-then-sync-ne-SYNC
 unfolding reader_outcome
-returns-then-sync-ne65535 c =
+returns-then-sync-ne-SYNC c =
     let a = c.args in
     refused-left a.layout read.WrongSync
-    (unsynced a.layout a.frame.now (omega arith) (sym c.get.ensures ∙ c.in-Of.is)
-    (sym c.is_sealed.ensures ∙ c.if-not-is_sealed.false)
-    c.if-sync-ne65535.true) refl
+    (unsynced a.layout a.frame.now (omega arith) c.look-sync.ensures.0 (sym c.is_sealed.ensures ∙ c.if-not-is_sealed.false) c.if-sync-ne-SYNC.true) refl
 
 pub returns : goal.returns
 returns c =
     let a = c.args in
     c.read_record.ensures
     ∙ ap (scanned_left a.layout)
-    (sym (synced a.layout a.frame.now (omega arith)
-    (sym c.get.ensures
-    ∙ c.in-Of.is)
-    (sym c.is_sealed.ensures ∙ c.if-not-is_sealed.false)
-    c.if-sync-ne65535.false))
+    (sym (synced a.layout a.frame.now (omega arith) c.look-sync.ensures.0 (sym c.is_sealed.ensures ∙ c.if-not-is_sealed.false) c.if-sync-ne-SYNC.false))

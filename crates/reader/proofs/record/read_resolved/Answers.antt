@@ -5,15 +5,11 @@ use Rattle.resolutions.proofs.Bands.{resolutions-most}
 use Rattle.reader.proofs.Records.{resolved}
 use Rattle.reader.proofs.record.read_resolved.Goals as goal
 
-pub read_all_codes-requires : goal.read_all_codes-requires
-read_all_codes-requires c =
+pub read_all_codes-requires-clause-resolutions_len : goal.read_all_codes-requires-clause-resolutions_len
+read_all_codes-requires-clause-resolutions_len c =
     let p = c.requires in
     let r = c.calculate_frame_resolutions in
-    let most = subst (AtMost 15) (sym r.ensures) (resolutions-most _ _ _ _ p.legal_layout) in
-    record { legal_layout = p.legal_layout; part_len_bound = (p.level_bound.1, p.level_bound.2); resolutions_len = (r.auto.resolutions ∙ p.factors_len.1, p.factors_len.2, most) }
+    (r.auto.resolutions ∙ p.factors_len.1, p.factors_len.2, subst (AtMost 15) (sym r.ensures) (resolutions-most _ _ _ _ p.legal_layout))
 
 pub returns : goal.returns
-returns c =
-    let a = c.args in
-    resolved a.layout a.part.now a.place.at c.calculate_frame_resolutions.ensures
-    c.read_all_codes.ensures
+returns c = resolved c.args.layout c.args.part.now c.args.head.next.at c.calculate_frame_resolutions.ensures c.read_all_codes.ensures

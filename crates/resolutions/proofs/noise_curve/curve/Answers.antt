@@ -1,12 +1,9 @@
 -- `resolutions::noise_curve::curve` meets its contract. Assumes nothing.
-use mathlib.Core.Path.{◌∙◌, ap}
-use Prim.Native.Nat.{ℕ, ◌%◌}
-use native.Mathlib.Omega.{arith}
-use Rattle.quantizer.specs.SixteenInOne.{entry_of}
-use Rattle.resolutions.proofs.CurveEntries.{curve_entry_lem}
+use mathlib.Core.Path.{refl}
+use Rattle.rules.specs.Tables.{resolution_curve}
+use Rattle.buffers.proofs.Tests.{all_le, get_d_le}
 use Rattle.resolutions.proofs.noise_curve.curve.Goals as goal
 
 pub returns : goal.returns
-returns c =
-    let at = c.args.at in
-    (c.row_entry.ensures ∙ ap (λ (n : ℕ). entry_of n (at % 16)) c.curve_row.ensures ∙ curve_entry_lem at c.requires, omega arith)
+unfolding resolution_curve all_le
+returns c = (refl, get_d_le 15 resolution_curve refl c.args.at)

@@ -1,24 +1,25 @@
-use mathlib.Core.Path.{◌∙◌, ap}
-use Prim.Native.Nat.{ℕ, ◌-◌, min}
+use mathlib.Core.Path.{sym, ◌∙◌, ap}
+use Prim.Native.Nat.{ℕ, min, max}
 use native.Mathlib.Omega.{arith}
-use borrow.Author.Rules.{rules}
 use Rattle.buffers.proofs.Build.{filled_none, filled_more}
-use Rattle.resolutions.proofs.Stretches.{table_is}
-use Rattle.resolutions.proofs.noise_curve.held_curve.Invariants.{entry}
+use Rattle.resolutions.proofs.Stretches.{held_part, as_it_was, table_is}
 use Rattle.resolutions.proofs.noise_curve.held_curve.Goals as goal
 
-pub loop-i-init : goal.loop-i-init
-loop-i-init c = (omega arith, filled_none _ _)
+pub slice_bounds-entry-items-end : goal.slice_bounds-entry-items-end
+slice_bounds-entry-items-end c = sym (held_part _ c.plain_curve-table.ensures)
 
-pub loop-i-preserved : goal.loop-i-preserved
-loop-i-preserved c =
-    let l = c.args.layout in (
-      search rules,
-      filled_more (entry c.plain_curve-plain.result l.minimum l.maximum) _ c.loop-i.i c.loop-i.table _ (search rules) c.loop-i.invariant.1
-          (c.smaller.ensures ∙ ap (λ (n : ℕ). min n l.maximum) c.larger.ensures),
-    )
+pub loop-entry-init : goal.loop-entry-init
+loop-entry-init c = filled_none _ _
+
+pub loop-entry-preserved : goal.loop-entry-preserved
+loop-entry-preserved c =
+    let l = c.args.layout in
+    filled_more _ _ _ _ _ (omega arith) c.loop-entry.invariant
+    (c.min.ensures
+    ∙ ap (λ (n : ℕ). min n l.maximum) (c.max.ensures
+    ∙ ap (λ (n : ℕ). max n l.minimum) (as_it_was _ _ _ _ c.loop-entry.invariant)))
 
 pub returns : goal.returns
 returns c =
-    table_is c.args.layout c.plain_curve-plain.result c.loop-i.table c.loop-i.i c.plain_curve-plain.ensures
-    (search rules) c.requires.highest c.loop-i.invariant.1
+    table_is c.args.layout c.plain_curve-table.result _ c.loop-entry.entry-index c.plain_curve-table.ensures
+    (omega (arith, held_part _ c.plain_curve-table.ensures)) c.requires.highest c.loop-entry.invariant

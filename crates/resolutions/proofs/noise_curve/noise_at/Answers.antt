@@ -4,14 +4,10 @@ use borrow.Author.Tests.{lt-ltb, le-ltb}
 use Rattle.rules.specs.Resolution.{noise_at}
 use Rattle.resolutions.proofs.noise_curve.noise_at.Goals as goal
 
-pub returns-then-level-eq0 : goal.returns-then-level-eq0
-unfolding noise_at
-returns-then-level-eq0 c = (rw (lt-ltb _ _ c.if-band-boundary.true) (omega arith), omega arith)
-
 pub returns-then-band-boundary : goal.returns-then-band-boundary
 unfolding noise_at
-returns-then-band-boundary c = (rw (lt-ltb _ _ c.if-band-boundary.true), omega arith)
+returns-then-band-boundary c = (rw (lt-ltb _ _ c.if-band-boundary.true) (omega arith), omega arith)
 
-pub returns : goal.returns
+pub returns-else-band-boundary : goal.returns-else-band-boundary
 unfolding noise_at
-returns c = (rw (le-ltb _ _ c.if-band-boundary.false), omega arith)
+returns-else-band-boundary c = (rw (le-ltb _ _ c.if-band-boundary.false), omega arith)

@@ -1,5 +1,5 @@
 use mathlib.Core.Path.{◌≡◌, refl, ap, ◌∙◌}
-use Prim.Native.Nat.{ℕ, ◌≤◌, ◌<◌, ◌+◌, ◌-◌, ◌*◌, min}
+use Prim.Native.Nat.{ℕ, ◌≤◌, ◌<◌, ◌+◌, ◌*◌, min}
 use native.Mathlib.Omega.{arith}
 use borrow.Author.Rules.{rules}
 use Rattle.rules.specs.Estimate.{channel_bits}
@@ -18,26 +18,26 @@ coded-band : (b to coded end : ℕ) → b < end → end ≡ min to coded → b <
 coded-band b to coded end h e = omega arith
 
 pub loop-b-init : goal.loop-b-init
-loop-b-init c = (refl, search rules, search rules, search rules, search rules)
+loop-b-init c = (refl, search rules, search rules, search rules)
 
 pub band_bits-rise-requires : goal.band_bits-rise-requires
 band_bits-rise-requires c =
-    let b = c.loop-b.b in record { stretched = (c.requires.stretched.0, c.requires.stretched.1 b (coded-band _ _ _ _ c.loop-b-test.true c.lesser-end.ensures)); counts_len = (c.requires.counts_len.0, search rules, c.requires.stretched.2 b, search rules) }
+    let b = c.loop-b.b in record { stretched = (c.requires.stretched.0, c.requires.stretched.1 b (coded-band _ _ _ _ c.loop-b-test.true c.min-b-end.ensures)); counts_len = (c.requires.counts_len.0, search rules, c.requires.stretched.2 b, search rules) }
 
 pub band_bits-fall-requires : goal.band_bits-fall-requires
 band_bits-fall-requires c =
-    let b = c.loop-b.b in record { stretched = (c.requires.stretched.0, c.requires.stretched.1 b (coded-band _ _ _ _ c.loop-b-test.true c.lesser-end.ensures)); counts_len = (c.requires.counts_len.0, search rules, c.requires.stretched.2 b, search rules) }
+    let b = c.loop-b.b in record { stretched = (c.requires.stretched.0, c.requires.stretched.1 b (coded-band _ _ _ _ c.loop-b-test.true c.min-b-end.ensures)); counts_len = (c.requires.counts_len.0, search rules, c.requires.stretched.2 b, search rules) }
 
 pub loop-b-preserved : goal.loop-b-preserved
 loop-b-preserved c =
     let a = c.args in
     let b = c.loop-b.b in
     let i = c.loop-b.invariant in
-    let k = coded-band _ _ _ _ c.loop-b-test.true c.lesser-end.ensures in
+    let k = coded-band _ _ _ _ c.loop-b-test.true c.min-b-end.ensures in
     let p = passes a.layout a.scaled.now a.factors.now a.coded a.level b k in
-    let turn = changed _ _ _ _ _ _ _ b i.0 p i.3 i.4 _ _ c.band_bits-rise.ensures.0 c.band_bits-fall.ensures.0
+    let turn = changed _ _ _ _ _ _ _ b i.0 p i.2 i.3 _ _ c.band_bits-rise.ensures.0 c.band_bits-fall.ensures.0
     c.band_bits-rise.ensures.1 c.band_bits-fall.ensures.1 in
-    (turn.2, search rules, search rules, turn.0, turn.1)
+    (turn.2, search rules, turn.0, turn.1)
 
 pub returns : goal.returns
 returns c =

@@ -8,62 +8,23 @@ use Rattle.within.specs.Within.{AllWithin}
 use Rattle.within.proofs.StageWithin.{all-within}
 use Rattle.rules.specs.Stage.{after_level}
 use Rattle.stage.proofs.Prepared.{made_of_prepared}
+use Rattle.stage.proofs.Wiped.{wiped_stays, wiped-cleared}
 use Rattle.stage.proofs.run.run_stage.Goals as goal
 
-pub prepare-requires : goal.prepare-requires
-prepare-requires c =
-    let a = c.requires.stage_lengths in
-    record { legal_layout = c.requires.legal_layout; spectra_len = (a.spectra, a.intensities, c.requires.all_finite); scaled_len = (a.scaled, a.factors, a.side) }
+pub level_to_frame-answer-requires-clause-at_most : goal.level_to_frame-answer-requires-clause-at_most
+level_to_frame-answer-requires-clause-at_most c =
+    let p = c.prepare in (
+      (λ i. let h = subst (λ fs. get_or fs i 0 < 64) (sym p.ensures.factored) (factors-small _ _ i) in omega arith),
+      subst AllWithin (sym p.ensures.rated) (all-within _ _ c.requires.all_finite c.requires.stage_lengths.spectra),
+    )
 
-pub level_to_frame-answer-requires : goal.level_to_frame-answer-requires
-level_to_frame-answer-requires c =
-    let a = c.requires.stage_lengths in
-    let p = c.prepare in record {
-      legal_layout = c.requires.legal_layout;
-      at_most = (
-        (λ i. let h = subst (λ fs. get_or fs i 0 < 64) (sym p.ensures.factored) (factors-small _ _ i) in omega arith),
-        subst AllWithin (sym p.ensures.rated) (all-within _ _ c.requires.all_finite a.spectra),
-      );
-      exact_buffers = record {
-        scaled = p.auto.scaled ∙ a.scaled;
-        codes = a.codes;
-        factors = p.auto.factors ∙ a.factors;
-        side = p.auto.side
-            ∙ a.side;
-        frame = a.frame;
-      };
-    }
-
-pub shape_of-scaled : goal.shape_of-scaled
-shape_of-scaled c =
-    c.clear_refused.auto.scaled ∙ c.prepare.auto.scaled
-
-pub shape_of-codes : goal.shape_of-codes
-shape_of-codes c =
-    c.clear_refused.auto.codes
-    ∙ c.level_to_frame-answer.auto.codes
-
-pub shape_of-factors : goal.shape_of-factors
-shape_of-factors c =
-    c.clear_refused.auto.factors
-    ∙ c.level_to_frame-answer.auto.factors ∙ c.prepare.auto.factors
-
-pub shape_of-side : goal.shape_of-side
-shape_of-side c =
-    c.clear_refused.auto.side
-    ∙ c.prepare.auto.side
-
-pub shape_of-frame : goal.shape_of-frame
-shape_of-frame c =
-    c.clear_refused.auto.frame
-    ∙ c.level_to_frame-answer.auto.frame
-
-pub returns : goal.returns
-returns c =
+pub returns-then-is_err : goal.returns-then-is_err
+returns-then-is_err c =
     let a = c.requires.stage_lengths in
     let p = c.prepare in
     let t = c.level_to_frame-answer in
-    c.clear_refused.ensures c.args.layout
+    let e = c.clear_all.ensures in
+    wiped-cleared _ _ _ _ _ _ _ _ _ _ _ _ (sym c.is_err.ensures.value ∙ c.if-is_err.true)
     (record {
       scaled = p.auto.scaled ∙ a.scaled;
       codes = t.auto.codes ∙ a.codes;
@@ -71,4 +32,12 @@ returns c =
       side = p.auto.side ∙ a.side;
       frame = t.auto.frame ∙ a.frame;
     })
+    e.scaled_after e.codes_after e.factors_after
+    e.side_after e.frame_after
     ∙ t.ensures ∙ ap (after_level c.args.layout) (made_of_prepared _ _ _ _ _ _ p.ensures.factored p.ensures.rated p.ensures.sided)
+
+pub returns-else-is_err : goal.returns-else-is_err
+returns-else-is_err c =
+    let p = c.prepare in
+    wiped_stays _ _ _ _ _ _ _ (sym c.is_err.ensures.value ∙ c.if-is_err.false)
+    ∙ c.level_to_frame-answer.ensures ∙ ap (after_level c.args.layout) (made_of_prepared _ _ _ _ _ _ p.ensures.factored p.ensures.rated p.ensures.sided)

@@ -1,16 +1,15 @@
 -- `wav::chunks::format_after` meets its contract. Assumes nothing.
-use Rattle.wav.proofs.Turns.{format_other, format_short, format_said}
+use borrow.Author.Rules.{rules}
+use Rattle.rules_files.specs.Wav.{format_in}
+use Rattle.wav.proofs.Turns.{format_split}
 use Rattle.wav.proofs.chunks.format_after.Goals as goal
 
 pub returns-then-name-ne-FMT : goal.returns-then-name-ne-FMT
-returns-then-name-ne-FMT c = (format_other _ _ _ _ _ c.if-name-ne-FMT.true, c.requires.format_fits)
-
-pub returns-then-size-lt16 : goal.returns-then-size-lt16
-returns-then-size-lt16 c = (format_short _ _ _ _ _ c.if-name-ne-FMT.false c.if-size-lt16.true, c.requires.format_fits)
+returns-then-name-ne-FMT c = (rw (format_split _ _ _ _ _) (search rules), c.requires)
 
 pub returns : goal.returns
+unfolding format_in
 returns c = (
-  format_said _ _ _ _ _ c.if-name-ne-FMT.false c.if-size-lt16.false _ _ _ c.get_low-channels.ensures.0
-      c.get_low-rate.ensures.0 c.get_low-depth.ensures.0,
-  record { channels = c.get_low-channels.ensures.1; rate = c.get_low-rate.ensures.1; depth = c.get_low-depth.ensures.1 },
+  rw (format_split _ _ _ _ _) (search rules),
+  record { channels = c.get_low.ensures.1; rate = c.get_low-2.ensures.1; depth = c.get_low-3.ensures.1 },
 )

@@ -1,7 +1,5 @@
 -- `wav::samples::take_samples` meets its contract. The invariant: the first k samples are stored, and their level is noted. Assumes nothing.
 use mathlib.Core.Path.{◌≡◌}
-use Prim.Native.Nat.{◌-◌, ◌≤◌}
-use lib.ListN.{length}
 use Rattle.buffers.specs.Walk.{build}
 use Rattle.buffers.proofs.Build.{Filled}
 use Rattle.rules_files.specs.Wav.{sample_at}
@@ -10,7 +8,4 @@ use Rattle.wav.proofs.samples.take_samples.Given as goal
 
 abbrev pub invariant-loop-k : goal.invariant-loop-k
 invariant-loop-k l =
-    (l.k ≤ length l.initial.samples) × Filled (sample_at l.wav l.depth l.body) l.initial.samples l.k l.samples × (l.loudness ≡ loudness_after (build (sample_at l.wav l.depth l.body) l.k))
-
-abbrev pub decreases-loop-k : goal.decreases-loop-k
-decreases-loop-k l = length l.initial.samples - l.k
+    Filled (sample_at l.wav l.depth l.body) l.initial.samples l.k l.samples × (l.loudness ≡ loudness_after (build (sample_at l.wav l.depth l.body) l.k))

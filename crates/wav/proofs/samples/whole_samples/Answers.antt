@@ -8,4 +8,4 @@ pub nonzero_div-result-2 : goal.nonzero_div-result-2
 nonzero_div-result-2 c = omega (arith, width-within _ c.requires.0)
 
 pub returns : goal.returns
-returns c = counted _ c.args.found c.requires.1 _ c.lesser-present.ensures
+returns c = counted _ c.args.found c.requires.1 _ c.min-present.ensures

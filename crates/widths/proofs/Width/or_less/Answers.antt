@@ -10,11 +10,11 @@ unfolding or_less
 returns-then-cost-self c =
     let a = c.args in
     let less : a.length < a.self.cost = omega arith in
-    (rw (lt-ltb _ _ less), omega arith, omega arith)
+    (rw (c.from-cost.ensures, lt-ltb _ _ less), omega arith, omega arith)
 
-pub returns : goal.returns
+pub returns-else-cost-self : goal.returns-else-cost-self
 unfolding or_less
-returns c =
+returns-else-cost-self c =
     let a = c.args in
     let more : a.self.cost ≤ a.length = omega arith in
     (rw (le-ltb _ _ more), omega arith, omega arith)

@@ -1,37 +1,34 @@
 -- `writer::legality::legal_channel` meets its contract. Assumes nothing.
-use mathlib.Core.Path.{◌≡◌, sym, ap₂, ◌∙◌}
-use Prim.Native.Nat.{◌^◌}
-use Rattle.rules.specs.Layout.{kind_at, coded_count_at, side_count_at, side_width}
-use Rattle.rules.specs.Record.{legal_row}
+use mathlib.Core.Path.{◌≡◌, sym, ◌∙◌}
+use native.Mathlib.Omega.{arith}
+use Prim.Native.Nat.{ℕ}
 use Rattle.rules.specs.Record.{legal_channel}
-use Rattle.writer.proofs.legality.legal_channel.Lts as lts
-use Rattle.writer.proofs.legality.legal_channel.Tie as tie
-use Rattle.writer.proofs.legality.legal_channel.Reads as reads
+use Rattle.writer.proofs.Ranges.{row_judged, side_judged}
 use Rattle.writer.proofs.legality.legal_channel.Goals as goal
+use Rattle.writer.proofs.legality.legal_channel.Goals.{then-legal_row, else-legal_row}
 
--- what each row's test answers
-row : (c : lts.After-legal_row tie.the-claims reads.Pre reads.Post tie.handed_clauses) →
+pub returns-then-legal_row-2 : goal.returns-then-legal_row-2
+unfolding legal_channel
+returns-then-legal_row-2 c =
     let a = c.args in
-    legal_row (coded_count_at a.layout a.channel) 64 128 a.factors.now ≡ c.legal_row.result
-row c =
-    sym (c.legal_row.ensures ∙ ap₂ (λ n k. legal_row n 64 k c.args.factors.now) c.coded_count-coded.ensures.0 c.requires.channel_bound.1)
+    let rows = row_judged a.layout a.channel a.factors.now c.coded_count-coded.ensures.0 c.requires.channel_bound.1 c.legal_row.ensures in
+    elim c.if-legal_row.branch [
+      | then-legal_row w ↦
+          let s = w.legal_row-then-legal_row in
+          let sides = side_judged a.layout a.channel a.side.now c.side_count-sides.ensures.0 c.side_limit-limit.ensures c.requires.channel_bound.2 s.ensures in
+          rw (rows ∙ w.if-legal_row.true, sides ∙ sym w.value-is ∙ c.if-legal_row-2.true) c.legal_codes.ensures
+      | else-legal_row w ↦ absurd (let z : ◌≡◌ {A = ℕ} 0 1 = cc in omega arith)
+    ]
 
-row-2 : (c : lts.After-legal_row2 tie.the-claims reads.Pre reads.Post tie.handed_clauses) →
+pub returns-else-legal_row-2 : goal.returns-else-legal_row-2
+unfolding legal_channel
+returns-else-legal_row-2 c =
     let a = c.args in
-    legal_row (side_count_at a.layout a.channel) (2 ^ side_width (kind_at a.layout a.channel)) 8 a.side.now ≡ c.legal_row-2.result
-row-2 c =
-    sym (c.legal_row-2.ensures ∙ rw (c.side_count-sides.ensures.0, c.side_limit-limit.ensures, c.requires.channel_bound.2))
-
-pub returns-then-not-legal_row : goal.returns-then-not-legal_row
-unfolding legal_channel
-returns-then-not-legal_row c = rw (row c.before.before ∙ c.if-not-legal_row.true)
-
-pub returns-then-not-legal_row-2 : goal.returns-then-not-legal_row-2
-unfolding legal_channel
-returns-then-not-legal_row-2 c =
-    rw (row c.before.before.before.before.before.before ∙ c.if-not-legal_row.false, row-2 c.before.before ∙ c.if-not-legal_row-2.true)
-
-pub returns : goal.returns
-unfolding legal_channel
-returns c =
-    rw (row c.before.before.before.before.before.before.before ∙ c.if-not-legal_row.false, row-2 c.before.before.before ∙ c.if-not-legal_row-2.false) c.legal_codes.ensures
+    let rows = row_judged a.layout a.channel a.factors.now c.coded_count-coded.ensures.0 c.requires.channel_bound.1 c.legal_row.ensures in
+    elim c.if-legal_row.branch [
+      | then-legal_row w ↦
+          let s = w.legal_row-then-legal_row in
+          let sides = side_judged a.layout a.channel a.side.now c.side_count-sides.ensures.0 c.side_limit-limit.ensures c.requires.channel_bound.2 s.ensures in
+          rw (rows ∙ w.if-legal_row.true, sides ∙ sym w.value-is ∙ c.if-legal_row-2.false) c.if-legal_row-2.false
+      | else-legal_row w ↦ rw (rows ∙ w.if-legal_row.false) c.if-legal_row-2.false
+    ]

@@ -2,7 +2,7 @@
 use mathlib.Core.Path.{◌≡◌}
 use mathlib.Core.Bool.{Bool, true}
 use mathlib.Core.List.{List}
-use Prim.Native.Nat.{ℕ, ◌≤◌, ◌-◌}
+use Prim.Native.Nat.{ℕ}
 use lib.IntN.{ℤ}
 use Rattle.buffers.specs.Walk.{every}
 use Rattle.rules.specs.Layout.{part}
@@ -14,7 +14,4 @@ abbrev pub legal : Layout → List ℕ → List ℕ → List ℤ → List ℕ �
 legal l F S C R c = legal_channel l c (part 128 F c) (part 8 S c) (part 1024 C c) (part 128 R c)
 
 abbrev pub invariant-loop-c : goal.invariant-loop-c
-invariant-loop-c l = (l.c ≤ l.channels) × (every (legal l.layout l.factors l.side l.codes l.resolutions) l.c ≡ true)
-
-abbrev pub decreases-loop-c : goal.decreases-loop-c
-decreases-loop-c l = l.channels - l.c
+invariant-loop-c l = every (legal l.layout l.factors l.side l.codes l.resolutions) l.c ≡ true

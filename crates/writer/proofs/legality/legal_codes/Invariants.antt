@@ -2,7 +2,7 @@
 use mathlib.Core.Path.{◌≡◌}
 use mathlib.Core.Bool.{Bool, true}
 use mathlib.Core.List.{List}
-use Prim.Native.Nat.{ℕ, ◌≤◌, ◌-◌}
+use Prim.Native.Nat.{ℕ}
 use lib.IntN.{ℤ}
 use Rattle.buffers.specs.Walk.{every}
 use Rattle.rules.specs.Layout.{part}
@@ -12,8 +12,5 @@ use Rattle.writer.proofs.legality.legal_codes.Given as goal
 abbrev pub legal : List ℕ → List ℤ → ℕ → Bool
 legal rs cs s = legal_subframe rs (part 128 cs s)
 
-abbrev pub invariant-loop-s : goal.invariant-loop-s
-invariant-loop-s l = (l.s ≤ 8) × (every (legal l.resolutions l.codes) l.s ≡ true)
-
-abbrev pub decreases-loop-s : goal.decreases-loop-s
-decreases-loop-s l = 8 - l.s
+abbrev pub invariant-loop-subframe : goal.invariant-loop-subframe
+invariant-loop-subframe l = every (legal l.resolutions l.codes) l.subframe-index ≡ true

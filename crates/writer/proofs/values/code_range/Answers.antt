@@ -10,13 +10,14 @@ use Rattle.rules.specs.Record.{code_range}
 use Rattle.writer.proofs.Ranges.{range_past}
 use Rattle.writer.proofs.values.code_range.Goals as goal
 
-pub returns-then-r-lt8 : goal.returns-then-r-lt8
+pub returns-in-0-to-7 : goal.returns-in-0-to-7
 unfolding code_range
-returns-then-r-lt8 c = rw (lt-ltb _ _ c.if-r-lt8.true) (to_z_pos w64 {n = c.args.r} (omega arith))
+returns-in-0-to-7 c = rw (lt-ltb c.args.r 8 (omega arith)) (to_z_pos w64 {n = c.args.r} (omega arith))
 
-pub returns-then-r-gt15 : goal.returns-then-r-gt15
-returns-then-r-gt15 c = sym (ap pos (range_past _ c.if-r-gt15.true))
-
-pub returns : goal.returns
+pub returns-in-8-to-15 : goal.returns-in-8-to-15
 unfolding code_range
-returns c = rw (le-ltb _ _ c.if-r-lt8.false) (to_z-of_z w64 c.limit_of.result (record { sfits = c.limit_of.type_inv }) ∙ c.limit_of.ensures)
+returns-in-8-to-15 c =
+    rw (le-ltb c.args.r 8 (omega arith)) (to_z-of_z w64 c.limit_of.result (record { sfits = c.limit_of.type_inv }) ∙ c.limit_of.ensures)
+
+pub returns-in_default : goal.returns-in_default
+returns-in_default c = sym (ap pos (range_past c.args.r (omega arith)))

@@ -2,9 +2,9 @@
 use mathlib.Core.Path.{◌≡◌}
 use mathlib.Core.Bool.{Bool, true, cond}
 use mathlib.Core.List.{List}
-use Prim.Native.Nat.{ℕ, ◌≤◌, ◌-◌}
+use Prim.Native.Nat.{ℕ}
 use lib.Dec.{ltb, eqb}
-use lib.ListN.{length, get_or}
+use lib.ListN.{get_or}
 use Rattle.buffers.specs.Walk.{every}
 use Rattle.writer.proofs.values.legal_row.Given as goal
 
@@ -12,7 +12,4 @@ abbrev pub legal : ℕ → ℕ → List ℕ → ℕ → Bool
 legal n m xs i = cond (ltb i n) (ltb (get_or xs i 0) m) (eqb (get_or xs i 0) 0)
 
 abbrev pub invariant-loop-i : goal.invariant-loop-i
-invariant-loop-i l = (l.i ≤ length l.values) × (every (legal l.n l.limit l.values) l.i ≡ true)
-
-abbrev pub decreases-loop-i : goal.decreases-loop-i
-decreases-loop-i l = length l.values - l.i
+invariant-loop-i l = every (legal l.n l.limit l.values) l.i ≡ true

@@ -1,0 +1,20 @@
+-- `refusals::list::RefusalFromListReadRefusal::from` meets its contract. Assumes nothing.
+use Rattle.rules_files.specs.List.{list_read_outcome}
+use Rattle.refusals.specs.Refusals.{refusal_of}
+use Rattle.refusals.proofs.list.RefusalFromListReadRefusal.from.Goals as goal
+
+pub returns-in-ShortBuffer : goal.returns-in-ShortBuffer
+unfolding refusal_of list_read_outcome
+returns-in-ShortBuffer c = rw c.in-ShortBuffer.is c.refused.ensures
+
+pub returns-in-BadMark : goal.returns-in-BadMark
+unfolding refusal_of list_read_outcome
+returns-in-BadMark c = rw c.in-BadMark.is c.refused-in-BadMark.ensures
+
+pub returns-in-BadLength : goal.returns-in-BadLength
+unfolding refusal_of list_read_outcome
+returns-in-BadLength c = rw c.in-BadLength.is c.refused-in-BadLength.ensures
+
+pub returns-in-BadEntry : goal.returns-in-BadEntry
+unfolding refusal_of list_read_outcome
+returns-in-BadEntry c = rw c.in-BadEntry.is c.refused-in-BadEntry.ensures

@@ -1,8 +1,0 @@
--- `refusals::not_refused` meets its contract. Assumes nothing.
-use mathlib.Core.Path.{refl}
-use Rattle.refusals.specs.Refusals.{refusal_of}
-use Rattle.refusals.proofs.not_refused.Goals as goal
-
-pub returns : goal.returns
-unfolding refusal_of
-returns c = refl
