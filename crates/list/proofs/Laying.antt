@@ -1,9 +1,9 @@
 -- What is laid over the front of a buffer, field after field. Assumes nothing.
 use mathlib.Core.Path.{◌≡◌, refl, sym, ap, ◌∙◌}
-use mathlib.Core.List.{List, [], ◌++◌, append_assoc, append-nil}
+use mathlib.Core.List.{List, [], ◌∷◌, ◌++◌, append_assoc, append-nil}
 use Prim.Native.Nat.{ℕ, ◌+◌, ◌-◌, ◌*◌, ◌≤◌}
 use native.Mathlib.Omega.{arith}
-use lib.ListN.{length, take, drop, length-append, length-drop, drop_of_length-le}
+use lib.ListN.{length, take, drop, set, length-append, length-drop, drop_of_length-le}
 use lib.Seq.{take_at, take_all, drop-drop, drop-append-add}
 use Rattle.buffers.specs.Walk.{blocks}
 use Rattle.numbers.specs.Numbers.{high_first, replaced}
@@ -78,3 +78,12 @@ pub numbers_laid : (list : List ℕ) (n : ℕ) (old new : List ℕ) → n ≡ fr
 unfolding entries_of
 numbers_laid list n old new k e =
     e ∙ ap (λ m. blocks (λ i. entry_numbers (entry_in list i)) m ++ drop (m * 4) old) k ∙ ap (λ m. entries_of list ++ drop m old) (sym (entries-length list))
+
+-- the four numbers of an entry
+pub four-stored : (e : Entry) (xs : List ℕ) → length xs ≡ 4 → set (set (set (set xs 0 e.level) 1 e.boundary) 2 e.pairs) 3 e.bits ≡ entry_numbers e
+four-stored e [] l = absurd (omega arith)
+four-stored e (a ∷ []) l = absurd (omega arith)
+four-stored e (a ∷ b ∷ []) l = absurd (omega arith)
+four-stored e (a ∷ b ∷ c ∷ []) l = absurd (omega arith)
+four-stored e (a ∷ b ∷ c ∷ d ∷ []) l = refl
+four-stored e (a ∷ b ∷ c ∷ d ∷ x ∷ xs) l = absurd (omega arith)

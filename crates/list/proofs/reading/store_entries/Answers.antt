@@ -14,7 +14,7 @@ pub loop-i-preserved : goal.loop-i-preserved
 loop-i-preserved c =
     blocked_more (numbers_at c.args.list.now) 4 c.args.n c.args.entries.now (λ _ _. refl) c.loop-i.i c.loop-i.entries
     c.loop-i-test.true c.loop-i.invariant _ (omega arith)
-    (c.copy_from_slice.ensures.after ∙ c.entry_numbers.ensures ∙ ap entry_numbers c.entry_in-entry.ensures)
+    (c.store_entry.ensures ∙ ap entry_numbers c.entry_in-entry.ensures)
 
 pub returns : goal.returns
 returns c =
