@@ -1,7 +1,7 @@
 -- One frame of a line, over any step: its parts lent and put back, and what its answer means for the line. Assumes nothing.
 use mathlib.Core.Path.{◌≡◌, refl, sym, ◌∙◌, ap, ap₂}
 use mathlib.Core.List.{List, ◌++◌, append-nil}
-use mathlib.Core.Option.{Option, some}
+use mathlib.Core.Option.{Option}
 use Prim.Native.Nat.{ℕ, ◌+◌, ◌-◌, ◌*◌, ◌≤◌}
 use native.Mathlib.Omega.{arith}
 use lib.IntN.{ℤ}
@@ -22,7 +22,6 @@ use Rattle.rules_stereo.specs.Stereo.{StereoLeft, stereo_outcome, with_signal}
 use Rattle.rules_stereo.specs.declared.StereoRefusal.{StereoRefusal}
 use Rattle.rules_line.specs.Line.{left_with, Step, stage_step, frame_placed, step_at, answers_of, tally_after, turn_outcome, turn_index, line_turn}
 use Rattle.rules_line.specs.declared.Tally.{Tally}
-use Rattle.rules_line.proofs.Answers.{Refuses, refused_ends, not_counted, not-stored}
 use Rattle.line_turns.specs.Turn.{call_outcome, left_by}
 
 -- what the single calls answer, by what their refusals mean
@@ -116,13 +115,3 @@ pub turned : (k n : ℕ) (o answered : Outcome) (index : Option ℕ) (next tally
 unfolding line_turn
 turned k n o answered index next tally x xs is sc co fa si fr an ys p e a c q i =
     rw (tail_laid n (answers_of o) an ys a, c, q, i, p) (ap (λ y. line_turn k y an tally) e)
-
--- a turn that was refused
-pub turned_away : (k : ℕ) (o : Outcome) → Refuses o → (tally : Tally) (x : StereoLeft) (xs : List Float) (is : List ℕ) (sc : List Float) (co : List ℤ)
-    (fa si fr an : List ℕ) → left_by o xs is sc co fa si fr ≡ x → left_with o (some k) tally xs is sc co fa si fr an ≡ line_turn k x an tally
-unfolding line_turn
-turned_away k o h tally x xs is sc co fa si fr an e =
-    let r = refused_ends o h k in
-    ap₂ (λ p i. left_with p i tally xs is sc co fa si fr an) r.0 r.1
-    ∙ ap₂ (λ u ys. left_with (turn_outcome o) (turn_index k o) u xs is sc co fa si fr ys) (not_counted o h tally) (not-stored o h k an)
-    ∙ ap (λ y. line_turn k y an tally) e

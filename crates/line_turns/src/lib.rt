@@ -93,13 +93,12 @@ fn encode_turn<S: SingleCall>(
         scaled.old codes.old factors.old side.old frames.old)) answers.old tally.old }
     ensures same_loan { S.same call.old call.new }
 {
-    match call.encode_part(layout, k, scaled, codes, factors, side, frames) {
-        Ok(d) => {
-            let n = part_start(k, 4);
-            store_answers(d, &mut answers[n..]);
-            *tally = tally.with(d);
-            Ok(())
-        }
+    let answer = call.encode_part(layout, k, scaled, codes, factors, side, frames);
+    let n = part_start(k, 4);
+    store_answers(answer, &mut answers[n..]);
+    *tally = tally.after(answer);
+    match answer {
+        Ok(_) => Ok(()),
         Err(e) => Err(LineRefusal::Frame(k, e)),
     }
 }

@@ -1,10 +1,11 @@
-// Request A5, a whole line in one call, from mixed or from unmixed spectra: types, definitions, and what a delivered frame does to the tally and to its
-// answers.
+// Request A5, a whole line in one call, from mixed or from unmixed spectra: types, definitions, and what a frame's answer does to the tally and to its
+// part of the answers.
 #![tactic(auto)]
 
-ghost use Rattle.std.specs.Prelude.{◌≡◌, ◌^◌, ◌≤◌, ◌<◌, length};
+ghost use Rattle.std.specs.Prelude.{◌≡◌, ◌^◌, ◌≤◌, ◌<◌, length, IfOk, OnErr};
+ghost use Rattle.std.specs.Result.{ForOk};
 ghost use Rattle.rules.specs.Lent.{overwrite};
-ghost use Rattle.rules_line.specs.Line.{answers_of, tally_after};
+ghost use Rattle.rules_line.specs.Line.{answers_of, gained, tally_after};
 ghost use Rattle.rules_line.specs.Asked.{OnTheWay, AnswersFit, delivered_outcome};
 
 use rules::Delivery;
@@ -27,26 +28,43 @@ pub enum LineRefusal<R> {
 }
 
 impl Tally {
-    // One delivered frame more, with its bits and its pairs.
-    pub fn with(self, d: Delivery) -> Tally
+    // One frame more.
+    pub fn with(self, bits: u64, pairs: u64) -> Tally
         requires on_the_way { OnTheWay self }
-        requires bits_bound { (d.bits < 2 ^ 32) × (d.pairs < 2 ^ 32) }
-        ensures { result ≡ tally_after self (delivered_outcome d) }
+        requires bits_bound { (bits < 2 ^ 32) × (pairs < 2 ^ 32) }
+        ensures { result ≡ gained self bits pairs }
     {
         Tally {
             frames: self.frames + 1,
-            bits: self.bits + d.bits as u64,
-            pairs: self.pairs + d.pairs as u64,
+            bits: self.bits + bits,
+            pairs: self.pairs + pairs,
+        }
+    }
+
+    // After a frame's answer, of either single call: a refused frame is not counted.
+    pub fn after<R: Copy>(self, answer: Result<Delivery, R>) -> Tally
+        requires on_the_way { OnTheWay self }
+        requires answers_fit { ForOk answer (λ d. AnswersFit (delivered_outcome d)) }
+        ensures counted { IfOk answer (λ d. result ≡ tally_after self (delivered_outcome d)) }
+        ensures kept { OnErr answer (result ≡ self) }
+    {
+        match answer {
+            Ok(d) => self.with(d.bits as u64, d.pairs as u64),
+            Err(_) => self,
         }
     }
 }
 
-// A delivered frame's four answers into its part.
-pub fn store_answers(d: Delivery, answers: &mut [u32])
-    requires answers_fit { AnswersFit (delivered_outcome d) }
+// A delivered frame's four answers into its part; a refused one, of either single call, leaves it as it was.
+pub fn store_answers<R: Copy>(answer: Result<Delivery, R>, answers: &mut [u32])
+    requires answers_fit { ForOk answer (λ d. AnswersFit (delivered_outcome d)) }
     requires in_bounds { 4 ≤ length answers.old }
-    ensures { answers.new ≡ overwrite (answers_of (delivered_outcome d)) answers.old }
+    ensures stored { IfOk answer (λ d. answers.new ≡ overwrite (answers_of (delivered_outcome d)) answers.old) }
+    ensures kept { OnErr answer (answers.new ≡ answers.old) }
 {
+    let Ok(d) = answer else {
+        return;
+    };
     answers[0] = d.level as u32;
     answers[1] = d.boundary as u32;
     answers[2] = d.pairs as u32;
