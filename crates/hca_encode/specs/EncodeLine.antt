@@ -2,7 +2,7 @@
 use Rattle.std.specs.Prelude.{◌≡◌, List, [], ◌∷◌, cond, not, ℕ, ◌<◌, ltb, ℤ, Float, length, get_or, set}
 use Rattle.std.proofs.Math.Option.{Option, none, some}
 use Rattle.rules.specs.Lent.{overwrite}
-use Rattle.rules.specs.Refusals.{Outcome, refused}
+use Rattle.rules.specs.Refusals.{Outcome, delivered, refused}
 use Rattle.rules_stereo.specs.Stereo.{encode_stereo_frame}
 use Rattle.rules_line.specs.Line.{LineLent, LineLeft, batch_fits, Step, stage_step, line_kept, line_over}
 use Rattle.rules_line.specs.declared.Tally.{Tally}
@@ -84,7 +84,8 @@ c_encode_stereo_line = c_line_over encode_stereo_frame
 unfoldable pub IndexFits : (index : Option ℕ) → Type 0
 IndexFits index = (k : ℕ) → index ≡ some k → k < 4294967296
 
--- what is told of a line fits its places
+-- what is told of a line fits its places, and a frame is named only where one was refused
 pub record LineSmall (o : Outcome) (i : Option ℕ) : Type 0 where
   pub numbers : Small o
   pub index : IndexFits i
+  pub refuses : (k : ℕ) (ns : List ℕ) → i ≡ some k → o ≡ delivered ns → ⊥

@@ -1,7 +1,7 @@
 // A line of frames by numbers and slices only, no `requires`.
 ghost use Rattle.std.specs.Prelude.{◌≡◌, ◌≤◌, length, get_or, Err};
 ghost use Rattle.rules.specs.Lent.{overwrite};
-ghost use Rattle.rules_line.specs.Line.{line_outcome, line_outcome_by, line_index, line_lent, line_over};
+ghost use Rattle.rules_line.specs.Line.{line_outcome, line_outcome_by, line_index, line_lent, left_with, line_over};
 ghost use Rattle.refusals.specs.Refusals.{refusal_of};
 ghost use Rattle.hca_answers.specs.Outcomes.{result_of};
 ghost use Rattle.hca_encode.specs.EncodeLine.{c_line_left, tally_in, counts_of, index_in, line_answer_after, IndexFits, LineSmall};
@@ -10,7 +10,7 @@ ghost use Rattle.hca_encode.specs.EncodeLine.{c_line_from, c_line_over, c_encode
 use hca_answers::{refuse, tell};
 use hca_layout::{is_layout, layout_of};
 use line_gate::batch_fits;
-use line_turns::{Mixed, SingleCall, encode_gated};
+use line_turns::{Mixed, SingleCall, encode_frames};
 use refusals::Refusal;
 use rules::{Layout, StageRefusal};
 use rules_line::{LineRefusal, Tally};
@@ -53,14 +53,60 @@ fn name_frame<R: Copy>(refusal: LineRefusal<R>, answer: &mut [u32])
     answer[1] = k as u32;
 }
 
-// A line's single call, whose refusals have numbers.
+// A line's single call, with line_turns' call for the whole line over it, and its refusals' numbers.
 pub(crate) trait ToldCall: SingleCall {
+    // The whole line.
+    fn encode_all(
+        &mut self,
+        layout: Layout,
+        count: usize,
+        scaled: &mut [f32],
+        codes: &mut [i32],
+        factors: &mut [u8],
+        side: &mut [u8],
+        frames: &mut [u8],
+        answers: &mut [u32],
+        tally: &mut Tally,
+    ) -> Result<(), LineRefusal<Self::Refusal>>
+        ensures over { left_with (line_outcome_by Self.refusal result) (line_index result) tally.new (Self.spectra self.new) (Self.intensities self.new)
+            scaled.new codes.new factors.new side.new frames.new answers.new
+            ≡ line_over Self.step layout count (line_lent (Self.spectra self.old) (Self.intensities self.old)
+            scaled.old codes.old factors.old side.old frames.old answers.old tally.old) }
+        ensures same_loan { Self.same self.old self.new };
+
     fn told(refusal: LineRefusal<Self::Refusal>) -> Refusal
         ensures said { result ≡ refusal_of (line_outcome_by Self.refusal (Err refusal)) }
         ensures low { result.number ≤ 18 };
 }
 
 impl<'a> ToldCall for Mixed<'a> {
+    fn encode_all(
+        &mut self,
+        layout: Layout,
+        count: usize,
+        scaled: &mut [f32],
+        codes: &mut [i32],
+        factors: &mut [u8],
+        side: &mut [u8],
+        frames: &mut [u8],
+        answers: &mut [u32],
+        tally: &mut Tally,
+    ) -> Result<(), LineRefusal<StageRefusal>> {
+        encode_frames(
+            layout,
+            count,
+            self.spectra,
+            self.intensities,
+            scaled,
+            codes,
+            factors,
+            side,
+            frames,
+            answers,
+            tally,
+        )
+    }
+
     fn told(refusal: LineRefusal<StageRefusal>) -> Refusal
         ensures said { result ≡ refusal_of (line_outcome (Err refusal)) }
         ensures low { result.number ≤ 18 }
@@ -110,8 +156,8 @@ fn line_and_store<S: ToldCall>(
     ensures same_loan { S.same call.old call.new }
 {
     let mut after = before;
-    let a = encode_gated(
-        layout, count, call, scaled, codes, factors, side, frames, answers, &mut after,
+    let a = call.encode_all(
+        layout, count, scaled, codes, factors, side, frames, answers, &mut after,
     );
     store_tally(after, tally);
     store_line::<S>(a, answer)

@@ -5,12 +5,40 @@ ghost use Rattle.refusals.specs.Refusals.{refusal_of};
 ghost use Rattle.hca_encode.specs.EncodeLine.{c_line_left, c_encode_stereo_line};
 
 use crate::line::{ToldCall, encode_over};
-use line_turns::stereo_line::Unmixed;
+use line_turns::stereo_line::{Unmixed, encode_stereo_frames};
 use refusals::Refusal;
-use rules_line::LineRefusal;
+use rules::Layout;
+use rules_line::{LineRefusal, Tally};
 use rules_stereo::StereoRefusal;
 
 impl<'a> ToldCall for Unmixed<'a> {
+    fn encode_all(
+        &mut self,
+        layout: Layout,
+        count: usize,
+        scaled: &mut [f32],
+        codes: &mut [i32],
+        factors: &mut [u8],
+        side: &mut [u8],
+        frames: &mut [u8],
+        answers: &mut [u32],
+        tally: &mut Tally,
+    ) -> Result<(), LineRefusal<StereoRefusal>> {
+        encode_stereo_frames(
+            layout,
+            count,
+            &mut *self.spectra,
+            &mut *self.intensities,
+            scaled,
+            codes,
+            factors,
+            side,
+            frames,
+            answers,
+            tally,
+        )
+    }
+
     fn told(refusal: LineRefusal<StereoRefusal>) -> Refusal
         ensures said { result ≡ refusal_of (stereo_line_outcome (Err refusal)) }
         ensures low { result.number ≤ 18 }

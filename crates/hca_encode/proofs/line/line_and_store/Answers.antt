@@ -8,9 +8,9 @@ use Rattle.hca_encode.proofs.line.line_and_store.Goals as goal
 
 pub store_line-requires : goal.store_line-requires
 store_line-requires g c =
-    subst (λ (x : LineLeft). LineSmall x.outcome x.index) (sym c.encode_gated-a.ensures.over) (line_stores _ g.met.S.SingleCall.bounded _ _ _)
+    subst (λ (x : LineLeft). LineSmall x.outcome x.index) (sym c.encode_all-a.ensures.over) (line_stores _ g.met.S.SingleCall.bounded _ _ _)
 
 pub returns-clause-told : goal.returns-clause-told
 returns-clause-told g c =
-    line_stores_so _ _ _ _ _ _ _ _ _ _ _ _ _ _ _ _ _ c.encode_gated-a.ensures.over c.store_line.ensures.answered c.store_line.ensures.shown
+    line_stores_so _ _ _ _ _ _ _ _ _ _ _ _ _ _ _ _ _ c.encode_all-a.ensures.over c.store_line.ensures.answered c.store_line.ensures.shown
     c.store_tally.ensures
