@@ -2,13 +2,32 @@
 // bytes. make_vectors.py writes the messages, and what is to be printed, by a division bit by bit.
 #![tactic(auto)]
 
-ghost use Rattle.std.specs.Prelude.{◌<◌, length, IfSome};
+ghost use Rattle.std.specs.Prelude.{◌<◌, ◌≤◌, length, IfSome};
 
-use std::io;
-use std::io::Read;
+use std::io::{ErrorKind, Read};
 
 // What is read of the input, in bytes.
-const LIMIT: u64 = 65_536;
+const LIMIT: usize = 65_536;
+
+// Fills the buffer from its front until it is full, or the reader is at its end or fails; answers how much of it is filled. A read that a signal
+// cut off is made again.
+fn read_full(mut reader: impl Read + Drop, buffer: &mut [u8]) -> usize
+    ensures { result ≤ length buffer.new }
+{
+    let mut filled = 0;
+    for _ in 0..u64::MAX {
+        if filled == buffer.len() {
+            break;
+        }
+        match reader.read(&mut buffer[filled..]) {
+            Ok(0) => break,
+            Ok(n) => filled += n,
+            Err(error) if error.kind() == ErrorKind::Interrupted => {}
+            Err(_) => break,
+        }
+    }
+    filled
+}
 
 // The first message, and the input behind it; none where the input cuts it short.
 fn split_message(input: &[u8]) -> Option<(&[u8], &[u8])>
@@ -18,23 +37,26 @@ fn split_message(input: &[u8]) -> Option<(&[u8], &[u8])>
     rest.split_at_checked(usize::from(u16::from_be_bytes(length)))
 }
 
-// One message after the other. A message that the input cuts short is left out.
-fn print_messages(rt: &impl Print, input: &[u8]) -> io::Result<()> {
-    let mut left = input;
-    while let Some((message, rest)) = split_message(left) {
-        println!(rt;
-            "{} {:04x}",
-            message.len(),
-            sealing::crc16_checksum(message)
-        )?;
-        left = rest;
-    }
-    Ok(())
+// The line of a message, in four parts. A part that cannot be printed is let go, and the next is tried.
+fn print_message(rt: &impl Print, message: &[u8]) {
+    let _ = print!(rt; "{}", message.len());
+    let _ = rt.write_all(b" ");
+    let _ = print!(rt; "{:04x}", sealing::crc16_checksum(message));
+    let _ = rt.write_all(b"\n");
 }
 
-// Where it cannot read on it prints what it has read, and where it cannot print it stops; either way it ends as ever.
+// One message after the other. A message that the input cuts short is left out.
+fn print_messages(rt: &impl Print, input: &[u8]) {
+    let mut left = input;
+    while let Some((message, rest)) = split_message(left) {
+        print_message(rt, message);
+        left = rest;
+    }
+}
+
+// Where it cannot read on it prints what it has read, and where it cannot print it goes on; either way it ends as ever.
 fn main(rt: HostRuntime) {
-    let mut input = Vec::new(rt.alloc());
-    let _ = rt.reader().take(LIMIT).read_to_end(&mut input);
-    let _ = print_messages(&rt, &input);
+    let mut input = [0; LIMIT];
+    let n = read_full(rt.stdin(), &mut input);
+    print_messages(&rt, &input[..n]);
 }

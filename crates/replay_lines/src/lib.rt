@@ -62,8 +62,8 @@ fn print_line(
     }
 }
 
-// Every byte of the frames is 0x5A before the call.
-fn play_line(rt: &impl Print, number: usize, spectra: &[f32], tally: &mut Tally) -> io::Result<()> {
+// Every byte of the frames is 0x5A before the call. A line that cannot be printed is let go.
+fn play_line(rt: &impl Print, number: usize, spectra: &[f32], tally: &mut Tally) {
     let mut frames = [0x5Au8; 510];
     let answer = encode_line(
         voice(),
@@ -78,17 +78,17 @@ fn play_line(rt: &impl Print, number: usize, spectra: &[f32], tally: &mut Tally)
         &mut [0; 12],
         tally,
     );
-    print_line(rt, number, answer, *tally, sum_bytes(&frames))
+    let _ = print_line(rt, number, answer, *tally, sum_bytes(&frames));
 }
 
 // README's frame, a silent one, and one with two values; then the same with an infinity in the second.
-pub fn replay_lines(rt: &impl Print) -> io::Result<()> {
+pub fn replay_lines(rt: &impl Print) {
     let mut spectra = [0.0f32; 3072];
     spectra[1] = 0.5;
     spectra[2048] = -0.25;
     spectra[2179] = 0.75;
     let mut tally = Tally::default();
-    play_line(rt, 0, &spectra, &mut tally)?;
+    play_line(rt, 0, &spectra, &mut tally);
     spectra[1029] = f32::INFINITY;
-    play_line(rt, 1, &spectra, &mut tally)
+    play_line(rt, 1, &spectra, &mut tally);
 }

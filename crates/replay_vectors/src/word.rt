@@ -1,4 +1,9 @@
 // What a word of 32 bits stands for.
+ghost use Rattle.std.specs.Prelude.{◌≡◌};
+ghost use Rattle.std.specs.Int.{w32};
+ghost use Rattle.std.proofs.Common.{of_z};
+
+use numbers::signed::int_of;
 use std::num::f32_from_bits_with_nan;
 
 pub trait Word: Copy {
@@ -8,8 +13,10 @@ pub trait Word: Copy {
 }
 
 impl Word for i32 {
-    fn from_bits(bits: u32) -> i32 {
-        bits.cast_signed()
+    fn from_bits(bits: u32) -> i32
+        ensures { of_z w32 result ≡ bits }
+    {
+        int_of(bits)
     }
 
     fn bits(self) -> u32 {
