@@ -13,7 +13,7 @@ use Rattle.floats.specs.declared.Average.{Average}
 use Rattle.rules.specs.Layout.{start_band, bands_per_group}
 use Rattle.rules.specs.Hfr.{bands_taken, group_average, spectrum_average, source_average}
 use Rattle.rules.specs.declared.Layout.{Layout}
-use Rattle.hfr.specs.Sums.{band_count, band_at, with_sum}
+use Rattle.hfr.specs.Sums.{band_count, band_at, with_sum, AreFour}
 
 -- a group's first value of b, and the next group's
 pub group_reach : (j g : ℕ) → j ≤ 8 → g ≤ 16 → j * g ≤ 128
@@ -123,3 +123,14 @@ module _ (l : Layout) (xs : List Float) (n g : ℕ) (p : n ≡ start_band l) (q 
   pub source_is : (limit : ℕ) → limit ≡ min (l.total - n) n → group_average (λ b. with_eight xs ((n - 1 - b) * 8) 1) limit g i ≡ source_average l xs i
   unfolding source_average
   source_is limit e = rw (e, p, q)
+
+-- four of each side by side, from whichever calls they come
+module _ (l : Layout) (xs : List Float) (n g k : ℕ) (a b c d : Average) (p : n ≡ start_band l) (q : g ≡ bands_per_group l) where
+  pub four_spectra : AreFour (group_average (λ j. with_eight xs (n + j) 128) (128 - n) g) k a b c d → AreFour (spectrum_average l xs) k a b c d
+  four_spectra w = let is = spectrum_is l xs n g p q in (w.0 ∙ is k, w.1 ∙ is (k + 1), w.2 ∙ is (k + 2), w.3 ∙ is (k + 3))
+
+  pub four_sources : (limit : ℕ) → limit ≡ min (l.total - n) n → AreFour (group_average (λ j. with_eight xs ((n - 1 - j) * 8) 1) limit g) k a b c d
+      → AreFour (source_average l xs) k a b c d
+  four_sources limit e w =
+      let is : (i : ℕ) → group_average (λ j. with_eight xs ((n - 1 - j) * 8) 1) limit g i ≡ source_average l xs i = λ i. source_is l xs n g p q i limit e in
+      (w.0 ∙ is k, w.1 ∙ is (k + 1), w.2 ∙ is (k + 2), w.3 ∙ is (k + 3))

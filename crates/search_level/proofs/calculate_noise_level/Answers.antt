@@ -39,20 +39,20 @@ returns-in-Some-clause-factors_left c =
 
 pub returns-then-top-lt3-clause-err : goal.returns-then-top-lt3-clause-err
 returns-then-top-lt3-clause-err c =
-    let e = c.loop-found.invariant.3 ∙ remove_stop _ _ _ _ _ _ c.if-top-lt3.true in
+    let e = c.loop-found.invariant.3 ∙ remove_stop _ _ _ _ _ _ (omega arith) in
     rw e (c.in_default.ensures.none refl, refl)
 
 pub returns-then-top-lt3-clause-factors_left : goal.returns-then-top-lt3-clause-factors_left
 returns-then-top-lt3-clause-factors_left c =
     let i = c.loop-found.invariant in
-    let e = i.3 ∙ remove_stop _ _ _ _ _ _ c.if-top-lt3.true in
+    let e = i.3 ∙ remove_stop _ _ _ _ _ _ (omega arith) in
     rw e (refl, i.2)
 
 pub loop-found-preserved : goal.loop-found-preserved
 loop-found-preserved c =
     let i = c.loop-found.invariant in
     let l = c.loop-found in
-    let more = c.if-top-lt3.false in
+    let more : 3 ≤ l.top = omega arith in
     let none : 254 < _ = omega (arith, c.in_default.ensures.none refl) in (
       c.clear_pair.auto.factors ∙ i.0,
       still_few l.pairs l.top i.1 more,
