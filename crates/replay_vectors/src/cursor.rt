@@ -98,9 +98,14 @@ impl<'a> Cursor<'a> {
             self.run(&mut list);
         }
         let (words, _) = list.as_chunks();
-        for (out, &word) in out.iter_mut().zip(words) {
-            *out = W::from_bits(u32::from_le_bytes(word));
-        }
+        take_words(words, out);
         n.min(out.len())
+    }
+}
+
+// Words from their bytes, the low byte first.
+fn take_words<W: Word>(words: &[[u8; 4]], out: &mut [W]) {
+    for (out, &word) in out.iter_mut().zip(words) {
+        *out = W::from_bits(u32::from_le_bytes(word));
     }
 }
