@@ -6,7 +6,7 @@ ghost use Rattle.std.specs.Prelude.{◌≤◌, length};
 use self::frames::stage_case;
 use self::kind::Kind;
 use self::records::{check_case, read_case, write_case};
-use replay_lines::replay_lines;
+use replay_lines::replay_both_lines;
 use replay_vectors::cursor::Cursor;
 use replay_vectors::outcome::{Outcome, Tally, Verdict};
 use std::fs::File;
@@ -106,7 +106,7 @@ fn replay_file<R: Files<File = File> + Print + Eprint>(rt: &R, path: &str, tally
 // Where it cannot print it goes on, and it ends as ever.
 fn main(rt: HostRuntime) {
     let mut tally = Tally::default();
-    replay_lines(&rt);
+    replay_both_lines(&rt);
     replay_file(&rt, "stage.vec", &mut tally);
     replay_file(&rt, "records.vec", &mut tally);
     let _ = println!(rt; "{tally}");
